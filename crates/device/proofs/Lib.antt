@@ -1,0 +1,7 @@
+mod Walks
+pub mod Ranges
+pub mod Moments
+pub mod Calls
+pub mod Gathering
+pub mod BlockRuns
+mod ZeroBlocks

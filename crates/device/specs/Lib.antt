@@ -1,0 +1,4 @@
+pub mod Disk
+pub mod Outcomes
+pub mod Pieces
+pub mod Parts

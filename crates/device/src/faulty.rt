@@ -1,0 +1,149 @@
+//! A device that fails when told to: the n-th write or sync from the moment of arming fails once.
+ghost use Rattle.std.specs.Prelude.{◌≡◌, ◌+◌};
+
+use crate::{DeviceError, Failures, Meta};
+use std::sync::Arc;
+use std::sync::atomic::{AtomicU64, Ordering};
+
+/// What a fuse does to a call.
+#[derive(Clone, Copy, Debug, PartialEq, Eq)]
+pub enum Fault {
+    /// The call is not done, and fails.
+    Before,
+    /// The call is done, and fails.
+    After,
+}
+
+/// Says which call fails. A device and who arms it share it.
+///
+/// No contract says what an atomic number holds, so what a fuse does is only tested.
+#[derive(Drop)]
+pub struct Fuse {
+    // Twice the calls that are left, and one more where the fault comes late. Below 2 it is not armed.
+    word: AtomicU64,
+}
+
+impl Fuse {
+    /// A fuse that is not armed.
+    pub fn new() -> Fuse {
+        Fuse {
+            word: AtomicU64::new(0),
+        }
+    }
+
+    /// The n-th write or sync from now on fails once: it is done before where the fault comes late, and else not done.
+    /// With 0 none fails.
+    pub fn arm(&self, nth: u32, late: bool) {
+        let calls = 2 * nth as u64;
+        let word = if late && nth > 0 { calls + 1 } else { calls };
+        self.word.store(word, Ordering::SeqCst);
+    }
+
+    /// Counts one call, and says whether it is to fail.
+    pub fn burn(&self) -> Option<Fault> {
+        if self.word.load(Ordering::SeqCst) < 2 {
+            return None;
+        }
+        // Where threads burn it side by side, each call takes a number of its own, so one of them fails. A call that
+        // comes too late leaves a number that no run counts down.
+        match self.word.fetch_sub(2, Ordering::SeqCst) {
+            2 => Some(Fault::Before),
+            3 => Some(Fault::After),
+            _ => None,
+        }
+    }
+}
+
+/// A meta area that fails where its fuse says so, and else does what the one inside does.
+///
+/// Its failures are those of the one inside and those of the fuse. Reads never fail by the fuse.
+#[derive(Drop)]
+pub struct Faulty<M> {
+    pub inner: M,
+    fuse: Arc<Fuse>,
+    failures: Failures,
+}
+
+impl<M: Meta> Faulty<M> {
+    /// The area with a fuse, which has counted no failure yet.
+    pub fn new(inner: M, fuse: Arc<Fuse>) -> Faulty<M>
+        ensures inner { result.inner ≡ inner }
+        ensures sound { ⟦<Faulty<M> as Meta>⟧.failed result ≡ M.failed inner }
+    {
+        Faulty {
+            inner,
+            fuse,
+            failures: Failures::none(),
+        }
+    }
+
+    /// The area inside, without the fuse.
+    pub fn into_inner(self) -> M
+        ensures { result ≡ self.inner }
+    {
+        self.inner
+    }
+}
+
+impl<M: Meta> Meta for Faulty<M> {
+    ghost seen = { λ f. M.Meta.seen f.inner };
+
+    ghost may_leave = { λ f. M.Meta.may_leave f.inner };
+
+    ghost moment = { λ f. M.Meta.moment f.inner };
+
+    ghost left_since = { λ f. M.Meta.left_since f.inner };
+
+    ghost failed = { λ f. M.Meta.failed f.inner + f.failures.total.count };
+
+    ghost seen_is_left = { λ f. M.Meta.seen_is_left f.inner };
+
+    ghost counts_now = { λ f. M.Meta.counts_now f.inner };
+
+    ghost only_now = { λ f. M.Meta.only_now f.inner };
+
+    fn read(&mut self, at: u64, out: &mut [u8]) -> Result<(), DeviceError> {
+        self.inner.read(at, out)
+    }
+
+    fn write(&mut self, at: u64, bytes: &[u8]) -> Result<(), DeviceError> {
+        match self.fuse.burn() {
+            None => self.inner.write(at, bytes),
+            Some(Fault::Before) => {
+                self.failures.count();
+                Err(DeviceError)
+            }
+            Some(Fault::After) => {
+                let _done = self.inner.write(at, bytes);
+                self.failures.count();
+                Err(DeviceError)
+            }
+        }
+    }
+
+    fn sync(&mut self) -> Result<(), DeviceError> {
+        match self.fuse.burn() {
+            None => self.inner.sync(),
+            Some(Fault::Before) => {
+                self.failures.count();
+                Err(DeviceError)
+            }
+            Some(Fault::After) => {
+                let _done = self.inner.sync();
+                self.failures.count();
+                Err(DeviceError)
+            }
+        }
+    }
+
+    fn len(&self) -> u64 {
+        self.inner.len()
+    }
+
+    fn failures(&self) -> u64 {
+        self.inner.failures().saturating_add(self.failures.told())
+    }
+}
+
+#[cfg(test)]
+mod tests;

@@ -1,0 +1,35 @@
+//! A history that only proofs read, its latest entry first. It takes no memory, and its methods do nothing at run time.
+ghost use Rattle.std.specs.Prelude.{◌≡◌, List, [], ◌∷◌};
+ghost use Rattle.std.specs.Borrow.{ftrue};
+
+use std::marker::{Model, PhantomData};
+
+/// A history that only proofs read. A clause reads the entries as `items`, the latest first.
+#[derive(Drop)]
+pub struct Log<A, B> {
+    of: PhantomData<(A, B)>,
+    pub ghost items: { List (A × B) },
+}
+
+impl<A, B> Model for Log<A, B> {
+    ghost also_owns = { λ _. ftrue };
+}
+
+// It owns nothing.
+unsafe impl<A: Send, B: Send> Send for Log<A, B> {}
+
+impl<A, B> Log<A, B> {
+    /// No entry.
+    pub fn new() -> Log<A, B>
+        ensures { result.items ≡ [] }
+    {
+        Log { of: PhantomData }
+    }
+
+    /// The history with one more entry in front.
+    pub fn and(&self, first: &A, second: &B) -> Log<A, B>
+        ensures { result.items ≡ (first.now, second.now) ∷ self.now.items }
+    {
+        Log { of: PhantomData }
+    }
+}

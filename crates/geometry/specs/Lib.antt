@@ -1,0 +1,9 @@
+pub mod Shape
+pub mod Limits
+pub mod Refusal
+pub mod Area
+pub mod Address
+pub mod Owner
+pub mod Mark
+pub mod Summary
+pub mod File

@@ -1,0 +1,21 @@
+//! A volume's numbers and names, and the definitions that two crates or more speak of. Nothing here takes memory.
+//!
+//! A volume is a device of equal blocks. A segment is a run of blocks, a section a run of segments. Blocks have
+//! addresses from 1 on, and address 0 means none.
+#![tactic(auto)]
+
+pub mod class;
+pub mod error;
+pub mod geometry;
+pub mod kind;
+pub mod owner;
+pub mod shape;
+pub mod state;
+
+pub use class::Class;
+pub use error::Error;
+pub use geometry::Geometry;
+pub use kind::Kind;
+pub use owner::{Mark, Owner, Summary};
+pub use shape::Shape;
+pub use state::State;

@@ -1,0 +1,7 @@
+pub mod BitLemmas
+pub mod Lists
+pub mod Homes
+pub mod Marks
+pub mod Laws
+pub mod ValidLemmas
+pub mod Filling

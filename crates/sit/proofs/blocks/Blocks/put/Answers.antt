@@ -1,0 +1,21 @@
+use Rattle.std.proofs.Common.{◌≡◌, ◌+◌, ◌<◌, ◌≤◌, Some, length, arith, ap, sym, ◌∙◌}
+use Rattle.std.proofs.lemmas.List.{length-map}
+use Rattle.std.specs.Prelude.{is_some}
+use Rattle.sit.proofs.Lists.{each-set, some-injective}
+use Rattle.sit.proofs.Homes.{home-set}
+use Rattle.sit.proofs.blocks.Blocks.put.Goals as goal
+
+pub invariant_of-self : goal.invariant_of-self
+invariant_of-self g c =
+    let s = c.self.inside in
+    let xs = s.blocks.items in
+    let within : c.args.offset < length xs = let l = ap (λ h. length h.present) c.self.view_is in let m = length-map xs is_some in let r = c.requires.within in omega arith in
+    record {
+      addresses = each-set (λ o b. g.B.Block.address_of b ≡ s.first + o) xs c.args.offset (Some c.args.block) within c.self.invariant.addresses
+          (λ b e. ap g.B.Block.address_of (sym (some-injective c.args.block b e)) ∙ (c.requires.address ∙ ap (λ h. h.first + c.args.offset) (sym c.self.view_is)));
+      lengths = each-set (λ o b. length (g.B.Block.content_of b) ≡ s.block_bytes) xs c.args.offset (Some c.args.block) within c.self.invariant.lengths
+          (λ b e. ap (λ x. length (g.B.Block.content_of x)) (sym (some-injective c.args.block b e)) ∙ (c.requires.length ∙ ap (λ h. h.block_bytes) (sym c.self.view_is)));
+    }
+
+pub returns : goal.returns
+returns g c = home-set c.self.inside.first c.self.inside.block_bytes is_some c.self.inside.blocks.items c.args.offset (Some c.args.block) c.args.self.now c.self.view_is

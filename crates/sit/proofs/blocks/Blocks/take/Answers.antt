@@ -1,0 +1,37 @@
+use Rattle.std.proofs.Common.{◌≡◌, ◌+◌, ◌<◌, ◌≤◌, Some, None, length, get_or, set, arith, ap, sym, ◌∙◌}
+use Rattle.std.proofs.lemmas.List.{length-map}
+use Rattle.std.specs.Prelude.{is_some}
+use Rattle.sit.proofs.Lists.{each-set, get_or-default, some-ne-none}
+use Rattle.sit.proofs.Homes.{home-set}
+use Rattle.sit.proofs.blocks.Blocks.take.Goals as goal
+
+pub invariant_of-self : goal.invariant_of-self
+invariant_of-self g c =
+    let s = c.self.inside in
+    let xs = s.blocks.items in
+    let within : c.args.offset < length xs = let l = ap (λ h. length h.present) c.self.view_is in let m = length-map xs is_some in let r = c.requires.within in omega arith in
+    record {
+      addresses = each-set (λ o b. g.B.Block.address_of b ≡ s.first + o) xs c.args.offset c.take.new.self within c.self.invariant.addresses
+          (λ b e. absurd (some-ne-none b (sym e ∙ c.take.ensures.after)));
+      lengths = each-set (λ o b. length (g.B.Block.content_of b) ≡ s.block_bytes) xs c.args.offset c.take.new.self within c.self.invariant.lengths
+          (λ b e. absurd (some-ne-none b (sym e ∙ c.take.ensures.after)));
+    }
+
+pub returns-clause-home : goal.returns-clause-home
+returns-clause-home g c =
+    home-set c.self.inside.first c.self.inside.block_bytes is_some c.self.inside.blocks.items c.args.offset c.take.new.self c.args.self.now c.self.view_is
+    ∙ ap (λ x. record { first = c.args.self.now.first; block_bytes = c.args.self.now.block_bytes; present = set c.args.self.now.present c.args.offset (is_some x) }) c.take.ensures.after
+
+pub returns-clause-address : goal.returns-clause-address
+returns-clause-address g c =
+    let s = c.self.inside in
+    let within : c.args.offset < length s.blocks.items = let l = ap (λ h. length h.present) c.self.view_is in let m = length-map s.blocks.items is_some in let r = c.requires.within in omega arith in
+    let is : get_or s.blocks.items c.args.offset None ≡ Some c.in-Some.block = get_or-default s.blocks.items c.args.offset None _ within ∙ (sym c.index_mut.ensures.value ∙ (sym c.take.ensures.value ∙ c.in-Some.is)) in
+    c.self.invariant.addresses c.args.offset c.in-Some.block is ∙ ap (λ h. h.first + c.args.offset) c.self.view_is
+
+pub returns-clause-length : goal.returns-clause-length
+returns-clause-length g c =
+    let s = c.self.inside in
+    let within : c.args.offset < length s.blocks.items = let l = ap (λ h. length h.present) c.self.view_is in let m = length-map s.blocks.items is_some in let r = c.requires.within in omega arith in
+    let is : get_or s.blocks.items c.args.offset None ≡ Some c.in-Some.block = get_or-default s.blocks.items c.args.offset None _ within ∙ (sym c.index_mut.ensures.value ∙ (sym c.take.ensures.value ∙ c.in-Some.is)) in
+    c.self.invariant.lengths c.args.offset c.in-Some.block is ∙ ap (λ h. h.block_bytes) c.self.view_is

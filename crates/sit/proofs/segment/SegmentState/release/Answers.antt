@@ -1,0 +1,33 @@
+use Rattle.std.proofs.Common.{◌≡◌, ◌-◌, ◌<◌, ◌≤◌, ℕ, List, Option, Some, None, true, ap, sym, ◌∙◌, subst, length, get_or, arith}
+use Rattle.geometry.specs.declared.owner.Owner.{Owner}
+use Rattle.geometry.specs.Shape.{segment_blocks}
+use Rattle.geometry.specs.Address.{segment_of, offset_of}
+use Rattle.geometry.proofs.Addresses.{offset_of-lt}
+use Rattle.tickets.specs.Placed.{Placed}
+use Rattle.sit.specs.Segment.{Segment}
+use Rattle.sit.specs.Summaries.{is_set}
+use Rattle.sit.proofs.Laws.{offset_is, cleared-law, retired-law}
+use Rattle.sit.proofs.segment.SegmentState.release.Goals as goal
+
+pub invariant_of-self : goal.invariant_of-self
+invariant_of-self g c =
+    let s = c.self.inside in
+    let view = c.self.view_is in
+    let a = c.address.result in
+    let address : a ≡ c.args.ticket.mark.address = c.address.ensures ∙ c.into_block-block.ensures.address in
+    let some : 0 < a = let r = c.requires.address in omega arith in
+    let home : segment_of s.shape a ≡ s.number = ap (segment_of s.shape) address ∙ ap (λ (x : Segment). segment_of x.shape c.args.ticket.mark.address) view ∙ c.requires.home ∙ sym (ap (λ (x : Segment). x.number) view) in
+    let first = c.first.ensures ∙ ap (λ h. h.first) c.self.invariant.home_is in
+    let at = offset_is s.shape s.number a c.first.result some home first in
+    let within : a - c.first.result < segment_blocks s.shape = let lt = offset_of-lt s.shape a in let e = at.1 in omega arith in
+    let valid : is_set (get_or s.valid (a - c.first.result) None) ≡ true = ap is_set
+        (ap (λ o. get_or s.valid o None) (at.1 ∙ ap (offset_of s.shape) address) ∙ ap (λ (x : Segment). get_or x.summaries (offset_of x.shape c.args.ticket.mark.address) None) view ∙ c.requires.valid) in
+    let left = c.in-Kept.ensures in
+    cleared-law _ s.blocks c.self.invariant (a - c.first.result) c.clear.new.self c.put.new.self within valid c.clear.ensures c.put.ensures
+      (λ sealed. let more = left sealed in let count = c.count.ensures in omega arith)
+
+pub invariant_of-self-in-Retired : goal.invariant_of-self-in-Retired
+invariant_of-self-in-Retired g c =
+    let count = c.count.ensures in
+    let none = c.in-Retired.ensures.1 in
+    retired-law _ c.self.inside.blocks c.self.invariant (c.address.result - c.first.result) c.clear.new.self c.put.new.self c.clear.ensures c.put.ensures (omega arith)

@@ -1,0 +1,29 @@
+-- A list of bits in words of 64, the lowest first.
+use Rattle.std.specs.Prelude.{◌≡◌, ℕ, ◌+◌, ◌*◌, ◌/◌, ◌%◌, ◌^◌, ◌<◌, ◌≤◌, ◌==◌, List, length, map, slice_index, slice_index_or, Bool, true, false, Option, Some, None}
+use Rattle.std.specs.List.{range_with_len}
+use Rattle.std.specs.Int.{bit_at}
+
+-- bit o of the words
+abbrev pub is_bit : List ℕ → ℕ → Bool
+is_bit words o = bit_at (slice_index words (o / 64)) (o % 64) == 1
+
+-- the first bits of the words, as a list
+abbrev pub bits_of : List ℕ → ℕ → List Bool
+bits_of words len = map (λ o. is_bit words o) (range_with_len 0 len)
+
+-- the words have room for so many bits, none is without use, and what is past the bits is clear
+pub record IsBits (words : List ℕ) (len : ℕ) : Type 0 where
+  pub few : len < 2 ^ 32
+  pub enough : len ≤ 64 * length words
+  pub tight : 64 * length words < len + 64
+  pub past : (o : ℕ) → len ≤ o → is_bit words o ≡ false
+
+-- the least set bit of a word from a place on
+abbrev pub IsFirstBit : ℕ → ℕ → Option ℕ → Type 0
+IsFirstBit word from None = (i : ℕ) → from ≤ i → bit_at word i ≡ 0
+IsFirstBit word from (Some o) = (from ≤ o) × (o < 64) × (bit_at word o ≡ 1) × ((i : ℕ) → from ≤ i → i < o → bit_at word i ≡ 0)
+
+-- the least true place of a list from a place on
+abbrev pub IsFirstTrue : List Bool → ℕ → Option ℕ → Type 0
+IsFirstTrue bits from None = (o : ℕ) → from ≤ o → slice_index_or bits o false ≡ false
+IsFirstTrue bits from (Some o) = (from ≤ o) × (o < length bits) × (slice_index_or bits o false ≡ true) × ((p : ℕ) → from ≤ p → p < o → slice_index_or bits p false ≡ false)

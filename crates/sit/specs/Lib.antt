@@ -1,0 +1,9 @@
+pub mod Bits
+pub mod Home
+pub mod Summaries
+pub mod Segment
+pub mod Released
+pub mod Row
+pub mod NextValid
+pub mod Room
+pub mod Valid

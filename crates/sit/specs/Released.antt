@@ -1,0 +1,18 @@
+-- What becomes of a segment that has lost a valid block.
+use Rattle.std.specs.Prelude.{◌≡◌, ℕ, ◌<◌}
+use Rattle.geometry.specs.declared.state.State.{State}
+use Rattle.geometry.specs.declared.state.State.TheVariants.{Sealed, Prefree}
+use Rattle.sit.specs.declared.segment.Released.{Released}
+use Rattle.sit.specs.declared.segment.Released.TheVariants.{Kept, Retired}
+use Rattle.sit.specs.Summaries.{count_of}
+use Rattle.sit.specs.Segment.{Segment, in_state}
+
+-- a sealed segment is retired exactly where none of its blocks is valid (Linux filesystems/f2fs, prefree segments)
+abbrev pub HasReleased : Segment → Released → Segment → Type 0
+HasReleased old Kept new = (new ≡ old) × (old.state ≡ Sealed → 0 < count_of old.summaries)
+HasReleased old Retired new = (new ≡ in_state old Prefree) × (old.state ≡ Sealed) × (count_of old.summaries ≡ 0)
+
+-- what becomes of a segment in this state with so many valid blocks
+abbrev pub IsFate : State → ℕ → Released → Type 0
+IsFate state valid Kept = state ≡ Sealed → 0 < valid
+IsFate state valid Retired = (state ≡ Sealed) × (valid ≡ 0)

@@ -1,0 +1,57 @@
+-- What contracts see of a segment, and its law.
+use Rattle.std.specs.Prelude.{◌≡◌, ℕ, ◌+◌, ◌<◌, ◌≤◌, max, List, Option, Some, None, map, length, replicate, slice_set, slice_index_or}
+use Rattle.geometry.specs.declared.shape.Shape.{Shape}
+use Rattle.geometry.specs.declared.state.State.{State}
+use Rattle.geometry.specs.declared.state.State.TheVariants.{Free, Open, Sealed, Prefree}
+use Rattle.geometry.specs.declared.owner.Owner.{Owner}
+use Rattle.geometry.specs.declared.owner.Mark.{Mark}
+use Rattle.geometry.specs.Shape.{segment_blocks, block_bytes}
+use Rattle.geometry.specs.Address.{address_of}
+use Rattle.sit.specs.Home.{Home}
+use Rattle.sit.specs.Summaries.{is_clear, count_of, marks_from}
+
+-- a segment: its shape and number, where it is in its life, who names each of its blocks, the largest time of an append, and the place of the next one
+pub record Segment : Type 0 where
+  pub shape : Shape
+  pub number : ℕ
+  pub state : State
+  pub summaries : List (Option Owner)
+  pub mtime : ℕ
+  pub next : ℕ
+
+-- What a segment's state says of its blocks: one that is free or retired has no valid block, an open one has none at or past its next place, a sealed one has some.
+abbrev pub IsFitting : State → ℕ → List (Option Owner) → Type 0
+IsFitting Free next summaries = count_of summaries ≡ 0
+IsFitting Open next summaries = (next ≤ length summaries) × ((o : ℕ) → next ≤ o → slice_index_or summaries o None ≡ None)
+IsFitting Sealed next summaries = 0 < count_of summaries
+IsFitting Prefree next summaries = count_of summaries ≡ 0
+
+-- The law of a segment. A block is at home exactly where nobody names it.
+pub record SegmentLaw (segment : Segment) (home : Home) : Type 0 where
+  pub sized : length segment.summaries ≡ segment_blocks segment.shape
+  pub home_is : home ≡ record { first = address_of segment.shape segment.number 0; block_bytes = block_bytes segment.shape; present = map is_clear segment.summaries }
+  pub fitting : IsFitting segment.state segment.next segment.summaries
+
+-- the valid blocks, with who names each
+abbrev pub marks_of : Segment → List Mark
+marks_of segment = marks_from (address_of segment.shape segment.number 0) segment.summaries
+
+-- What each call makes of a segment.
+
+-- as a format leaves it
+abbrev pub fresh : Shape → ℕ → Segment
+fresh shape number = record { shape = shape; number = number; state = Free; summaries = replicate (segment_blocks shape) None; mtime = 0; next = 0 }
+
+-- the next block is valid, and named by this owner
+abbrev pub placed : Segment → Owner → ℕ → Segment
+placed segment owner now = record segment { summaries = slice_set segment.summaries segment.next (Some owner); mtime = max segment.mtime now; next = segment.next + 1 }
+
+-- the block at this place is not valid any more
+abbrev pub cleared : Segment → ℕ → Segment
+cleared segment offset = record segment { summaries = slice_set segment.summaries offset None }
+
+abbrev pub in_state : Segment → State → Segment
+in_state segment state = record segment { state = state }
+
+abbrev pub opened : Segment → Segment
+opened segment = record segment { state = Open; next = 0 }

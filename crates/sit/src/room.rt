@@ -1,0 +1,92 @@
+//! The memory of a segment, before its blocks are there.
+ghost use Rattle.std.specs.Prelude.{◌≡◌, ◌+◌, ◌<◌, ◌≤◌, IfOk, vec_len, vec_capacity};
+ghost use Rattle.device.specs.Parts.{IsBlockRun};
+ghost use Rattle.geometry.specs.Shape.{block_bytes, segment_blocks};
+ghost use Rattle.geometry.specs.Address.{address_of};
+ghost use Rattle.sit.specs.Summaries.{count_of};
+
+use crate::blocks::Blocks;
+use crate::segment::SegmentState;
+use crate::valid::ValidBlocks;
+use device::Block;
+use geometry::{Error, Geometry, Shape, State};
+use std::alloc::Global;
+use std::marker::Model;
+
+/// The memory of one segment without its blocks: with all rooms at hand, a device can be taken apart and put together
+/// without any more memory.
+#[derive(Drop)]
+pub struct Room<B: Block + Drop> {
+    shape: Shape,
+    number: u32,
+    blocks: Blocks<B>,
+    valid: ValidBlocks,
+}
+
+impl<B: Block + Drop> Model for Room<B> {
+    ghost use Rattle.sit.specs.Room.{RoomOf, IsRoom};
+
+    ghost Value = { RoomOf };
+
+    ghost view = { λ r. record { shape = r.shape; number = r.number } };
+
+    ghost invariant = { λ r. IsRoom (record { shape = r.shape; number = r.number }) r.blocks r.valid };
+}
+
+impl<B: Block + Drop> Room<B> {
+    ghost use Rattle.sit.specs.Segment.{fresh};
+
+    /// The memory of the segment of this number. The only error is NoMemory.
+    pub fn new(alloc: Global, geometry: &Geometry, number: u32) -> Result<Room<B>, Error>
+        requires { number < geometry.now.segments }
+        ensures { IfOk result (λ room. room ≡ record { shape = geometry.now.shape; number = number }) }
+    {
+        let shape = geometry.shape;
+        let first = geometry.address_of(number, 0);
+        let count = shape.segment_blocks();
+        Ok(Room {
+            shape,
+            number,
+            blocks: Blocks::new(alloc, first, shape.block_bytes(), count)?,
+            valid: ValidBlocks::new(alloc, count)?,
+        })
+    }
+
+    /// The segment, free, with its blocks: the last ones of a run that begins at address 1 and ends with them.
+    pub fn fill(self, all: &mut Vec<B>) -> SegmentState<B>
+        requires run { IsBlockRun B.address_of B.content_of (block_bytes self.shape) 1 all.old.items }
+        requires last { address_of self.shape self.number (segment_blocks self.shape) ≡ 1 + vec_len all.old }
+        ensures segment { result ≡ fresh self.shape self.number }
+        ensures run { IsBlockRun B.address_of B.content_of (block_bytes self.shape) 1 all.new.items }
+        ensures rest { address_of self.shape self.number 0 ≡ 1 + vec_len all.new }
+        ensures capacity { vec_capacity all.new ≡ vec_capacity all.old }
+    {
+        let mut blocks = self.blocks;
+        blocks.fill_from(all);
+        SegmentState {
+            shape: self.shape,
+            number: self.number,
+            state: State::Free,
+            blocks,
+            valid: self.valid,
+            mtime: 0,
+            next: 0,
+        }
+    }
+}
+
+impl<B: Block + Drop> SegmentState<B> {
+    /// The blocks of a segment without valid blocks, put behind a run that begins at address 1 and ends before them. It
+    /// takes no memory.
+    pub fn empty_into(self, all: &mut Vec<B>)
+        requires none { count_of self.summaries ≡ 0 }
+        requires run { IsBlockRun B.address_of B.content_of (block_bytes self.shape) 1 all.old.items }
+        requires next { address_of self.shape self.number 0 ≡ 1 + vec_len all.old }
+        requires room { vec_len all.old + segment_blocks self.shape ≤ vec_capacity all.old }
+        ensures run { IsBlockRun B.address_of B.content_of (block_bytes self.shape) 1 all.new.items }
+        ensures count { vec_len all.new ≡ vec_len all.old + segment_blocks self.shape }
+        ensures capacity { vec_capacity all.old ≤ vec_capacity all.new }
+    {
+        self.blocks.empty_into(all);
+    }
+}
