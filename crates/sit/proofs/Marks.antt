@@ -1,11 +1,11 @@
 -- The marks that summaries show.
 use Rattle.std.proofs.Common.{◌≡◌, ◌≢◌, ℕ, zero, suc, ◌+◌, ◌<◌, ◌≤◌, List, [], ◌∷◌, Option, Some, None, Bool, true, false, length, get_or, set, replicate, if◌then◌else◌, refl, sym, ap, ◌∙◌, arith}
-use Rattle.sums.specs.Weights.{weigh}
+use Rattle.sums.specs.Weights.{weigh, SameItems}
 use Rattle.geometry.specs.declared.owner.Owner.{Owner}
 use Rattle.geometry.specs.declared.owner.Mark.{Mark}
 use Rattle.geometry.specs.Mark.{same_mark}
 use Rattle.geometry.proofs.MarkTests.{mark_eq}
-use Rattle.sit.specs.Summaries.{marks_from}
+use Rattle.sit.specs.Summaries.{marks_from, count_of}
 
 -- how often a mark stands in a list
 abbrev pub times : Mark → List Mark → ℕ
@@ -58,3 +58,25 @@ found m a (Some w ∷ ss) some = go (same_mark m here) refl some (found m (suc a
 pub none_from : (n a : ℕ) → marks_from a (replicate n None) ≡ []
 none_from zero a = refl
 none_from (suc n) a = none_from n (suc a)
+
+-- a block becomes valid
+pub marks_set : (first o : ℕ) (ss ss' : List (Option Owner)) (m : Mark) → o < length ss → get_or ss o None ≡ None → ss' ≡ set ss o (Some m.owner) → m.address ≡ first + o
+    → SameItems (m ∷ marks_from first ss) (marks_from first ss')
+marks_set first o ss ss' m within clear is at weight =
+    let new = ap (λ xs. weigh weight (marks_from first xs)) is in
+    let change = marks-set weight first ss o (Some m.owner) m.address at within in
+    let before = ap (of_summary weight m.address) clear in omega arith
+
+-- a block is valid no more
+pub marks_cleared : (first o : ℕ) (ss ss' : List (Option Owner)) (m : Mark) → o < length ss → get_or ss o None ≡ Some m.owner → ss' ≡ set ss o None → m.address ≡ first + o
+    → SameItems (m ∷ marks_from first ss') (marks_from first ss)
+marks_cleared first o ss ss' m within valid is at weight =
+    let new = ap (λ xs. weigh weight (marks_from first xs)) is in
+    let change = marks-set weight first ss o None m.address at within in
+    let before = ap (of_summary weight m.address) valid in omega arith
+
+-- as many blocks are valid as there are marks
+pub marks_count : (a : ℕ) (ss : List (Option Owner)) → weigh (λ m. 1) (marks_from a ss) ≡ count_of ss
+marks_count a [] = refl
+marks_count a (Some w ∷ ss) = let rest = marks_count (suc a) ss in omega arith
+marks_count a (None ∷ ss) = let rest = marks_count (suc a) ss in omega arith

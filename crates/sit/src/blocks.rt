@@ -133,11 +133,11 @@ impl<B: Block + Drop> Blocks<B> {
         requires room { vec_len all.old + length self.present ≤ vec_capacity all.old }
         ensures run { IsBlockRun B.address_of B.content_of self.block_bytes 1 all.new.items }
         ensures count { vec_len all.new ≡ vec_len all.old + length self.present }
-        ensures capacity { vec_capacity all.old ≤ vec_capacity all.new }
+        ensures capacity { vec_capacity all.new ≡ vec_capacity all.old }
     {
         for offset in 0..self.len() {
             let block = self.take(offset);
-            all.push(block).unwrap();
+            all.push_reserved(block);
         }
     }
 }

@@ -85,7 +85,7 @@ impl<B: Block + Drop> SegmentState<B> {
         requires room { vec_len all.old + segment_blocks self.shape ≤ vec_capacity all.old }
         ensures run { IsBlockRun B.address_of B.content_of (block_bytes self.shape) 1 all.new.items }
         ensures count { vec_len all.new ≡ vec_len all.old + segment_blocks self.shape }
-        ensures capacity { vec_capacity all.old ≤ vec_capacity all.new }
+        ensures capacity { vec_capacity all.new ≡ vec_capacity all.old }
     {
         self.blocks.empty_into(all);
     }

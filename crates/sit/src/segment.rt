@@ -1,5 +1,5 @@
 //! One segment: which of its blocks are valid, who names each, and its blocks at home.
-ghost use Rattle.std.specs.Prelude.{◌≡◌, ◌≢◌, ◌+◌, ◌<◌, ◌≤◌, Some, None, IsTrue, ◌↔◌, length, slice_index_or, OnOk, IfOk, IfErr};
+ghost use Rattle.std.specs.Prelude.{◌≡◌, ◌≢◌, ◌+◌, ◌<◌, ◌≤◌, Some, None, IsTrue, ◌↔◌, ◌∷◌, length, slice_index_or, OnOk, IfOk, IfErr};
 ghost use Rattle.geometry.specs.declared.state.State.TheVariants.{Free, Open, Sealed, Prefree};
 ghost use Rattle.geometry.specs.declared.error.Error.TheVariants.{Device};
 ghost use Rattle.geometry.specs.Shape.{block_bytes, segment_blocks};
@@ -60,7 +60,8 @@ pub struct SegmentRow {
 }
 
 impl<B: Block + Drop> SegmentState<B> {
-    ghost use Rattle.sit.specs.Segment.{placed, cleared, in_state, opened};
+    ghost use Rattle.sums.specs.Weights.{SameItems};
+    ghost use Rattle.sit.specs.Segment.{placed, cleared, in_state, opened, marks_of};
     ghost use Rattle.sit.specs.Released.{HasReleased};
     ghost use Rattle.sit.specs.Row.{row_of};
 
@@ -138,6 +139,7 @@ impl<B: Block + Drop> SegmentState<B> {
         ensures mark { IfOk result (λ ticket. ticket.mark ≡ record { address = address_of self.old.shape self.old.number offset; owner = owner }) }
         ensures content { IfOk result (λ ticket. ticket.content ≡ bytes.now) }
         ensures segment { OnOk result (self.new ≡ placed self.old owner now) }
+        ensures marks { IfOk result (λ ticket. SameItems (ticket.mark ∷ marks_of self.old) (marks_of self.new)) }
         ensures count { OnOk result (count_of self.new.summaries ≡ count_of self.old.summaries + 1) }
         ensures error { IfErr result (λ error. error ≡ Device) }
         ensures err { IfErr result (λ error. self.new ≡ self.old) }
@@ -156,7 +158,8 @@ impl<B: Block + Drop> SegmentState<B> {
         requires home { segment_of self.old.shape ticket.mark.address ≡ self.old.number }
         requires valid { slice_index_or self.old.summaries (offset_of self.old.shape ticket.mark.address) None ≡ Some ticket.mark.owner }
         requires bytes { length ticket.content ≡ block_bytes self.old.shape }
-        ensures { HasReleased (cleared self.old (offset_of self.old.shape ticket.mark.address)) result self.new }
+        ensures segment { HasReleased (cleared self.old (offset_of self.old.shape ticket.mark.address)) result self.new }
+        ensures marks { SameItems (ticket.mark ∷ marks_of self.new) (marks_of self.old) }
     {
         let block = ticket.into_block();
         let offset = block.address() - self.blocks.first();
