@@ -5,11 +5,7 @@ use Rattle.geometry.specs.declared.owner.Owner.{Owner}
 use Rattle.geometry.specs.declared.owner.Mark.{Mark}
 use Rattle.geometry.specs.Mark.{same_mark}
 use Rattle.geometry.proofs.MarkTests.{mark_eq}
-use Rattle.sit.specs.Summaries.{marks_from, count_of}
-
--- how often a mark stands in a list
-abbrev pub times : Mark → List Mark → ℕ
-times m marks = weigh (λ y. if same_mark m y then 1 else 0) marks
+use Rattle.sit.specs.Summaries.{marks_from, count_of, times}
 
 -- what the summary at an address weighs
 abbrev pub of_summary : (Mark → ℕ) → ℕ → Option Owner → ℕ

@@ -1,5 +1,6 @@
 //! A list of bits in words.
-ghost use Rattle.std.specs.Prelude.{◌≡◌, ◌+◌, ◌<◌, ◌≤◌, ◌^◌, ℕ, true, false, length, replicate, slice_index_or, slice_set, IfOk, MatchOption};
+ghost use Rattle.std.specs.Prelude.{◌≡◌, ◌+◌, ◌<◌, ◌≤◌, ◌^◌, ℕ, true, false, length, replicate, slice_index_or, slice_set, IfOk, IfErr};
+ghost use Rattle.geometry.specs.declared.error.Error.TheVariants.{NoMemory};
 ghost use Rattle.std.specs.Int.{bit_at};
 ghost use Rattle.sit.specs.Bits.{IsFirstBit, IsFirstTrue};
 
@@ -28,7 +29,8 @@ impl Model for Bits {
 impl Bits {
     /// So many bits, all clear. The only error is NoMemory.
     pub(crate) fn new(alloc: Global, len: u32) -> Result<Bits, Error>
-        ensures { IfOk result (λ bits. bits ≡ replicate len false) }
+        ensures ok { IfOk result (λ bits. bits ≡ replicate len false) }
+        ensures err { IfErr result (λ error. error ≡ NoMemory) }
     {
         let words = vec![in alloc; 0; len.div_ceil(64) as usize]?;
         Ok(Bits { words, len })

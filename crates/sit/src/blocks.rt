@@ -1,5 +1,6 @@
 //! The blocks of a segment that are at home.
-ghost use Rattle.std.specs.Prelude.{◌≡◌, ◌+◌, ◌<◌, ◌≤◌, true, false, length, replicate, slice_index_or, slice_set, vec_len, vec_capacity, IfOk, OnErr};
+ghost use Rattle.std.specs.Prelude.{◌≡◌, ◌+◌, ◌<◌, ◌≤◌, true, false, length, replicate, slice_index_or, slice_set, vec_len, vec_capacity, IfOk, IfErr, OnErr};
+ghost use Rattle.geometry.specs.declared.error.Error.TheVariants.{NoMemory};
 ghost use Rattle.device.specs.Parts.{IsBlockRun};
 ghost use Rattle.sit.specs.Home.{Home};
 
@@ -35,11 +36,12 @@ impl<B: Block + Drop> Blocks<B> {
         block_bytes: u32,
         count: u32,
     ) -> Result<Blocks<B>, Error>
-        ensures { IfOk result (λ blocks. blocks ≡ record { first = first; block_bytes = block_bytes; present = replicate count false }) }
+        ensures ok { IfOk result (λ blocks. blocks ≡ record { first = first; block_bytes = block_bytes; present = replicate count false }) }
+        ensures err { IfErr result (λ error. error ≡ NoMemory) }
     {
-        let mut blocks = Vec::new(alloc);
+        let mut blocks = Vec::with_capacity(alloc, count as usize)?;
         for _place in 0..count {
-            blocks.push(None)?;
+            blocks.push_reserved(None);
         }
         Ok(Blocks {
             first,

@@ -1,5 +1,6 @@
 //! The memory of a segment, before its blocks are there.
-ghost use Rattle.std.specs.Prelude.{◌≡◌, ◌+◌, ◌<◌, ◌≤◌, IfOk, vec_len, vec_capacity};
+ghost use Rattle.std.specs.Prelude.{◌≡◌, ◌+◌, ◌<◌, ◌≤◌, IfOk, IfErr, vec_len, vec_capacity};
+ghost use Rattle.geometry.specs.declared.error.Error.TheVariants.{NoMemory};
 ghost use Rattle.device.specs.Parts.{IsBlockRun};
 ghost use Rattle.geometry.specs.Shape.{block_bytes, segment_blocks};
 ghost use Rattle.geometry.specs.Address.{address_of};
@@ -39,7 +40,8 @@ impl<B: Block + Drop> Room<B> {
     /// The memory of the segment of this number. The only error is NoMemory.
     pub fn new(alloc: Global, geometry: &Geometry, number: u32) -> Result<Room<B>, Error>
         requires { number < geometry.now.segments }
-        ensures { IfOk result (λ room. room ≡ record { shape = geometry.now.shape; number = number }) }
+        ensures ok { IfOk result (λ room. room ≡ record { shape = geometry.now.shape; number = number }) }
+        ensures err { IfErr result (λ error. error ≡ NoMemory) }
     {
         let shape = geometry.shape;
         let first = geometry.address_of(number, 0);

@@ -93,6 +93,16 @@ impl<B: Block + Drop> SegmentState<B> {
         self.next
     }
 
+    /// Whether it is open and has a next place.
+    pub fn has_room(&self) -> bool
+        ensures { IsTrue result ↔ ((self.now.state ≡ Open) × (self.now.next < segment_blocks self.now.shape)) }
+    {
+        match self.state {
+            State::Open => self.next < self.shape.segment_blocks(),
+            State::Free | State::Sealed | State::Prefree => false,
+        }
+    }
+
     /// Who names the block at a place, if anybody does.
     pub fn summary(&self, offset: u32) -> Option<Owner>
         requires { offset < segment_blocks self.now.shape }

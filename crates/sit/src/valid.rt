@@ -1,5 +1,6 @@
 //! Which blocks of a segment are valid.
-ghost use Rattle.std.specs.Prelude.{◌≡◌, ◌+◌, ◌<◌, ◌^◌, Some, None, true, length, slice_index_or, slice_set, IfOk, replicate};
+ghost use Rattle.std.specs.Prelude.{◌≡◌, ◌+◌, ◌<◌, ◌^◌, Some, None, true, length, slice_index_or, slice_set, IfOk, IfErr, replicate};
+ghost use Rattle.geometry.specs.declared.error.Error.TheVariants.{NoMemory};
 ghost use Rattle.geometry.specs.Owner.{IsOwner};
 ghost use Rattle.sit.specs.Summaries.{is_set, count_of};
 ghost use Rattle.sit.specs.NextValid.{IsNextValid};
@@ -34,7 +35,8 @@ impl Model for ValidBlocks {
 impl ValidBlocks {
     /// Of so many blocks none is valid. The only error is NoMemory.
     pub(crate) fn new(alloc: Global, blocks: u32) -> Result<ValidBlocks, Error>
-        ensures { IfOk result (λ valid. valid ≡ replicate blocks None) }
+        ensures ok { IfOk result (λ valid. valid ≡ replicate blocks None) }
+        ensures err { IfErr result (λ error. error ≡ NoMemory) }
     {
         Ok(ValidBlocks {
             bits: Bits::new(alloc, blocks)?,

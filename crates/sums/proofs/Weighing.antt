@@ -1,5 +1,5 @@
 -- What a list weighs after a change.
-use Rattle.std.proofs.Common.{◌≡◌, ℕ, zero, suc, ◌+◌, ◌*◌, ◌<◌, ◌≤◌, List, [], ◌∷◌, ◌++◌, length, get_or, set, replicate, arith}
+use Rattle.std.proofs.Common.{◌≡◌, ℕ, zero, suc, ◌+◌, ◌*◌, ◌<◌, ◌≤◌, List, [], ◌∷◌, ◌++◌, length, get_or, set, take, replicate, ap, ◌∙◌, arith}
 use Rattle.sums.specs.Weights.{weigh}
 
 module _ {A : Type 0} where
@@ -36,3 +36,12 @@ module _ {A : Type 0} where
       go : (w : ℕ) {C : Type 0} → (0 < w → C) → (w ≡ 0 → C) → C
       go zero more less = less (omega arith)
       go (suc w) more less = more (omega arith)
+
+  take_next : (weight : A → ℕ) (xs : List A) (i : ℕ) (d : A) → i < length xs → weigh weight (take (suc i) xs) ≡ weigh weight (take i xs) + weight (get_or xs i d)
+  take_next weight [] i d within = absurd (omega arith)
+  take_next weight (x ∷ xs) zero d within = omega arith
+  take_next weight (x ∷ xs) (suc i) d within = let rest = take_next weight xs i d (omega arith) in omega arith
+
+  -- a loop comes to the next item
+  pub weigh-take : (weight : A → ℕ) (xs : List A) (i : ℕ) (d : A) → i < length xs → weigh weight (take (i + 1) xs) ≡ weigh weight (take i xs) + weight (get_or xs i d)
+  weigh-take weight xs i d within = let next : i + 1 ≡ suc i = omega arith in ap (λ k. weigh weight (take k xs)) next ∙ take_next weight xs i d within

@@ -12,10 +12,10 @@ pub invariant_of-result : goal.invariant_of-result
 invariant_of-result c =
     let n = c.args.blocks in
     let items : c.in_ok-vec.field-0.items ≡ replicate n none = search rules in
-    subst (λ (b : List Bool × List Summary). AreValid b.0 b.1 0) (λ i. (sym c.in_ok-new.ensures i, sym items i)) (valid_none n c.ranges.blocks.fits)
+    subst (λ (b : List Bool × List Summary). AreValid b.0 b.1 0) (λ i. (sym c.in_ok-new.ensures.ok i, sym items i)) (valid_none n c.ranges.blocks.fits)
 
-pub returns : goal.returns
-returns c =
+pub returns-clause-ok : goal.returns-clause-ok
+returns-clause-ok c =
     let n = c.args.blocks in
     let items : c.in_ok-vec.field-0.items ≡ replicate n none = search rules in
     ap (map owner_in) items ∙ shown_none n

@@ -1,0 +1,4 @@
+pub mod Area
+pub mod Contents
+pub mod Rooms
+pub mod Volume

@@ -1,0 +1,15 @@
+//! A volume: files whose blocks are appended to a log over segments, and are never written in place while a file names
+//! them (Rosenblum and Ousterhout 1991; Lee and others, FAST 2015).
+#![tactic(auto)]
+
+mod area;
+pub mod close;
+mod file;
+pub mod format;
+pub mod pass;
+pub mod volume;
+
+pub use close::CloseFault;
+pub use format::OpenFault;
+pub use pass::{FilePass, Seat};
+pub use volume::Volume;
