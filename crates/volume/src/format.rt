@@ -11,6 +11,7 @@ use geometry::{Error, Geometry};
 use std::alloc::Global;
 
 /// Why a volume was not opened, with the device as it was.
+#[derive(Drop)]
 pub struct OpenFault<M, B> {
     pub parts: Parts<M, B>,
     pub error: Error,
