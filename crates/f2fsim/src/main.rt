@@ -16,7 +16,9 @@ use volume::{FilePass, Seat, Volume};
 type MemVolume = Volume<MemMeta, MemBlock>;
 
 const FILES: u8 = 2;
+
 const BLOCKS: u8 = 3;
+
 const ROUNDS: u8 = 2;
 
 fn main(rt: HostRuntime) -> io::Result<()> {
@@ -101,7 +103,8 @@ fn write_round(
 {
     for place in 0..passes.len() {
         let pass = &mut passes[place];
-        let byte = ((16 * u64::from(pass.number()) + 4 * u64::from(round) + u64::from(index)) % 256) as u8;
+        let byte = ((16 * u64::from(pass.number()) + 4 * u64::from(round) + u64::from(index))
+            % 256) as u8;
         volume.write(pass, u32::from(index), &[byte; 64], 0)?;
     }
     Ok(())

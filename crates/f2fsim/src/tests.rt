@@ -12,7 +12,10 @@ fn two_files_are_read_back(rt: HostRuntime) {
     match first_run(rt.alloc()) {
         Ok(text) => {
             let told = text.as_str();
-            assert!(rt; told == "file 1 length 3 14 15 16\nfile 2 length 3 24 25 26\nmarked 6\n", "{told}");
+            assert!(rt;
+                told == "file 1 length 3 14 15 16\nfile 2 length 3 24 25 26\nmarked 6\n",
+                "{told}"
+            );
         }
         Err(error) => assert!(rt; error == Error::NoMemory, "{error}"),
     }
@@ -61,16 +64,29 @@ fn a_missing_pass_is_told(rt: HostRuntime) {
     let (mut volume, seats) = small(alloc).expect(&rt, "memory");
     let mut passes = Vec::new(alloc);
     for _file in 0..4 {
-        passes.push(volume.create(Kind::Dir).expect(&rt, "memory")).expect(&rt, "memory");
+        passes
+            .push(volume.create(Kind::Dir).expect(&rt, "memory"))
+            .expect(&rt, "memory");
     }
-    assert!(rt; volume.create(Kind::File).is_err_and(|error| error == Error::NoFile));
+    assert!(rt;
+        volume
+            .create(Kind::File)
+            .is_err_and(|error| error == Error::NoFile)
+    );
     let lost = passes.pop();
     match volume.abandon(seats, passes) {
         Ok(_parts) => panic!(rt; "not refused"),
         Err(fault) => {
             assert!(rt; fault.error == Error::PassesOut(1));
-            let CloseFault { volume, seats, mut passes, error: _ } = fault;
-            passes.push(lost.expect(&rt, "a pass")).expect(&rt, "memory");
+            let CloseFault {
+                volume,
+                seats,
+                mut passes,
+                error: _,
+            } = fault;
+            passes
+                .push(lost.expect(&rt, "a pass"))
+                .expect(&rt, "memory");
             match volume.abandon(seats, passes) {
                 Ok(parts) => assert!(rt; parts.blocks.len() == 128),
                 Err(_fault) => panic!(rt; "refused"),

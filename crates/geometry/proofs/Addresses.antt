@@ -1,8 +1,8 @@
 -- An address is read off its segment and place, and these off the address.
-use Rattle.std.proofs.Common.{◌≡◌, ℕ, ◌+◌, ◌-◌, ◌*◌, ◌<◌, ◌≤◌, arith}
+use Rattle.std.proofs.Common.{◌≡◌, ℕ, ◌+◌, ◌*◌, ◌<◌, ◌≤◌, arith}
 use Rattle.geometry.specs.declared.shape.Shape.{Shape}
 use Rattle.geometry.specs.declared.shape.Shape.TheVariants.{Tiny, Kernel}
-use Rattle.geometry.specs.Shape.{segment_blocks, block_bytes}
+use Rattle.geometry.specs.Shape.{segment_blocks}
 use Rattle.geometry.specs.Address.{address_of, segment_of, offset_of}
 
 pub address_of-parts : (shape : Shape) (address : ℕ) → 0 < address → address_of shape (segment_of shape address) (offset_of shape address) ≡ address

@@ -1,6 +1,5 @@
 -- A summary tells the owner that it is of.
-use Rattle.std.proofs.Common.{◌≡◌, ◌≢◌, ◌<◌, ◌-◌, ◌^◌, ℕ, Some, None, true, false, refl, arith}
-use Rattle.std.specs.Prelude.{◌==◌}
+use Rattle.std.proofs.Common.{◌≡◌, Some, arith}
 use Rattle.geometry.specs.declared.owner.Owner.{Owner}
 use Rattle.geometry.specs.declared.owner.Owner.TheVariants.{Node, Data}
 use Rattle.geometry.specs.Owner.{IsOwner}

@@ -1,5 +1,5 @@
 -- Who may name a block, so that a summary of two numbers can tell it (Linux filesystems/f2fs, segment summaries).
-use Rattle.std.specs.Prelude.{◌≢◌, ◌<◌, ◌-◌, ◌^◌, ℕ}
+use Rattle.std.specs.Prelude.{◌<◌, ◌-◌, ◌^◌}
 use Rattle.geometry.specs.declared.owner.Owner.{Owner}
 use Rattle.geometry.specs.declared.owner.Owner.TheVariants.{Node, Data}
 

@@ -1,5 +1,5 @@
 -- The summary of a block: two numbers that tell who names it (Linux filesystems/f2fs, segment summary area).
-use Rattle.std.specs.Prelude.{ℕ, ◌-◌, ◌^◌, ◌==◌, Option, Some, None, if◌then◌else◌}
+use Rattle.std.specs.Prelude.{◌-◌, ◌^◌, ◌==◌, Option, Some, None, if◌then◌else◌}
 use Rattle.geometry.specs.declared.owner.Owner.{Owner}
 use Rattle.geometry.specs.declared.owner.Owner.TheVariants.{Node, Data}
 use Rattle.geometry.specs.declared.owner.Summary.{Summary}

@@ -16,6 +16,7 @@ pub enum Shape {
 
 impl Shape {
     pub const TINY: Shape = Shape::Tiny;
+
     pub const KERNEL: Shape = Shape::Kernel;
 
     /// The bytes of a block.

@@ -1,7 +1,6 @@
 -- Bits in words: what setting, clearing and looking for one does to the list.
-use Rattle.std.proofs.Common.{◌≡◌, ◌≢◌, ℕ, zero, suc, ◌+◌, ◌-◌, ◌*◌, ◌/◌, ◌%◌, ◌^◌, ◌<◌, ◌≤◌, List, [], ◌∷◌, length, map, get_or, set, replicate, Bool, true, false, Option, Some, None, refl, sym, ap, ◌∙◌, subst, ⊎_elim, arith}
+use Rattle.std.proofs.Common.{◌≡◌, ◌≢◌, ℕ, zero, suc, ◌+◌, ◌-◌, ◌*◌, ◌/◌, ◌%◌, ◌^◌, ◌<◌, ◌≤◌, List, length, get_or, set, replicate, Bool, true, false, Some, None, refl, sym, ap, ◌∙◌, ⊎_elim, arith}
 use Rattle.std.specs.Prelude.{◌==◌}
-use Rattle.std.specs.List.{range_with_len}
 use Rattle.std.specs.Int.{bit_at, w64, bit_not, trailing_zeros}
 use Rattle.std.specs.Int.RustNames.{bit_or}
 use lib.Bits.{bit_and}
@@ -35,12 +34,12 @@ module _ (words : List ℕ) (o b seen new : ℕ) (within : o < 64 * length words
   there : (q : ℕ) → q ≢ o → is_bit (set words (o / 64) new) q ≡ is_bit words q
   there q apart = dite (ℕ_discrete (q / 64) (o / 64))
       (λ same.
-        let other : q % 64 ≢ o % 64 = λ e. apart (omega arith) in
-        ap (λ j. bit_at (get_or (set words (o / 64) new) j 0) (q % 64) == 1) same
-        ∙ ap (λ w. bit_at w (q % 64) == 1) (get_or-set_same words (o / 64) new 0 in_words)
-        ∙ ap (λ v. v == 1) (turns.1 (q % 64) (omega arith) other)
-        ∙ ap (λ w. bit_at w (q % 64) == 1) read
-        ∙ ap (λ j. bit_at (get_or words j 0) (q % 64) == 1) (sym same))
+      let other : q % 64 ≢ o % 64 = λ e. apart (omega arith) in
+      ap (λ j. bit_at (get_or (set words (o / 64) new) j 0) (q % 64) == 1) same
+      ∙ ap (λ w. bit_at w (q % 64) == 1) (get_or-set_same words (o / 64) new 0 in_words)
+      ∙ ap (λ v. v == 1) (turns.1 (q % 64) (omega arith) other)
+      ∙ ap (λ w. bit_at w (q % 64) == 1) read
+      ∙ ap (λ j. bit_at (get_or words j 0) (q % 64) == 1) (sym same))
       (λ other. ap (λ w. bit_at w (q % 64) == 1) (get_or-set_other words (o / 64) (q / 64) new 0 other))
 
   pub bits_of-turned : (len : ℕ) → o < len → bits_of (set words (o / 64) new) len ≡ set (bits_of words len) o (b == 1)
@@ -49,11 +48,11 @@ module _ (words : List ℕ) (o b seen new : ℕ) (within : o < 64 * length words
       let long_new : length (bits_of (set words (o / 64) new) len) ≡ len = length-map-range_with_len _ 0 len in
       same_lists _ _ (long_new ∙ sym (length-set (bits_of words len) o (b == 1) ∙ long))
       (λ k d low.
-        let below : k < len = omega arith in
-        get_or-map-range_with_len (λ q. is_bit (set words (o / 64) new) q) 0 len k k d below (omega arith)
-        ∙ dite (ℕ_discrete k o)
-          (λ same. ap (λ q. is_bit (set words (o / 64) new) q) same ∙ here ∙ sym (ap (λ q. get_or (set (bits_of words len) o (b == 1)) q d) same ∙ get_or-set_same (bits_of words len) o (b == 1) d (omega arith)))
-          (λ other. there k other ∙ sym (get_or-set_other (bits_of words len) o k (b == 1) d other ∙ get_or-map-range_with_len (λ q. is_bit words q) 0 len k k d below (omega arith))))
+      let below : k < len = omega arith in
+      get_or-map-range_with_len (λ q. is_bit (set words (o / 64) new) q) 0 len k k d below (omega arith)
+      ∙ dite (ℕ_discrete k o)
+      (λ same. ap (λ q. is_bit (set words (o / 64) new) q) same ∙ here ∙ sym (ap (λ q. get_or (set (bits_of words len) o (b == 1)) q d) same ∙ get_or-set_same (bits_of words len) o (b == 1) d (omega arith)))
+      (λ other. there k other ∙ sym (get_or-set_other (bits_of words len) o k (b == 1) d other ∙ get_or-map-range_with_len (λ q. is_bit words q) 0 len k k d below (omega arith))))
 
   pub turned-IsBits : (len : ℕ) → o < len → IsBits words len → IsBits (set words (o / 64) new) len
   turned-IsBits len inside is = record {
@@ -89,8 +88,8 @@ bits_of-clear n len =
     let long : length (bits_of (replicate n 0) len) ≡ len = length-map-range_with_len _ 0 len in
     same_lists _ _ (long ∙ sym (length-replicate {A = Bool} len false))
     (λ k d low.
-      let below : k < len = omega arith in
-      get_or-map-range_with_len (λ q. is_bit (replicate n 0) q) 0 len k k d below (omega arith) ∙ zero_bit n k ∙ sym (get_or-false len k d below))
+    let below : k < len = omega arith in
+    get_or-map-range_with_len (λ q. is_bit (replicate n 0) q) 0 len k k d below (omega arith) ∙ zero_bit n k ∙ sym (get_or-false len k d below))
 
 -- ---- the first set bit of a word
 
@@ -109,11 +108,12 @@ first_is word from fits some =
     let small : rest ≤ word = shr_le word from in
     let found = bit_at-trailing_zeros w64 rest (omega arith) (omega arith) in
     let t = trailing_zeros w64 rest in
-    let one : bit_at word (from + t) ≡ 1 = sym (shifted word from t) ∙ found.1 in
-    ((omega arith),
-     ⊎_elim (λ lt. lt) (λ ge. absurd (let none = bit_at_above word 64 (from + t) fits ge in omega arith)) (cases_lt (from + t) 64),
-     one,
-     (λ i le lt. at_from word from i le ∙ found.2 (i - from) (omega arith)))
+    let one : bit_at word (from + t) ≡ 1 = sym (shifted word from t) ∙ found.1 in (
+      (omega arith),
+      ⊎_elim (λ lt. lt) (λ ge. absurd (let none = bit_at_above word 64 (from + t) fits ge in omega arith)) (cases_lt (from + t) 64),
+      one,
+      (λ i le lt. at_from word from i le ∙ found.2 (i - from) (omega arith)),
+    )
 
 -- ---- the first set bit of a list of words
 
@@ -147,12 +147,13 @@ module _ (words : List ℕ) (from index seen first : ℕ) (read : seen ≡ get_o
     pub found_first : IsFirstTrue (bits_of words len) from (Some (64 * index + place))
     found_first =
         let long : length (bits_of words len) ≡ len = length-map-range_with_len _ 0 len in
-        let within = found_within in
-        (let le = found.0 in omega arith,
-         omega arith,
-         get_or-map-range_with_len (λ q. is_bit words q) 0 len _ _ false within (omega arith) ∙ is_one,
-         λ p past lt. get_or-map-range_with_len (λ q. is_bit words q) 0 len p p false (omega arith) (omega arith)
-            ∙ clear_to place (let small = found.1 in omega arith) (λ i le small. found.3 i le small) p past lt)
+        let within = found_within in (
+          let le = found.0 in omega arith,
+          omega arith,
+          get_or-map-range_with_len (λ q. is_bit words q) 0 len _ _ false within (omega arith) ∙ is_one,
+          λ p past lt. get_or-map-range_with_len (λ q. is_bit words q) 0 len p p false (omega arith) (omega arith)
+              ∙ clear_to place (let small = found.1 in omega arith) (λ i le small. found.3 i le small) p past lt,
+        )
 
 pub none_left : (words : List ℕ) (len from : ℕ) → IsBits words len → ((o : ℕ) → from ≤ o → o < 64 * length words → is_bit words o ≡ false) → IsFirstTrue (bits_of words len) from None
 none_left words len from is clear o past = ⊎_elim

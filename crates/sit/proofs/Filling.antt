@@ -66,7 +66,7 @@ module _ {B : Type 0} (address_of : B → ℕ) (content_of : B → List ℕ) whe
           filled = λ o le within. ap (λ p. get_or p o false) present ∙ dite (ℕ_discrete o (length start.present - 1 - turns))
               (λ same. ap (λ i. get_or now i false) same ∙ get_or-set_same home.present (length start.present - 1 - turns) true false (omega arith))
               (λ other. get_or-set_other home.present (length start.present - 1 - turns) o true false other
-                ∙ is.filled o (⊎_elim (λ low. absurd (other (omega arith))) (λ high. high) (cases_lt (o + turns) (length start.present))) within);
+              ∙ is.filled o (⊎_elim (λ low. absurd (other (omega arith))) (λ high. high) (cases_lt (o + turns) (length start.present))) within);
           run = run_front address_of content_of start.block_bytes 1 rest (block ∷ []) popped_run;
           left = let l = popped_length in let e = is.left in omega arith;
         }
@@ -76,9 +76,9 @@ module _ {B : Type 0} (address_of : B → ℕ) (content_of : B → List ℕ) whe
   filling_ends start home whole turns all is done =
       let n = length start.present in
       let present : home.present ≡ replicate n true = same_lists home.present (replicate n true) (is.long ∙ sym (length-replicate {A = Bool} n true))
-            (λ o d within.
-              let long = is.long in
-              get_or-other home.present o d within ∙ is.filled o (omega arith) (omega arith) ∙ sym (get_or-true n o d (omega arith))) in
+      (λ o d within.
+      let long = is.long in
+      get_or-other home.present o d within ∙ is.filled o (omega arith) (omega arith) ∙ sym (get_or-true n o d (omega arith))) in
       λ i. record { first = is.first i; block_bytes = is.bytes i; present = present i }
     where
       get_or-other : (xs : List Bool) (o : ℕ) (d : Bool) → o < length xs → get_or xs o d ≡ get_or xs o false

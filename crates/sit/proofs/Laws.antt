@@ -1,5 +1,5 @@
 -- A segment's law is kept.
-use Rattle.std.proofs.Common.{◌≡◌, ℕ, ◌+◌, ◌-◌, ◌<◌, ◌≤◌, List, Option, Some, None, Bool, true, false, map, length, get_or, set, replicate, refl, sym, ap, ◌∙◌, subst, arith}
+use Rattle.std.proofs.Common.{◌≡◌, ℕ, ◌+◌, ◌-◌, ◌<◌, ◌≤◌, List, Option, Some, None, true, false, map, length, get_or, set, replicate, refl, sym, ap, ◌∙◌, subst, arith}
 use Rattle.std.proofs.lemmas.List.{map-set, length-set, length-map, length-replicate, get_or-map}
 use Rattle.geometry.specs.declared.shape.Shape.{Shape}
 use Rattle.geometry.specs.declared.owner.Owner.{Owner}
@@ -48,9 +48,10 @@ module _ (s : Segment) (home : Home) (law : SegmentLaw s home) where
       let e = law.sized in record {
         sized = ap length is ∙ length-set ss offset (Some owner) ∙ law.sized;
         home_is = is_home ∙ (ap (λ h. home_set h offset false) law.home_is ∙ ap (home_of (address_of s.shape s.number 0) (block_bytes s.shape)) (sym (ap (map is_clear) is ∙ map-set is_clear ss offset (Some owner))));
-        fitting = subst (λ x. IsFitting x (s.next + 1) ss') (sym opn)
-            (let l = length-set ss offset (Some owner) in let m = ap length is in omega arith,
-             λ p le. ap (λ xs. get_or xs p None) at ∙ set_past ss s.next owner fits.1 p le);
+        fitting = subst (λ x. IsFitting x (s.next + 1) ss') (sym opn) (
+          let l = length-set ss offset (Some owner) in let m = ap length is in omega arith,
+          λ p le. ap (λ xs. get_or xs p None) at ∙ set_past ss s.next owner fits.1 p le,
+        );
       }
 
   cleared_home : (o : ℕ) (home' : Home) → home' ≡ home_set home o true

@@ -1,5 +1,5 @@
 -- The marks that summaries show.
-use Rattle.std.proofs.Common.{◌≡◌, ◌≢◌, ℕ, zero, suc, ◌+◌, ◌<◌, ◌≤◌, List, [], ◌∷◌, Option, Some, None, Bool, true, false, length, get_or, set, replicate, if◌then◌else◌, refl, sym, ap, ◌∙◌, arith}
+use Rattle.std.proofs.Common.{◌≡◌, ℕ, zero, suc, ◌+◌, ◌<◌, List, [], ◌∷◌, Option, Some, None, Bool, true, false, length, get_or, set, replicate, if◌then◌else◌, refl, sym, ap, arith}
 use Rattle.sums.specs.Weights.{weigh, SameItems}
 use Rattle.geometry.specs.declared.owner.Owner.{Owner}
 use Rattle.geometry.specs.declared.owner.Mark.{Mark}
@@ -46,6 +46,7 @@ found m a (Some w ∷ ss) some = go (same_mark m here) refl some (found m (suc a
   where
     here : Mark
     here = record { address = a; owner = w }
+
     go : (b : Bool) → same_mark m here ≡ b → 0 < (if b then 1 else 0) + times m (marks_from (suc a) ss)
         → (0 < times m (marks_from (suc a) ss) → StandsIn m (suc a) ss) → StandsIn m a (Some w ∷ ss)
     go true e few rest = let is = mark_eq m here e in let at = ap (λ z. z.address) is in (0, omega arith, omega arith, sym (ap (λ z. Some z.owner) is))

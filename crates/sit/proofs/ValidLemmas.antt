@@ -1,6 +1,6 @@
 -- What setting and clearing a block does to bits, summaries and count.
-use Rattle.std.proofs.Common.{◌≡◌, ℕ, zero, suc, [], ◌∷◌, refl, ◌+◌, ◌-◌, ◌^◌, ◌<◌, ◌≤◌, List, Option, Some, None, Bool, true, false, map, length, get_or, set, replicate, sym, ap, ◌∙◌, arith}
-use Rattle.std.proofs.lemmas.List.{map-set, length-set, length-map, length-replicate, get_or-map}
+use Rattle.std.proofs.Common.{◌≡◌, ℕ, zero, suc, [], ◌∷◌, refl, ◌+◌, ◌-◌, ◌^◌, ◌<◌, List, Option, Some, None, Bool, true, false, map, length, get_or, set, replicate, sym, ap, ◌∙◌, arith}
+use Rattle.std.proofs.lemmas.List.{map-set, length-set, length-map, length-replicate}
 use Rattle.std.specs.Prelude.{IsSome}
 use Rattle.geometry.specs.declared.owner.Owner.{Owner}
 use Rattle.geometry.specs.declared.owner.Summary.{Summary}
@@ -89,8 +89,9 @@ module _ (bits : List Bool) (summaries : List Summary) (count : ℕ) (law : AreV
 
   pub next_valid : (from : ℕ) (place : Option ℕ) → IsFirstTrue bits from place → IsNextValid shown from place
   next_valid from None none = λ o le. not_set _ (sym (bit_is o) ∙ none o le)
-  next_valid from (Some o) found =
-      (found.0,
-       (let e = ap length law.bits_are in let l = length-map shown is_set in let w = found.1 in omega arith),
-       is_some_of _ (sym (bit_is o) ∙ found.2),
-       λ p le lt. not_set _ (sym (bit_is p) ∙ found.3 p le lt))
+  next_valid from (Some o) found = (
+    found.0,
+    (let e = ap length law.bits_are in let l = length-map shown is_set in let w = found.1 in omega arith),
+    is_some_of _ (sym (bit_is o) ∙ found.2),
+    λ p le lt. not_set _ (sym (bit_is p) ∙ found.3 p le lt),
+  )

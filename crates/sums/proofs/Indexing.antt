@@ -1,7 +1,7 @@
 -- Facts of each item of a list at its index: a push, a pop, a change, and the list turned round.
-use Rattle.std.proofs.Common.{◌≡◌, ℕ, ◌+◌, ◌-◌, ◌<◌, ◌≤◌, List, [], ◌∷◌, ◌++◌, length, get_or, set, reverse, refl, sym, ap, ◌∙◌, subst, ⊎_elim, arith}
+use Rattle.std.proofs.Common.{◌≡◌, ℕ, ◌-◌, ◌<◌, List, [], ◌∷◌, ◌++◌, length, get_or, set, reverse, refl, sym, ap, ◌∙◌, subst, ⊎_elim, arith}
 use Rattle.std.proofs.lemmas.Bool.{cases_lt}
-use Rattle.std.proofs.lemmas.List.{length-append, length-set, get_or_append_left, get_or-append-add, get_or-append_right, get_or-set_same, get_or-set_other, get_or-reverse, length-reverse}
+use Rattle.std.proofs.lemmas.List.{length-append, length-set, get_or_append_left, get_or-append_right, get_or-set_same, get_or-set_other, get_or-reverse, length-reverse}
 use mathlib.Core.Logic.{dite}
 use native.Mathlib.Decide.{ℕ_discrete}
 
@@ -26,23 +26,23 @@ module _ {A : Type 0} where
   each_push P xs x each here k other within = ⊎_elim
       (λ low. subst (P k) (sym (get_or_append_left xs (x ∷ []) other k low)) (each k other low))
       (λ high.
-        let long = length-append xs (x ∷ []) in
-        let last : k ≡ length xs = omega arith in
-        let zero_is : k - length xs ≡ 0 = omega arith in
-        let at : get_or (xs ++ x ∷ []) k other ≡ x = get_or-append_right xs (x ∷ []) (length xs) k other refl high ∙ ap (λ i. get_or (x ∷ []) i other) zero_is in
-        subst (P k) (sym at) (subst (λ i. P i x) (sym last) here))
+      let long = length-append xs (x ∷ []) in
+      let last : k ≡ length xs = omega arith in
+      let zero_is : k - length xs ≡ 0 = omega arith in
+      let at : get_or (xs ++ x ∷ []) k other ≡ x = get_or-append_right xs (x ∷ []) (length xs) k other refl high ∙ ap (λ i. get_or (x ∷ []) i other) zero_is in
+      subst (P k) (sym at) (subst (λ i. P i x) (sym last) here))
       (cases_lt k (length xs))
 
   pub each_set : (P : ℕ → A → Type 0) (xs : List A) (i : ℕ) (x : A) → EachAt P xs → P i x → EachAt P (set xs i x)
   each_set P xs i x each here k other within =
       let long = length-set xs i x in
       dite (ℕ_discrete k i)
-        (λ same. subst (λ j. P j (get_or (set xs i x) j other)) (sym same) (subst (P i) (sym (get_or-set_same xs i x other (omega arith))) here))
-        (λ apart. subst (P k) (sym (get_or-set_other xs i k x other apart)) (each k other (omega arith)))
+      (λ same. subst (λ j. P j (get_or (set xs i x) j other)) (sym same) (subst (P i) (sym (get_or-set_same xs i x other (omega arith))) here))
+      (λ apart. subst (P k) (sym (get_or-set_other xs i k x other apart)) (each k other (omega arith)))
 
   pub each_reverse : (P Q : ℕ → A → Type 0) (xs : List A) (n : ℕ) → length xs ≡ n → ((k : ℕ) (x : A) → k < n → P (n - 1 - k) x → Q k x) → EachAt P xs → EachAt Q (reverse xs)
   each_reverse P Q xs n count turn each k other within =
       let long = length-reverse xs in
       let place : length xs - 1 - k ≡ n - 1 - k = omega arith in
       turn k (get_or (reverse xs) k other) (omega arith)
-        (subst (P (n - 1 - k)) (sym (get_or-reverse xs k other (omega arith) ∙ ap (λ i. get_or xs i other) place)) (each (n - 1 - k) other (omega arith)))
+      (subst (P (n - 1 - k)) (sym (get_or-reverse xs k other (omega arith) ∙ ap (λ i. get_or xs i other) place)) (each (n - 1 - k) other (omega arith)))

@@ -1,5 +1,5 @@
 -- The valid blocks of the segments, where one stands, and what a change of a segment leaves.
-use Rattle.std.proofs.Common.{◌≡◌, ◌⊎◌, inl, inr, ⊎_elim, ℕ, zero, suc, ◌+◌, ◌-◌, ◌*◌, ◌<◌, ◌≤◌, List, [], ◌∷◌, ◌++◌, Option, Some, None, if◌then◌else◌, length, get_or, set, refl, sym, ap, subst, ◌∙◌, arith}
+use Rattle.std.proofs.Common.{◌≡◌, ◌⊎◌, inl, inr, ⊎_elim, ℕ, zero, suc, ◌+◌, ◌*◌, ◌<◌, ◌≤◌, List, [], ◌∷◌, ◌++◌, Option, Some, None, if◌then◌else◌, length, get_or, set, refl, sym, ap, subst, ◌∙◌, arith}
 use Rattle.std.proofs.lemmas.List.{length-set, get_or_default, get_or-set_same, get_or-set_other}
 use mathlib.Core.Logic.{dite}
 use native.Mathlib.Decide.{ℕ_discrete}
@@ -67,6 +67,7 @@ find_segment m (s ∷ segments) some = go (times m (marks_of s)) refl (λ few. f
   where
     both : times m (marks_in (s ∷ segments)) ≡ times m (marks_of s) + times m (marks_in segments)
     both = weigh-append (λ y. if same_mark m y then 1 else 0) (marks_of s) (marks_in segments)
+
     go : (n : ℕ) → times m (marks_of s) ≡ n → (0 < times m (marks_in segments) → (k : ℕ) × (k < length segments) × ((other : Segment) → 0 < times m (marks_of (get_or segments k other))))
         → (k : ℕ) × (k < length (s ∷ segments)) × ((other : Segment) → 0 < times m (marks_of (get_or (s ∷ segments) k other)))
     go zero none rest = let e = both in let found = rest (omega arith) in (suc found.0, let w = found.1 in omega arith, found.2)
@@ -85,15 +86,19 @@ module _ (area : Area) (law : AreaLaw area) where
     where
       shape : Shape
       shape = area.geometry.shape
+
       go : ((k : ℕ) × (k < length area.segments) × ((other : Segment) → 0 < times m (marks_of (get_or area.segments k other)))) → StandsThere area.geometry area.segments m
       go (k, low, has) = at (found m (address_of first.shape first.number 0) first.summaries (has blank))
         where
           blank : Segment
           blank = fresh shape 0
+
           first : Segment
           first = get_or area.segments k blank
+
           is : IsSegmentOf area.geometry k first
           is = law.each k blank low
+
           at : StandsIn m (address_of first.shape first.number 0) first.summaries → StandsThere area.geometry area.segments m
           at (o, address, inside, named) =
               let place : o < segment_blocks shape = let s = is.sized in omega arith in
@@ -137,23 +142,26 @@ module _ (area : Area) (law : AreaLaw area) where
         log_stands = log_kept area.log law.log_stands;
         unopened = λ i other past inside. dite (ℕ_discrete i k)
             (λ same.
-              let free : s.state ≡ Free = ap (λ (x : Segment). x.state) (sym (before other)) ∙ ap (λ j. (get_or area.segments j other).state) (sym same) ∙ law.unopened i other past (omega arith) in
-              ap (λ j. (get_or (set area.segments k new) j other).state) same ∙ ap (λ (x : Segment). x.state) (get_or-set_same area.segments k new other low)
-              ∙ ⊎_elim (λ kept. kept.0 ∙ free) (λ sealed. absurd (let no : Free ≡ Sealed = sym free ∙ sealed in cc)) (fate s new o r released))
+            let free : s.state ≡ Free = ap (λ (x : Segment). x.state) (sym (before other)) ∙ ap (λ j. (get_or area.segments j other).state) (sym same) ∙ law.unopened i other past (omega arith) in
+            ap (λ j. (get_or (set area.segments k new) j other).state) same ∙ ap (λ (x : Segment). x.state) (get_or-set_same area.segments k new other low)
+            ∙ ⊎_elim (λ kept. kept.0 ∙ free) (λ sealed. absurd (let no : Free ≡ Sealed = sym free ∙ sealed in cc)) (fate s new o r released))
             (λ apart. ap (λ (x : Segment). x.state) (get_or-set_other area.segments k i new other apart) ∙ law.unopened i other past (omega arith));
         room = law.room;
       }
     where
       log_kept : (log : Option ℕ) → LogStands area.segments area.opened log → LogStands (set area.segments k new) area.opened log
       log_kept None stands = tt
-      log_kept (Some number) stands = (stands.0, λ other. dite (ℕ_discrete number k)
-          (λ same.
+      log_kept (Some number) stands = (
+        stands.0,
+        λ other. dite (ℕ_discrete number k)
+            (λ same.
             let place : HasPlace s = subst HasPlace (ap (λ j. get_or area.segments j other) same ∙ get_or_default area.segments k other s low ∙ sym is) (stands.1 other) in
             let new_place : HasPlace new = ⊎_elim
-                (λ kept. record { state = kept.0 ∙ place.state; place = let n = kept.1 in let b = ap segment_blocks (same_parts s new o r released).0 in let p = place.place in omega arith })
-                (λ sealed. absurd (let no : Open ≡ Sealed = sym place.state ∙ sealed in cc)) (fate s new o r released) in
+            (λ kept. record { state = kept.0 ∙ place.state; place = let n = kept.1 in let b = ap segment_blocks (same_parts s new o r released).0 in let p = place.place in omega arith })
+            (λ sealed. absurd (let no : Open ≡ Sealed = sym place.state ∙ sealed in cc)) (fate s new o r released) in
             subst HasPlace (sym (ap (λ j. get_or (set area.segments k new) j other) same ∙ get_or-set_same area.segments k new other low)) new_place)
-          (λ apart. subst HasPlace (sym (get_or-set_other area.segments k number new other apart)) (stands.1 other)))
+            (λ apart. subst HasPlace (sym (get_or-set_other area.segments k number new other apart)) (stands.1 other)),
+      )
 
 -- ---- without a valid block
 

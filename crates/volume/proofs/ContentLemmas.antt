@@ -1,7 +1,6 @@
 -- The files of a volume: what a change of one slot makes of a file, and of the valid blocks.
-use Rattle.std.proofs.Common.{◌≡◌, ◌≢◌, ◌⊎◌, inl, inr, ⊎_elim, ℕ, zero, suc, ◌+◌, ◌-◌, ◌<◌, ◌≤◌, max, List, [], ◌∷◌, ◌++◌, Option, Some, None, Bool, true, false, cond, ◌==◌, if◌then◌else◌, length, get_or, set, map, replicate, refl, sym, ap, subst, ◌∙◌, eq-eqb, ne_eqb, arith}
-use Rattle.std.proofs.lemmas.Bool.{cases_lt}
-use Rattle.std.proofs.lemmas.List.{length-set, get_or_default, get_or-set_same, get_or-set_other, length-append, length-map, map-set, get_or-map}
+use Rattle.std.proofs.Common.{◌≡◌, ◌≢◌, ℕ, zero, suc, ◌+◌, ◌-◌, ◌<◌, max, List, [], ◌∷◌, ◌++◌, Option, Some, None, true, false, cond, if◌then◌else◌, length, get_or, set, map, replicate, refl, sym, ap, subst, ◌∙◌, eq-eqb, ne_eqb, arith}
+use Rattle.std.proofs.lemmas.List.{length-set, get_or-set_same, get_or-set_other, length-map, map-set, get_or-map}
 use Rattle.std.specs.Prelude.{unwrap_or, is_some, MatchOption}
 use Rattle.std.specs.Ordering.{nat_cmp, eq_by_cmp}
 use Rattle.std.specs.Cmp.{unsigned_tied}
@@ -123,9 +122,9 @@ get_there a (Some ticket ∷ slots) q (suc k) at = kept (blocks_from (suc a) slo
 pub blocks_from-set : (slots : List (Option Placed)) (i : ℕ) (ticket : Placed) → i < length slots → blocks_from 0 (set slots i (Some ticket)) ≡ insert (blocks_from 0 slots) i ticket.content
 blocks_from-set slots i ticket low = same_map nat_cmp_total nat_cmp-IsAntisymmetric _ _ (λ q. dite (ℕ_discrete q i)
     (λ same. get_there 0 (set slots i (Some ticket)) q q (omega arith) ∙ ap content_at (ap (λ k. get_or (set slots i (Some ticket)) k None) same ∙ get_or-set_same slots i (Some ticket) None low)
-      ∙ sym (got (blocks_from 0 slots) i ticket.content q same))
+    ∙ sym (got (blocks_from 0 slots) i ticket.content q same))
     (λ apart. get_there 0 (set slots i (Some ticket)) q q (omega arith) ∙ ap content_at (get_or-set_other slots i q (Some ticket) None apart)
-      ∙ sym (kept (blocks_from 0 slots) i ticket.content q apart ∙ get_there 0 slots q q (omega arith))))
+    ∙ sym (kept (blocks_from 0 slots) i ticket.content q apart ∙ get_there 0 slots q q (omega arith))))
 
 pub file_of-put : (inode : Inode) (i : ℕ) (ticket : Placed) → i < length inode.slots
     → file_of (record inode { length = max inode.length (i + 1); slots = set inode.slots i (Some ticket) }) ≡ written (file_of inode) i ticket.content
@@ -169,7 +168,7 @@ files-count (x ∷ inodes) =
 pub whole_set : (bytes : ℕ) (slots : List (Option Placed)) (i : ℕ) (ticket : Placed) → i < length slots → AreWhole bytes slots → length ticket.content ≡ bytes → AreWhole bytes (set slots i (Some ticket))
 whole_set bytes slots i ticket low whole long j t at = dite (ℕ_discrete j i)
     (λ same. let is : Some ticket ≡ Some t = sym (get_or-set_same slots i (Some ticket) None low) ∙ ap (λ k. get_or (set slots i (Some ticket)) k None) (sym same) ∙ at in
-      ap (λ (o : Option Placed). length (unwrap_or o ticket).content) (sym is) ∙ long)
+    ap (λ (o : Option Placed). length (unwrap_or o ticket).content) (sym is) ∙ long)
     (λ apart. whole j t (sym (get_or-set_other slots i j (Some ticket) None apart) ∙ at))
 
 pub whole_none : (bytes n : ℕ) → AreWhole bytes (replicate n None)

@@ -1,22 +1,14 @@
 -- Blocks come into segments, the last segment first, and out of them, the first segment first.
-use Rattle.std.proofs.Common.{◌≡◌, ℕ, zero, suc, ◌+◌, ◌-◌, ◌*◌, ◌<◌, ◌≤◌, List, [], ◌∷◌, ◌++◌, length, get_or, set, reverse, replicate, refl, sym, ap, ◌∙◌, subst, arith}
-use Rattle.std.proofs.lemmas.List.{length-append, length-set, length-replicate}
+use Rattle.std.proofs.Common.{◌≡◌, ℕ, ◌+◌, ◌-◌, ◌*◌, ◌≤◌, List, [], ◌∷◌, ◌++◌, length, sym, ap, ◌∙◌, subst, arith}
+use Rattle.std.proofs.lemmas.List.{length-append}
 use Rattle.device.specs.Parts.{IsBlockRun}
-use Rattle.geometry.specs.declared.geometry.Geometry.{Geometry}
 use Rattle.geometry.specs.declared.shape.Shape.{Shape}
-use Rattle.geometry.specs.declared.owner.Mark.{Mark}
 use Rattle.geometry.specs.Shape.{segment_blocks, block_bytes}
 use Rattle.geometry.specs.Address.{address_of}
-use Rattle.geometry.specs.Area.{block_count}
-use Rattle.sums.specs.Weights.{weigh, SameItems}
-use Rattle.sums.proofs.Weighing.{weigh-append, weigh-at}
-use Rattle.sums.proofs.Indexing.{EachAt, each_front, each_last, each_push, each_reverse}
+use Rattle.sums.proofs.Indexing.{each_front, each_last, each_push}
 use Rattle.sit.specs.Room.{RoomOf}
-use Rattle.sit.specs.Summaries.{count_of, marks_from}
-use Rattle.sit.specs.Segment.{Segment, fresh, opened, marks_of}
-use Rattle.sit.proofs.Marks.{marks_count, none_from}
-use Rattle.volume.specs.Area.{Area, AreaLaw, marks_in}
-use Rattle.volume.specs.Rooms.{AreRooms, FallFrom, AreFresh, AreOpened, AreEmpty, IsEmpty}
+use Rattle.sit.specs.Segment.{Segment, fresh}
+use Rattle.volume.specs.Rooms.{AreRooms, FallFrom, AreEmpty, IsEmpty}
 
 abbrev pub room_of : Shape → ℕ → RoomOf
 room_of shape number = record { shape = shape; number = number }
@@ -43,8 +35,8 @@ module _ {B : Type 0} (block_address : B → ℕ) (content_of : B → List ℕ) 
     pub room_last : address_of room.shape room.number (segment_blocks room.shape) ≡ 1 + length blocks
     room_last =
         let last : address_of shape (length rest) (segment_blocks shape) ≡ 1 + length blocks = let s = shorter in let l = is.left in
-          let more : (length rest + 1) * segment_blocks shape ≡ length rest * segment_blocks shape + segment_blocks shape = omega arith in
-          let here = ap (λ n. n * segment_blocks shape) s in omega arith in
+        let more : (length rest + 1) * segment_blocks shape ≡ length rest * segment_blocks shape + segment_blocks shape = omega arith in
+        let here = ap (λ n. n * segment_blocks shape) s in omega arith in
         ap (λ (r : RoomOf). address_of r.shape r.number (segment_blocks r.shape)) room_is ∙ last
 
     pub filling_goes_on : (segment : Segment) (blocks' : List B) → segment ≡ fresh room.shape room.number → IsBlockRun block_address content_of (block_bytes room.shape) 1 blocks'
@@ -95,8 +87,8 @@ module _ {B : Type 0} (block_address : B → ℕ) (content_of : B → List ℕ) 
           run = subst (λ s. IsBlockRun block_address content_of (block_bytes s) 1 blocks') e.shape_is run;
           few = omega arith;
           moved =
-            let m = is.moved in
-            let size = ap segment_blocks e.shape_is in
-            let next : count - length rest ≡ count - length segments + 1 = omega arith in
-            let here = ap (λ n. n * segment_blocks shape) next in omega arith;
+              let m = is.moved in
+              let size = ap segment_blocks e.shape_is in
+              let next : count - length rest ≡ count - length segments + 1 = omega arith in
+              let here = ap (λ n. n * segment_blocks shape) next in omega arith;
         }

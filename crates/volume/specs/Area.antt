@@ -1,11 +1,11 @@
 -- The main area of a volume: its segments, and the log that appends to them.
-use Rattle.std.specs.Prelude.{◌≡◌, ℕ, ◌<◌, ◌≤◌, List, [], ◌∷◌, ◌++◌, length, slice_index_or, Option, Some, None, Bool, true, false}
+use Rattle.std.specs.Prelude.{◌≡◌, ℕ, ◌<◌, ◌≤◌, List, [], ◌∷◌, ◌++◌, length, slice_index_or, Option, Some, None, Bool, false}
 use Rattle.geometry.specs.declared.geometry.Geometry.{Geometry}
-use Rattle.geometry.specs.declared.state.State.TheVariants.{Free, Open, Sealed}
+use Rattle.geometry.specs.declared.state.State.TheVariants.{Free, Open}
 use Rattle.geometry.specs.declared.owner.Mark.{Mark}
 use Rattle.geometry.specs.Shape.{segment_blocks}
 use Rattle.geometry.specs.Area.{block_count}
-use Rattle.sit.specs.Segment.{Segment, fresh, marks_of}
+use Rattle.sit.specs.Segment.{Segment, marks_of}
 
 -- the segments, the log's open one, how many segments have been opened, and for how many blocks there is room beside them
 pub record Area : Type 0 where

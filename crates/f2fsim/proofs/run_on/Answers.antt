@@ -1,4 +1,4 @@
-use Rattle.std.proofs.Common.{◌≡◌, ◌+◌, ◌<◌, ℕ, List, [], length, get_or, ap, sym, subst, ◌∙◌, arith}
+use Rattle.std.proofs.Common.{List, length, ap, sym, subst, arith}
 use Rattle.geometry.specs.File.{File}
 use Rattle.f2fsim.specs.Passes.{AreAllPasses}
 use Rattle.f2fsim.proofs.run_on.Goals as goal

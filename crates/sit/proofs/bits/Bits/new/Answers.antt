@@ -1,6 +1,6 @@
-use Rattle.std.proofs.Common.{rules, ◌≡◌, ◌+◌, ◌*◌, ◌<◌, ◌≤◌, replicate, sym, ap, ◌∙◌, subst, arith}
-use Rattle.sit.specs.Bits.{bits_of, IsBits}
-use Rattle.sit.proofs.BitLemmas.{bits_of-clear, clear-IsBits}
+use Rattle.std.proofs.Common.{rules, ◌≡◌, replicate, ap, ◌∙◌}
+use Rattle.sit.specs.Bits.{bits_of}
+use Rattle.sit.proofs.BitLemmas.{bits_of-clear}
 use Rattle.sit.proofs.bits.Bits.new.Goals as goal
 
 pub returns-clause-ok : goal.returns-clause-ok

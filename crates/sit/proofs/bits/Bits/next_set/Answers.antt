@@ -1,6 +1,6 @@
-use Rattle.std.proofs.Common.{◌≡◌, ◌+◌, ◌-◌, ◌*◌, ◌<◌, ◌≤◌, ℕ, Some, None, length, get_or, subst, arith}
+use Rattle.std.proofs.Common.{◌+◌, ◌*◌, Some, None, length, subst, arith}
 use Rattle.std.proofs.lemmas.List.{get_or_read_under}
-use Rattle.sit.specs.Bits.{is_bit, IsFirstTrue}
+use Rattle.sit.specs.Bits.{IsFirstTrue}
 use Rattle.sit.proofs.BitLemmas.{found_within, found_first, none_more, none_left}
 use Rattle.sit.proofs.bits.Bits.next_set.Goals as goal
 
@@ -22,7 +22,7 @@ returns-in-Some c =
     let end = c.len-index-end.ensures in
     let word = get_or_read_under words i (length words) c.index.result.now 0 c.index.ensures (omega arith) (λ k. length words) in
     subst (λ bits. IsFirstTrue bits c.args.from (Some (64 * i + c.in-Some.place))) c.self.view_is
-      (found_first words c.args.from i c.index.result.now c.saturating_sub-first.result word c.saturating_sub-first.ensures c.loop-index.invariant c.self.inside.len c.in-Some.place c.self.invariant c.in-Some.ensures)
+    (found_first words c.args.from i c.index.result.now c.saturating_sub-first.result word c.saturating_sub-first.ensures c.loop-index.invariant c.self.inside.len c.in-Some.place c.self.invariant c.in-Some.ensures)
 
 pub loop-index-preserved : goal.loop-index-preserved
 loop-index-preserved c =
@@ -39,4 +39,4 @@ returns c =
     let test = c.loop-index-test.false in
     let end = c.len-index-end.ensures in
     subst (λ bits. IsFirstTrue bits c.args.from None) c.self.view_is
-      (none_left words c.self.inside.len c.args.from c.self.invariant (λ o past low. c.loop-index.invariant o past (omega arith)))
+    (none_left words c.self.inside.len c.args.from c.self.invariant (λ o past low. c.loop-index.invariant o past (omega arith)))

@@ -1,4 +1,4 @@
-use Rattle.std.proofs.Common.{◌≡◌, ◌*◌, ◌/◌, ◌%◌, ◌<◌, ℕ, List, Bool, true, length, get_or, sym, ap, ◌∙◌, set, arith}
+use Rattle.std.proofs.Common.{◌≡◌, ◌*◌, ◌/◌, ◌%◌, ◌<◌, List, Bool, true, length, ap, ◌∙◌, set, arith}
 use Rattle.std.proofs.lemmas.List.{get_or_read_under}
 use Rattle.sit.specs.Bits.{bits_of}
 use Rattle.sit.proofs.BitLemmas.{turns_set, bits_of-turned, turned-IsBits, length-bits_of}

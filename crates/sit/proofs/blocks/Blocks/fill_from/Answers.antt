@@ -1,4 +1,4 @@
-use Rattle.std.proofs.Common.{◌≡◌, length, arith}
+use Rattle.std.proofs.Common.{length, arith}
 use Rattle.sit.proofs.Filling.{filling_ends}
 use Rattle.sit.proofs.blocks.Blocks.fill_from.Goals as goal
 

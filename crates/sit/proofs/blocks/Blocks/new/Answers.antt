@@ -1,4 +1,4 @@
-use Rattle.std.proofs.Common.{◌≡◌, ℕ, List, Option, Bool, ap, ◌∙◌, false, None, map, replicate, arith}
+use Rattle.std.proofs.Common.{◌≡◌, ap, ◌∙◌, false, None, map, replicate, arith}
 use Rattle.std.specs.Prelude.{is_some}
 use Rattle.sit.proofs.Lists.{map_replicate}
 use Rattle.sit.proofs.blocks.Blocks.new.Goals as goal
@@ -9,5 +9,5 @@ returns-clause-ok g c =
     let test = c.loop-place-test.false in
     let count : c.loop-place._place ≡ c.args.count = omega arith in
     let present : map is_some c.loop-place.blocks.items ≡ replicate c.args.count false =
-        ap (map is_some) (c.loop-place.invariant.0 ∙ ap (λ n. replicate n None) count) ∙ map_replicate is_some c.args.count None in
+    ap (map is_some) (c.loop-place.invariant.0 ∙ ap (λ n. replicate n None) count) ∙ map_replicate is_some c.args.count None in
     λ i. record { first = c.args.first; block_bytes = c.args.block_bytes; present = present i }

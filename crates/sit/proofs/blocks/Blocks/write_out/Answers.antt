@@ -1,4 +1,4 @@
-use Rattle.std.proofs.Common.{◌≡◌, ◌+◌, false, true, get_or, set, ap, ◌∙◌}
+use Rattle.std.proofs.Common.{false, true, ap, ◌∙◌}
 use Rattle.sit.proofs.Lists.{set-back}
 use Rattle.sit.proofs.Homes.{home_of, home_set}
 use Rattle.sit.proofs.blocks.Blocks.write_out.Goals as goal

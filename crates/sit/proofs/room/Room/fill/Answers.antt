@@ -1,4 +1,4 @@
-use Rattle.std.proofs.Common.{◌≡◌, ℕ, List, Option, Bool, None, ap, sym, ◌∙◌, subst, length, replicate, true, false}
+use Rattle.std.proofs.Common.{List, Option, Bool, ap, sym, ◌∙◌, subst, length, replicate, true, false}
 use Rattle.std.proofs.lemmas.List.{length-replicate}
 use Rattle.geometry.specs.declared.owner.Owner.{Owner}
 use Rattle.geometry.specs.declared.state.State.TheVariants.{Free}
@@ -14,6 +14,6 @@ invariant_of-result g c =
     let r = c.self.inside in
     let n = segment_blocks r.shape in
     let home = c.fill_from.ensures.home ∙ ap (λ h. home_of h.first h.block_bytes (replicate (length h.present) true)) c.self.invariant.home_is
-        ∙ ap (λ k. home_of (address_of r.shape r.number 0) (block_bytes r.shape) (replicate k true)) (length-replicate {A = Bool} n false) in
+    ∙ ap (λ k. home_of (address_of r.shape r.number 0) (block_bytes r.shape) (replicate k true)) (length-replicate {A = Bool} n false) in
     subst (λ (ss : List (Option Owner)). SegmentLaw (record { shape = r.shape; number = r.number; state = Free; summaries = ss; mtime = 0; next = 0 }) c.fill_from.new.self)
-      (sym c.self.invariant.unmarked) (fresh-law r.shape r.number c.fill_from.new.self home)
+    (sym c.self.invariant.unmarked) (fresh-law r.shape r.number c.fill_from.new.self home)

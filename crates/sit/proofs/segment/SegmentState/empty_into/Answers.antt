@@ -1,4 +1,4 @@
-use Rattle.std.proofs.Common.{◌≡◌, ℕ, List, Option, Bool, ap, sym, ◌∙◌, map, length, replicate, true}
+use Rattle.std.proofs.Common.{◌≡◌, ap, sym, ◌∙◌, map, length, replicate, true}
 use Rattle.std.proofs.lemmas.List.{length-map}
 use Rattle.sit.specs.Summaries.{is_clear, count_of}
 use Rattle.sit.specs.Segment.{Segment}

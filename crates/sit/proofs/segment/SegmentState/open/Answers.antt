@@ -1,4 +1,4 @@
-use Rattle.std.proofs.Common.{◌≡◌, ap, ◌∙◌}
+use Rattle.std.proofs.Common.{ap, ◌∙◌}
 use Rattle.sit.proofs.Laws.{opened-law}
 use Rattle.sit.proofs.segment.SegmentState.open.Goals as goal
 

@@ -1,4 +1,4 @@
-use Rattle.std.proofs.Common.{◌≡◌, ◌+◌, ◌≤◌, ◌<◌, ℕ, List, Option, None, true, ◌∙◌, ap, sym, subst, set, length, get_or, arith}
+use Rattle.std.proofs.Common.{◌≡◌, ◌<◌, List, Option, None, true, ◌∙◌, ap, sym, subst, set, length, get_or, arith}
 use Rattle.geometry.specs.declared.owner.Owner.{Owner}
 use Rattle.sit.specs.Summaries.{is_set}
 use Rattle.sit.proofs.ValidLemmas.{clear_count, valid_clear, shown_cleared}

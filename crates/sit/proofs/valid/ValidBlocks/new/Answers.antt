@@ -1,4 +1,4 @@
-use Rattle.std.proofs.Common.{rules, ◌≡◌, ◌∙◌, ap, sym, subst, false, replicate, map, List, Bool}
+use Rattle.std.proofs.Common.{rules, ◌≡◌, ◌∙◌, ap, sym, subst, replicate, map, List, Bool}
 use Rattle.geometry.specs.Summary.{owner_in}
 use Rattle.geometry.specs.declared.owner.Summary.{Summary}
 use Rattle.sit.specs.Valid.{AreValid}

@@ -7,4 +7,4 @@ pub returns : goal.returns
 returns c =
     let v = c.self.inside in
     subst (λ ss. IsNextValid ss c.args.from c.next_set.result) c.self.view_is
-      (next_valid v.bits v.summaries.items v.count c.self.invariant c.args.from c.next_set.result c.next_set.ensures)
+    (next_valid v.bits v.summaries.items v.count c.self.invariant c.args.from c.next_set.result c.next_set.ensures)

@@ -1,4 +1,4 @@
-use Rattle.std.proofs.Common.{◌≡◌, ◌+◌, ◌≤◌, ◌<◌, ◌^◌, ℕ, List, Option, Some, None, ◌∙◌, ap, sym, subst, map, set, length, get_or, arith}
+use Rattle.std.proofs.Common.{◌≡◌, ◌+◌, ◌<◌, List, Option, Some, None, ◌∙◌, ap, sym, subst, map, set, length, get_or, arith}
 use Rattle.geometry.specs.declared.owner.Owner.{Owner}
 use Rattle.geometry.specs.declared.owner.Summary.{Summary}
 use Rattle.geometry.specs.Summary.{owner_in}
@@ -20,7 +20,7 @@ invariant_of-self c =
     let within = subst (λ (ss : List (Option Owner)). c.args.offset < length ss) (sym c.self.view_is) c.requires.within in
     let clear = subst (λ (ss : List (Option Owner)). get_or ss c.args.offset None ≡ None) (sym c.self.view_is) c.requires.clear in
     subst (λ (s : Summary). AreValid c.set.new.self (set v.summaries.items c.args.offset s) (v.count + 1)) (sym c.of.ensures)
-      (valid_set v.bits v.summaries.items v.count c.self.invariant c.args.offset c.args.owner within clear c.requires.owner c.set.new.self c.set.ensures)
+    (valid_set v.bits v.summaries.items v.count c.self.invariant c.args.offset c.args.owner within clear c.requires.owner c.set.new.self c.set.ensures)
 
 pub returns-clause-set : goal.returns-clause-set
 returns-clause-set c =

@@ -1,4 +1,4 @@
-use Rattle.std.proofs.Common.{◌≡◌, ◌+◌, ◌<◌, ◌≤◌, ◌∷◌, Some, length, set, ap, subst, ◌∙◌, arith}
+use Rattle.std.proofs.Common.{◌≡◌, ◌<◌, Some, length, ap, subst, ◌∙◌, arith}
 use Rattle.sums.specs.Weights.{weigh}
 use Rattle.volume.specs.Area.{Area, marks_in, LogStands}
 use Rattle.volume.proofs.AreaLemmas.{marks_more}
@@ -14,6 +14,6 @@ returns-clause-marks g c =
     let some = c.self.invariant.0.some in
     let low = stands.0 in
     let within : number < length segments = omega arith in λ weight.
-      let more = marks_more segments number c.index_mut.result.now c.append_to.new.segment c.in_ok-ticket.ticket.mark within c.index_mut.ensures.value c.in_ok-ticket.ensures.marks weight in
-      let before = c.in_ok-number.ensures.marks weight in
-      let seen = ap (λ (x : Area). weigh weight (marks_in x.segments)) c.self.view_is in omega arith
+    let more = marks_more segments number c.index_mut.result.now c.append_to.new.segment c.in_ok-ticket.ticket.mark within c.index_mut.ensures.value c.in_ok-ticket.ensures.marks weight in
+    let before = c.in_ok-number.ensures.marks weight in
+    let seen = ap (λ (x : Area). weigh weight (marks_in x.segments)) c.self.view_is in omega arith

@@ -1,4 +1,4 @@
-use Rattle.std.proofs.Common.{◌≡◌, ◌<◌, ◌≤◌, length, set, ap, subst, ◌∙◌, arith}
+use Rattle.std.proofs.Common.{◌<◌, length, set, ap, subst, arith}
 use Rattle.sums.specs.Weights.{SameItems}
 use Rattle.sit.specs.Segment.{marks_of}
 use Rattle.volume.specs.Area.{Area, marks_in}
@@ -13,4 +13,4 @@ returns-clause-marks g c =
     let not_all = c.if-self.false in
     let within : a.opened < length a.segments.items = omega arith in
     subst (λ (x : Area). SameItems (marks_in x.segments) (marks_in (set a.segments.items a.opened c.open.new.self))) c.self.view_is
-      (marks_kept a.segments.items a.opened c.index_mut.result.now c.open.new.self within c.index_mut.ensures.value (ap marks_of c.open.ensures))
+    (marks_kept a.segments.items a.opened c.index_mut.result.now c.open.new.self within c.index_mut.ensures.value (ap marks_of c.open.ensures))

@@ -1,11 +1,10 @@
-use Rattle.std.proofs.Common.{◌≡◌, ◌<◌, ◌≤◌, ◌∷◌, Some, None, length, get_or, set, sym, ap, subst, ◌∙◌, arith}
-use Rattle.geometry.specs.Area.{block_count}
+use Rattle.std.proofs.Common.{◌≡◌, ◌<◌, None, length, get_or, sym, ap, subst, ◌∙◌, arith}
 use Rattle.geometry.specs.Address.{segment_of, offset_of}
-use Rattle.sums.specs.Weights.{weigh, SameItems}
+use Rattle.sums.specs.Weights.{weigh}
 use Rattle.sit.specs.Segment.{Segment}
 use Rattle.sit.specs.Summaries.{times}
 use Rattle.volume.specs.Area.{Area, marks_in}
-use Rattle.volume.proofs.AreaLemmas.{StandsThere, stands_there, released-law, marks_less}
+use Rattle.volume.proofs.AreaLemmas.{stands_there, released-law, marks_less}
 use Rattle.volume.proofs.area.MainArea.release.Goals as goal
 
 pub segment_of-number-requires : goal.segment_of-number-requires
@@ -47,5 +46,5 @@ returns-clause-marks g c =
     let a = c.self.inside in
     let counted = c.self.invariant.0.counted in
     let low = c.segment_of-number.ensures.within in λ weight.
-      marks_less a.segments.items c.segment_of-number.result c.index_mut.result.now c.release.new.self c.args.ticket.mark (omega arith) c.index_mut.ensures.value c.release.ensures.marks weight
-      ∙ ap (λ (x : Area). weigh weight (marks_in x.segments)) c.self.view_is
+    marks_less a.segments.items c.segment_of-number.result c.index_mut.result.now c.release.new.self c.args.ticket.mark (omega arith) c.index_mut.ensures.value c.release.ensures.marks weight
+    ∙ ap (λ (x : Area). weigh weight (marks_in x.segments)) c.self.view_is

@@ -1,4 +1,4 @@
-use Rattle.std.proofs.Common.{◌≡◌, ◌+◌, ◌*◌, ◌^◌, ◌<◌, ◌≤◌, List, length, ap, subst, ◌∙◌, arith}
+use Rattle.std.proofs.Common.{List, length, ap, arith}
 use Rattle.sums.proofs.Weighing.{weigh-take}
 use Rattle.sit.specs.Segment.{Segment}
 use Rattle.sit.specs.Summaries.{count_of}

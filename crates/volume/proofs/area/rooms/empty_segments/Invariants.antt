@@ -1,4 +1,4 @@
-use Rattle.std.proofs.Common.{◌≡◌, ◌≤◌, vec_len, vec_capacity}
+use Rattle.std.proofs.Common.{◌≤◌, vec_len, vec_capacity}
 use Rattle.geometry.specs.Area.{block_count}
 use Rattle.volume.proofs.RoomLemmas.{Emptying}
 use Rattle.volume.proofs.area.rooms.empty_segments.Given as goal

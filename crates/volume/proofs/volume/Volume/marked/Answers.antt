@@ -1,4 +1,4 @@
-use Rattle.std.proofs.Common.{◌≡◌, ap, sym, ◌∙◌}
+use Rattle.std.proofs.Common.{ap, sym, ◌∙◌}
 use Rattle.std.specs.FinMap.{len}
 use Rattle.geometry.specs.File.{File}
 use Rattle.sums.specs.Weights.{weigh}

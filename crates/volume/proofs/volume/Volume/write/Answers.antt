@@ -1,10 +1,8 @@
-use Rattle.std.proofs.Common.{◌≡◌, ◌+◌, ◌-◌, ◌<◌, ◌≤◌, max, ℕ, List, Some, None, length, map, get_or, set, ap, sym, subst, ◌∙◌, arith}
+use Rattle.std.proofs.Common.{◌+◌, ◌-◌, ◌<◌, max, ℕ, List, length, ap, sym, ◌∙◌, arith}
 use Rattle.geometry.specs.declared.geometry.Geometry.{Geometry}
 use Rattle.geometry.specs.Area.{meta_bytes}
 use Rattle.geometry.specs.Shape.{block_bytes}
-use Rattle.geometry.specs.File.{File}
 use Rattle.volume.specs.Area.{marks_in}
-use Rattle.volume.specs.Contents.{file_of}
 use Rattle.volume.specs.Volume.{Volume, slots_used}
 use Rattle.volume.proofs.ContentLemmas.{place_of, law_each, put-law, put_first, put_again, before_valid, files-put}
 use Rattle.volume.proofs.volume.Volume.write.Goals as goal
@@ -23,7 +21,7 @@ release-requires-clause-valid g c =
     let inside : c.args.index < slots_used = let near = c.if-index-ge-SLOTS_USED.false in omega arith in
     let place : c.args.index < length file.slots = omega arith in
     before_valid (marks_in v.area.segments) (marks_in c.append.new.self.segments) (marks_in c.append.new.self.segments) inodes k c.args.index file c.in_ok-ticket.ticket (max file.length (c.args.index + 1))
-      c.self.invariant.0.balance low is place c.in_ok-ticket.ensures.marks c.in-Some.before (sym c.in-Some.ensures.before)
+    c.self.invariant.0.balance low is place c.in_ok-ticket.ensures.marks c.in-Some.before (sym c.in-Some.ensures.before)
 
 pub release-requires-clause-bytes : goal.release-requires-clause-bytes
 release-requires-clause-bytes g c =
@@ -56,9 +54,10 @@ invariant_of-self-in-Some g c =
     let long = ap (λ (xs : List ℕ). length xs) c.in_ok-ticket.ensures.content ∙ c.if-bytes-block_bytes.false ∙ c.block_bytes.ensures ∙ ap (λ (x : Geometry). block_bytes x.shape) c.geometry.ensures in
     let geometry = c.release.ensures.geometry ∙ c.in_ok-ticket.ensures.geometry in
     let balance = put_again (marks_in v.area.segments) (marks_in c.append.new.self.segments) (marks_in c.release.new.self.segments) inodes k c.args.index file c.in_ok-ticket.ticket (max file.length (c.args.index + 1))
-        c.self.invariant.0.balance low is place c.in_ok-ticket.ensures.marks c.in-Some.before (sym c.in-Some.ensures.before) c.release.ensures.marks in
-    (put-law v.area c.release.new.self inodes k c.args.index file c.put-before.new.self c.in_ok-ticket.ticket c.self.invariant.0 low is inside geometry long c.in-Some.ensures.file balance,
-     c.self.invariant.1 ∙ ap meta_bytes (sym geometry))
+    c.self.invariant.0.balance low is place c.in_ok-ticket.ensures.marks c.in-Some.before (sym c.in-Some.ensures.before) c.release.ensures.marks in (
+      put-law v.area c.release.new.self inodes k c.args.index file c.put-before.new.self c.in_ok-ticket.ticket c.self.invariant.0 low is inside geometry long c.in-Some.ensures.file balance,
+      c.self.invariant.1 ∙ ap meta_bytes (sym geometry),
+    )
 
 pub invariant_of-self-in_default : goal.invariant_of-self-in_default
 invariant_of-self-in_default g c =
@@ -76,9 +75,10 @@ invariant_of-self-in_default g c =
     let long = ap (λ (xs : List ℕ). length xs) c.in_ok-ticket.ensures.content ∙ c.if-bytes-block_bytes.false ∙ c.block_bytes.ensures ∙ ap (λ (x : Geometry). block_bytes x.shape) c.geometry.ensures in
     let geometry = c.in_ok-ticket.ensures.geometry in
     let balance = put_first (marks_in v.area.segments) (marks_in c.append.new.self.segments) (marks_in c.append.new.self.segments) inodes k c.args.index file c.in_ok-ticket.ticket (max file.length (c.args.index + 1))
-        c.self.invariant.0.balance low is place c.in_ok-ticket.ensures.marks (sym c.in_default.ensures.before) in
-    (put-law v.area c.append.new.self inodes k c.args.index file c.put-before.new.self c.in_ok-ticket.ticket c.self.invariant.0 low is inside geometry long c.in_default.ensures.file balance,
-     c.self.invariant.1 ∙ ap meta_bytes (sym geometry))
+    c.self.invariant.0.balance low is place c.in_ok-ticket.ensures.marks (sym c.in_default.ensures.before) in (
+      put-law v.area c.append.new.self inodes k c.args.index file c.put-before.new.self c.in_ok-ticket.ticket c.self.invariant.0 low is inside geometry long c.in_default.ensures.file balance,
+      c.self.invariant.1 ∙ ap meta_bytes (sym geometry),
+    )
 
 pub returns-in-Some-clause-file : goal.returns-in-Some-clause-file
 returns-in-Some-clause-file g c =

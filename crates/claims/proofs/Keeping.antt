@@ -1,0 +1,60 @@
+-- What a step, a cut and a join of holders keep.
+use Rattle.std.proofs.Common.{◌≡◌, ℕ, List, [], ◌∷◌, ◌++◌, set, take, drop, flat_map, refl, sym, subst, arith}
+use mathlib.Core.Option.{some}
+use lib.ListN.{get_elem?}
+use Rattle.atomic_table.specs.Table.{Allows, Splits, Joins, keeps, Me}
+use Rattle.sums.specs.Weights.{weigh}
+use Rattle.sums.proofs.Weighing.{weigh-append}
+use Rattle.claims.specs.Rules.{together, Follows, Kept}
+use Rattle.claims.proofs.Weighing.{weigh-cut, weigh-set_found, weigh-flat}
+
+-- what the others have
+abbrev others : {C : Type 0} → List (List C) → ℕ → List C
+others views id = flat_map (λ x. x) (set views id [])
+
+module _ {C : Type 0} where
+  weigh-others : (h : C → ℕ) (views : List (List C)) (id : ℕ) (v w : List C) → get_elem? views id ≡ some v → weigh (λ x. weigh h x) (set views id w) ≡ together w (others views id) h
+  weigh-others h views id v w at =
+      let a = weigh-set_found (λ x. weigh h x) views id v w at in
+      let b = weigh-set_found (λ x. weigh h x) views id v [] at in
+      let c = weigh-flat h (set views id []) in omega arith
+
+  weigh-mine : (h : C → ℕ) (views : List (List C)) (id : ℕ) (v : List C) → get_elem? views id ≡ some v → weigh (λ x. weigh h x) views ≡ together v (others views id) h
+  weigh-mine h views id v at =
+      let a = weigh-set_found (λ x. weigh h x) views id v v at in
+      let b = weigh-others h views id v v at in omega arith
+
+  -- a rule that sees claims by their weights goes over to all that weigh the same
+  pub same_weights : (lawful : ((C → ℕ) → ℕ) → Type 0) (t u : (C → ℕ) → ℕ) → ((h : C → ℕ) → t h ≡ u h) → lawful t → lawful u
+  same_weights lawful t u e l = subst lawful (λ i h. e h i) l
+
+module _ {S C : Type 0} (lawful : ((C → ℕ) → ℕ) → Type 0) where
+  pub allows : (slots id word : ℕ) (f : ℕ → ℕ) (m : Me S (List C)) (after : List C) (told : Type 0) → Follows lawful m.0 after told
+      → Allows {S = S} {V = List C} (Kept lawful) slots id m word f (λ n w. (w.0 ≡ after) × (w.1 ≡ m.1) × told)
+  allows slots id word f m after told follows s holds len at fits =
+      let rest = others s.views id in
+      let then = follows rest (same_weights lawful _ (together m.0 rest) (λ h. weigh-mine h s.views id m.0 at) holds) in (
+        after,
+        keeps,
+        tt,
+        same_weights lawful (together after rest) _ (λ h. sym (weigh-others h s.views id m.0 after at)) then.0,
+        (refl, refl, then.1),
+      )
+
+  pub splits : (id n : ℕ) (v : List C) → Splits {S = S} {V = List C} (Kept lawful) id v (take n v) (drop n v)
+  splits id n v s holds at =
+      same_weights lawful _ _
+      (λ h.
+      let a = weigh-set_found (λ x. weigh h x) s.views id v (take n v) at in
+      let b = weigh-append (λ x. weigh h x) (set s.views id (take n v)) (drop n v ∷ []) in
+      let c = weigh-cut h n v in omega arith)
+      holds
+
+  pub joins : (id other : ℕ) (v w : List C) → Joins {S = S} {V = List C} (Kept lawful) id v other w (v ++ w) []
+  joins id other v w s holds at apart there =
+      same_weights lawful _ _
+      (λ h.
+      let a = weigh-set_found (λ x. weigh h x) s.views id v (v ++ w) at in
+      let b = weigh-set_found (λ x. weigh h x) (set s.views id (v ++ w)) other w [] there in
+      let c = weigh-append h v w in omega arith)
+      holds

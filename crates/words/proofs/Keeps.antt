@@ -1,0 +1,130 @@
+-- What keeps the rule of the words, step by step.
+use Rattle.std.proofs.Common.{◌≡◌, ◌≢◌, ℕ, ◌+◌, ◌*◌, ◌<◌, ◌≤◌, List, length, get_or, set, sym, ◌∙◌, subst, arith, length-set, get_or-set_same, get_or-set_other}
+use mathlib.Core.Logic.{dite}
+use native.Mathlib.Decide.{ℕ_discrete}
+use mathlib.Core.Option.{some}
+use lib.ListN.{get_elem?}
+use Rattle.words.specs.declared.claim.Claim.{Claim}
+use Rattle.words.specs.declared.claim.Claim.TheVariants.{Stands, Slip, Appends, Reads, Checkpoint}
+use Rattle.words.specs.Claims.{sum_of, Every, total, stands, stands_at, rank, frees, opens, room, slips, appends, pins, pins_at, readers, checkpoints, version}
+use Rattle.words.specs.Rule.{Sound, Law}
+use Rattle.words.proofs.Counts.{times_at_le, sum-set, sum-mono, sum-le, every-set, every-map}
+
+pub pins_le : (n completed s : ℕ) (c : Claim) → Sound n completed c → pins s c ≤ readers c
+pins_le n completed s (Stands l) h = omega arith
+pins_le n completed s (Slip k) h = omega arith
+pins_le n completed s (Appends k) h = omega arith
+pins_le n completed s (Reads r) h = h.0 s
+pins_le n completed s (Checkpoint k) h = omega arith
+
+module _ (n : ℕ) (words : List ℕ) (views : List (List Claim)) (law : Law n words views) where
+  -- a rearrangement of the claims
+  pub regrouped : (views' : List (List Claim)) → ((f : Claim → ℕ) → total f views' ≡ total f views) → ((P : Claim → Type 0) → Every (Every P) views → Every (Every P) views') → Law n words views'
+  regrouped views' same every = record {
+    wide = law.wide;
+    one_standing = λ s h. same (stands s) ∙ law.one_standing s h;
+    one_checkpoint = same checkpoints ∙ law.one_checkpoint;
+    encoded = λ s h. let a = same (rank s) in let b = same (pins s) in let e = law.encoded s h in omega arith;
+    completed = law.completed ∙ sym (same version);
+    bounded = law.bounded;
+    one_slip = λ s. same (slips s) ∙ (law.one_slip s ∙ sym (same (frees s)));
+    one_appender = λ s. same (appends s) ∙ (law.one_appender s ∙ sym (same (opens s)));
+    within = λ s. let a = same (pins s) in let b = same (room s) in let e = law.within s in omega arith;
+    same_life = λ s i. let a = same (pins_at s i) in let b = same (stands_at s i) in let e = law.same_life s i in omega arith;
+    few_readers = let a = same readers in let e = law.few_readers in omega arith;
+    sound = every (Sound n (get_or words n 0)) law.sound;
+  }
+
+  module _ (id : ℕ) (v w : List Claim) (at_id : get_elem? views id ≡ some v) where
+    pub moved : (f : Claim → ℕ) → total f (set views id w) + sum_of f v ≡ total f views + sum_of f w
+    moved f = sum-set (λ u. sum_of f u) views id v w at_id
+
+    pub changed : (words' : List ℕ) → length words' ≡ n + 1
+        → ((s : ℕ) → s < n → get_or words' s 0 + (sum_of (rank s) v + sum_of (pins s) v) ≡ get_or words s 0 + (sum_of (rank s) w + sum_of (pins s) w))
+        → get_or words' n 0 + sum_of version v ≡ get_or words n 0 + sum_of version w
+        → get_or words n 0 ≤ get_or words' n 0
+        → get_or words' n 0 < 4294967296
+        → ((s : ℕ) → sum_of (stands s) w ≡ sum_of (stands s) v)
+        → sum_of checkpoints w ≡ sum_of checkpoints v
+        → ((s : ℕ) → sum_of (slips s) w + sum_of (frees s) v ≡ sum_of (slips s) v + sum_of (frees s) w)
+        → ((s : ℕ) → sum_of (appends s) w + sum_of (opens s) v ≡ sum_of (appends s) v + sum_of (opens s) w)
+        → sum_of readers w ≡ sum_of readers v
+        → ((s : ℕ) → total (pins s) (set views id w) ≤ total (room s) (set views id w))
+        → ((s i : ℕ) → total (pins_at s i) (set views id w) ≤ 64 * total (stands_at s i) (set views id w))
+        → Every (Sound n (get_or words' n 0)) w
+        → ((c : Claim) → Sound n (get_or words n 0) c → Sound n (get_or words' n 0) c)
+        → Law n words' (set views id w)
+    changed words' wide enc ver up bound st ck sl op rd wi sa snd later = record {
+      wide = wide;
+      one_standing = λ s h. let a = moved (stands s) in let b = st s in let e = law.one_standing s h in omega arith;
+      one_checkpoint = let a = moved checkpoints in let e = law.one_checkpoint in omega arith;
+      encoded = λ s h. let a = moved (rank s) in let b = moved (pins s) in let e = law.encoded s h in let d = enc s h in omega arith;
+      completed = let a = moved version in let e = law.completed in omega arith;
+      bounded = bound;
+      one_slip = λ s. let a = moved (slips s) in let b = moved (frees s) in let e = law.one_slip s in let d = sl s in omega arith;
+      one_appender = λ s. let a = moved (appends s) in let b = moved (opens s) in let e = law.one_appender s in let d = op s in omega arith;
+      within = wi;
+      same_life = sa;
+      few_readers = let a = moved readers in let e = law.few_readers in omega arith;
+      sound = every-set (Every (Sound n (get_or words' n 0))) views id w
+          (every-map (Every (Sound n (get_or words n 0))) (Every (Sound n (get_or words' n 0))) views (λ u h. every-map (Sound n (get_or words n 0)) (Sound n (get_or words' n 0)) u later h) law.sound) snd;
+    }
+
+    -- the word of one segment changes
+    pub word_changed : (seg x : ℕ) → seg < n
+        → x + (sum_of (rank seg) v + sum_of (pins seg) v) ≡ get_or words seg 0 + (sum_of (rank seg) w + sum_of (pins seg) w)
+        → ((s : ℕ) → s ≢ seg → sum_of (rank s) w + sum_of (pins s) w ≡ sum_of (rank s) v + sum_of (pins s) v)
+        → sum_of version w ≡ sum_of version v
+        → ((s : ℕ) → sum_of (stands s) w ≡ sum_of (stands s) v)
+        → sum_of checkpoints w ≡ sum_of checkpoints v
+        → ((s : ℕ) → sum_of (slips s) w + sum_of (frees s) v ≡ sum_of (slips s) v + sum_of (frees s) w)
+        → ((s : ℕ) → sum_of (appends s) w + sum_of (opens s) v ≡ sum_of (appends s) v + sum_of (opens s) w)
+        → sum_of readers w ≡ sum_of readers v
+        → ((s : ℕ) → total (pins s) (set views id w) ≤ total (room s) (set views id w))
+        → ((s i : ℕ) → total (pins_at s i) (set views id w) ≤ 64 * total (stands_at s i) (set views id w))
+        → Every (Sound n (get_or words n 0)) w
+        → Law n (set words seg x) (set views id w)
+    word_changed seg x lt here else ver st ck sl op rd wi sa snd =
+        let long : length words ≡ n + 1 = law.wide in
+        let other : n ≢ seg = omega arith in
+        let last : get_or (set words seg x) n 0 ≡ get_or words n 0 = get_or-set_other words seg n x 0 other in
+        let bound = law.bounded in
+        changed (set words seg x) (length-set words seg x ∙ law.wide)
+        (λ s h. dite (ℕ_discrete s seg)
+        (λ e. let P : ℕ → Type 0 = λ z. get_or (set words seg x) z 0 + (sum_of (rank z) v + sum_of (pins z) v) ≡ get_or words z 0 + (sum_of (rank z) w + sum_of (pins z) w) in
+        subst P (sym e) (let is : get_or (set words seg x) seg 0 ≡ x = get_or-set_same words seg x 0 (omega arith) in omega (arith, here)))
+        (λ ne. let is : get_or (set words seg x) s 0 ≡ get_or words s 0 = get_or-set_other words seg s x 0 ne in let d = else s ne in omega arith))
+        (omega arith) (omega arith) (omega arith) st ck sl op rd wi sa (subst (λ z. Every (Sound n z) w) (sym last) snd) (λ c. subst (λ z. Sound n (get_or words n 0) c → Sound n z c) (sym last) (λ k. k))
+
+    -- a load
+    pub looked : ((s : ℕ) → sum_of (rank s) w + sum_of (pins s) w ≡ sum_of (rank s) v + sum_of (pins s) v)
+        → sum_of version w ≡ sum_of version v
+        → ((s : ℕ) → sum_of (stands s) w ≡ sum_of (stands s) v)
+        → sum_of checkpoints w ≡ sum_of checkpoints v
+        → ((s : ℕ) → sum_of (slips s) w + sum_of (frees s) v ≡ sum_of (slips s) v + sum_of (frees s) w)
+        → ((s : ℕ) → sum_of (appends s) w + sum_of (opens s) v ≡ sum_of (appends s) v + sum_of (opens s) w)
+        → sum_of readers w ≡ sum_of readers v
+        → ((s : ℕ) → total (pins s) (set views id w) ≤ total (room s) (set views id w))
+        → ((s i : ℕ) → total (pins_at s i) (set views id w) ≤ 64 * total (stands_at s i) (set views id w))
+        → Every (Sound n (get_or words n 0)) w
+        → Law n words (set views id w)
+    looked enc ver st ck sl op rd wi sa snd =
+        let bound = law.bounded in
+        changed words law.wide (λ s h. let d = enc s in omega arith) (omega arith) (omega arith) bound st ck sl op rd wi sa snd (λ c k. k)
+
+  -- no segment has more pins than there are readers
+  pub few_pins : (s : ℕ) → total (pins s) views ≤ 64
+  few_pins s =
+      let a = sum-mono (λ u. sum_of (pins s) u) (λ u. sum_of readers u) (Every (Sound n (get_or words n 0))) views (λ u h. sum-mono (pins s) readers (Sound n (get_or words n 0)) u (pins_le n (get_or words n 0) s) h) law.sound in
+      let b = law.few_readers in omega arith
+
+pins_at_le : (s i : ℕ) (c : Claim) → pins_at s i c ≤ pins s c
+pins_at_le s i (Stands l) = omega arith
+pins_at_le s i (Slip k) = omega arith
+pins_at_le s i (Appends k) = omega arith
+pins_at_le s i (Reads r) = times_at_le s i r.held
+pins_at_le s i (Checkpoint k) = omega arith
+
+-- the pins on one incarnation are among those on the segment
+pub part_of_pins : (s i : ℕ) (views : List (List Claim)) → total (pins_at s i) views ≤ total (pins s) views
+part_of_pins s i views = sum-le (λ u. sum_of (pins_at s i) u) (λ u. sum_of (pins s) u) views (λ u. sum-le (pins_at s i) (pins s) u (pins_at_le s i))

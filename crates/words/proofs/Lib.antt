@@ -1,0 +1,9 @@
+pub mod Counts
+pub mod Keeps
+pub mod Standings
+pub mod Readers
+pub mod Seats
+pub mod Calls
+pub mod Lives
+pub mod Dealing
+pub mod Held
