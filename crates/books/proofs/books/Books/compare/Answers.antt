@@ -1,0 +1,11 @@
+use Rattle.std.proofs.Common.{sym, ap, ◌∙◌}
+use Rattle.books.specs.Accounts.{FileView, PassView, file_view, pass_view}
+use Rattle.books.proofs.Steps.{compares_at}
+use Rattle.books.proofs.books.Books.compare.Goals as goal
+
+pub exchange-requires-clause-rule : goal.exchange-requires-clause-rule
+exchange-requires-clause-rule c =
+    let v = file_view c.file.inside.holder in
+    let w = pass_view c.pass.inside.holder in
+    let same = ap (λ (x : FileView). x.inode) c.file.view_is ∙ (c.requires.inode ∙ sym (ap (λ (x : PassView). x.inode) c.pass.view_is)) in
+    rw (c.file.invariant, c.pass.invariant) (compares_at c.args.self.now.key v.inode w.inode v.tickets v.tokens v.content w.content same)

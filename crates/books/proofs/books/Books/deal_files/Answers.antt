@@ -1,0 +1,56 @@
+use Rattle.std.proofs.Common.{◌≡◌, ℕ, ◌+◌, ◌-◌, List, [], ◌∷◌, ◌++◌, length, slice_get, drop, Some, None, sym, ap, ◌∙◌, subst, arith, ⊎_elim, length-append}
+use Rattle.books.specs.declared.claim.Claim.{Claim}
+use Rattle.books.specs.declared.claim.Claim.TheVariants.{File}
+use Rattle.books.specs.Rules.{each_from}
+use Rattle.books.specs.Accounts.{FileView, first_of, number_of}
+use Rattle.claims.specs.Rules.{Held}
+use Rattle.books.proofs.Dealing.{slice_get_push, each_next, each_begins}
+use Rattle.books.proofs.books.Books.deal_files.Goals as goal
+
+pub loop-init : goal.loop-init
+loop-init c =
+    let f : ℕ → Claim = λ n. File n [] [] None in
+    let d = c.dealer.view_is in
+    let first : (c.dealer.inside.holder).claims ≡ each_from 1 c.args.count f ++ drop c.args.count (c.dealer.inside.holder).claims =
+    subst (λ (h : Held Claim). h.claims ≡ each_from 1 c.args.count f ++ drop c.args.count h.claims) (sym d) c.requires.first in
+    let none : c.in_ok-files.files.items ≡ [] = c.in_ok-files.ensures.items in
+    record {
+      book = ap (λ (h : Held Claim). h.book) d ∙ c.requires.book;
+      claims = first ∙ ap (λ (cs : List Claim). cs ++ drop c.args.count (c.dealer.inside.holder).claims) (each_begins f 1 c.args.count);
+      count = ap (λ (l : List FileView). length l) none;
+      items = λ k v e. let z : slice_get [] k ≡ Some v = subst (λ (l : List FileView). slice_get l k ≡ Some v) none e in absurd (cc);
+    }
+
+pub deal_file-file-requires-clause-first : goal.deal_file-file-requires-clause-first
+deal_file-file-requires-clause-first c =
+    let f : ℕ → Claim = λ n. File n [] [] None in
+    let i = c.loop.counter in
+    let more = each_from (i + 1 + 1) (c.args.count - (i + 1)) f ++ drop c.args.count (c.dealer.inside.holder).claims in
+    let e : c.loop.dealer.claims ≡ f (i + 1) ∷ more =
+    c.loop.invariant.claims ∙ ap (λ (cs : List Claim). cs ++ drop c.args.count (c.dealer.inside.holder).claims) (each_next f 1 c.args.count i c.loop-test.true) in
+    e ∙ sym (ap (λ (cs : List Claim). f (number_of (first_of cs)) ∷ drop 1 cs) e)
+
+pub loop-preserved : goal.loop-preserved
+loop-preserved c =
+    let f : ℕ → Claim = λ n. File n [] [] None in
+    let i = c.loop.counter in
+    let more = each_from (i + 1 + 1) (c.args.count - (i + 1)) f ++ drop c.args.count (c.dealer.inside.holder).claims in
+    let e : c.loop.dealer.claims ≡ f (i + 1) ∷ more =
+    c.loop.invariant.claims ∙ ap (λ (cs : List Claim). cs ++ drop c.args.count (c.dealer.inside.holder).claims) (each_next f 1 c.args.count i c.loop-test.true) in
+    let given = c.deal_file-file.ensures in
+    let x = c.deal_file-file.result.0 in
+    let items = c.loop.files.items in
+    let pushed : c.push.new.self.items ≡ items ++ x ∷ [] = c.in_ok-push.ensures.items in
+    let number : number_of (first_of c.loop.dealer.claims) ≡ i + 1 = ap (λ (cs : List Claim). number_of (first_of cs)) e in
+    record {
+      book = ap (λ (h : Held Claim). h.book) given.dealer;
+      claims = ap (λ (h : Held Claim). h.claims) given.dealer ∙ ap (λ (cs : List Claim). drop 1 cs) e;
+      count = let a = ap (λ (l : List FileView). length l) pushed in let b = length-append items (x ∷ []) in let d = c.loop.invariant.count in omega arith;
+      items = λ k v at.
+          ⊎_elim (λ (old : slice_get items k ≡ Some v). c.loop.invariant.items k v old)
+          (λ (new : (k ≡ length items) × (x ≡ v)).
+          let d = c.loop.invariant.count in
+          let k_is : number_of (first_of c.loop.dealer.claims) ≡ k + 1 = let a = new.0 in let b = number in omega arith in
+          sym new.1 ∙ (given.file ∙ ap (λ (n : ℕ). (let v : FileView = record { book = c.args.self.now.book; inode = n; tickets = []; tokens = []; content = None } in v)) k_is))
+          (slice_get_push items x k v (subst (λ (l : List FileView). slice_get l k ≡ Some v) pushed at));
+    }
