@@ -33,5 +33,5 @@ impl FilePass {
 }
 
 /// The right to hold a snapshot. A volume has none to give yet.
-#[derive(Debug, Drop)]
+#[derive(Drop)]
 pub enum Seat {}
