@@ -7,3 +7,5 @@ pub mod Owner
 pub mod Mark
 pub mod Summary
 pub mod File
+pub mod Life
+pub mod Path

@@ -7,8 +7,10 @@
 pub mod class;
 pub mod error;
 pub mod geometry;
+pub mod index;
 pub mod kind;
 pub mod owner;
+pub mod path;
 pub mod shape;
 pub mod state;
 
@@ -17,5 +19,6 @@ pub use error::Error;
 pub use geometry::Geometry;
 pub use kind::Kind;
 pub use owner::{Mark, Owner, Summary};
+pub use path::Path;
 pub use shape::Shape;
 pub use state::State;

@@ -1,6 +1,7 @@
 //! The two shapes of a volume.
 ghost use Rattle.std.specs.Prelude.{◌≡◌, ℕ};
 ghost use Rattle.geometry.specs.Shape.{block_bytes, segment_blocks, inode_head};
+ghost use Rattle.geometry.specs.Path.{node_entries, inode_entries, largest_length};
 
 /// How large blocks and segments are, and the head of an inode.
 ///
@@ -46,6 +47,36 @@ impl Shape {
         match self {
             Shape::Tiny => 8,
             Shape::Kernel => 360,
+        }
+    }
+
+    /// The entries of a direct or an indirect node.
+    pub fn node_entries(self) -> u32
+        ensures { result ≡ node_entries self }
+    {
+        match self {
+            Shape::Tiny => 10,
+            Shape::Kernel => 1018,
+        }
+    }
+
+    /// The data addresses of an inode.
+    pub fn inode_entries(self) -> u32
+        ensures { result ≡ inode_entries self }
+    {
+        match self {
+            Shape::Tiny => 3,
+            Shape::Kernel => 923,
+        }
+    }
+
+    /// The most blocks that a file may have.
+    pub fn largest_length(self) -> u32
+        ensures { result ≡ largest_length self }
+    {
+        match self {
+            Shape::Tiny => 1_223,
+            Shape::Kernel => 1_057_053_439,
         }
     }
 }

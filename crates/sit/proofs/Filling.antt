@@ -55,8 +55,8 @@ module _ {B : Type 0} (address_of : B → ℕ) (content_of : B → List ℕ) whe
     pub popped-bytes : length (content_of block) ≡ home.block_bytes
     popped-bytes = next-length address_of content_of start.block_bytes 1 rest block [] popped_run ∙ sym is.bytes
 
-    pub filling_goes_on : (home' : Home) → home' ≡ home_set home (length start.present - 1 - turns) true → IsFilling start home' whole (turns + 1) rest
-    filling_goes_on home' put =
+    pub filling_goes_on : (home' : Home) (failed : ℕ) → home' ≡ home_set home (length start.present - 1 - turns) true failed → IsFilling start home' whole (turns + 1) rest
+    filling_goes_on home' failed put =
         let now : List Bool = set home.present (length start.present - 1 - turns) true in
         let present : home'.present ≡ now = ap (λ h. h.present) put in
         let long = is.long in record {
@@ -72,14 +72,14 @@ module _ {B : Type 0} (address_of : B → ℕ) (content_of : B → List ℕ) whe
         }
 
   pub filling_ends : (start home : Home) (whole turns : ℕ) (all : List B) → IsFilling start home whole turns all → turns ≡ length start.present
-      → home ≡ home_of start.first start.block_bytes (replicate (length start.present) true)
+      → home ≡ home_of start.first start.block_bytes (replicate (length start.present) true) home.failed
   filling_ends start home whole turns all is done =
       let n = length start.present in
       let present : home.present ≡ replicate n true = same_lists home.present (replicate n true) (is.long ∙ sym (length-replicate {A = Bool} n true))
       (λ o d within.
       let long = is.long in
       get_or-other home.present o d within ∙ is.filled o (omega arith) (omega arith) ∙ sym (get_or-true n o d (omega arith))) in
-      λ i. record { first = is.first i; block_bytes = is.bytes i; present = present i }
+      λ i. record { first = is.first i; block_bytes = is.bytes i; present = present i; failed = home.failed }
     where
       get_or-other : (xs : List Bool) (o : ℕ) (d : Bool) → o < length xs → get_or xs o d ≡ get_or xs o false
       get_or-other [] o d within = absurd (omega arith)
@@ -106,10 +106,10 @@ module _ {B : Type 0} (address_of : B → ℕ) (content_of : B → List ℕ) whe
     added = omega arith;
   }
 
-  pub emptying_goes_on : (start home home' : Home) (whole turns : ℕ) (all : List B) (block : B) → IsEmptying start home whole turns all → start.first ≡ 1 + whole
-      → home' ≡ home_set home turns false → address_of block ≡ home.first + turns → length (content_of block) ≡ home.block_bytes
+  pub emptying_goes_on : (start home home' : Home) (whole turns failed : ℕ) (all : List B) (block : B) → IsEmptying start home whole turns all → start.first ≡ 1 + whole
+      → home' ≡ home_set home turns false failed → address_of block ≡ home.first + turns → length (content_of block) ≡ home.block_bytes
       → IsEmptying start home' whole (turns + 1) (all ++ block ∷ [])
-  emptying_goes_on start home home' whole turns all block is next taken address bytes = record {
+  emptying_goes_on start home home' whole turns failed all block is next taken address bytes = record {
     first = ap (λ h. h.first) taken ∙ is.first;
     bytes = ap (λ h. h.block_bytes) taken ∙ is.bytes;
     long = ap (λ h. length h.present) taken ∙ length-set home.present turns false ∙ is.long;

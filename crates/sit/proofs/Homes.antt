@@ -1,14 +1,35 @@
 -- The blocks at home, of which one leaves or comes.
-use Rattle.std.proofs.Common.{◌≡◌, ℕ, List, Bool, map, set, ap, ◌∙◌}
-use Rattle.std.proofs.lemmas.List.{map-set}
-use Rattle.sit.specs.Home.{Home}
+use Rattle.std.proofs.Common.{◌≡◌, ℕ, ◌+◌, ◌<◌, List, Option, Some, None, Bool, length, get_or, map, set, replicate, ap, sym, ◌∙◌, refl, arith}
+use Rattle.std.proofs.lemmas.List.{map-set, get_or-map}
+use Rattle.std.specs.Prelude.{is_some, true, false}
+use Rattle.sums.proofs.Weighing.{weigh-set, weigh-replicate}
+use Rattle.sit.specs.Home.{Home, failed_at, failures_of}
 
-abbrev pub home_of : ℕ → ℕ → List Bool → Home
-home_of first block_bytes present = record { first = first; block_bytes = block_bytes; present = present }
+abbrev pub home_of : ℕ → ℕ → List Bool → ℕ → Home
+home_of first block_bytes present failed = record { first = first; block_bytes = block_bytes; present = present; failed = failed }
 
-abbrev pub home_set : Home → ℕ → Bool → Home
-home_set h o b = record { first = h.first; block_bytes = h.block_bytes; present = set h.present o b }
+abbrev pub home_set : Home → ℕ → Bool → ℕ → Home
+home_set h o b failed = record { first = h.first; block_bytes = h.block_bytes; present = set h.present o b; failed = failed }
 
-pub home-set : {A : Type 0} (first block_bytes : ℕ) (f : A → Bool) (xs : List A) (o : ℕ) (x : A) (h : Home)
-    → home_of first block_bytes (map f xs) ≡ h → home_of first block_bytes (map f (set xs o x)) ≡ home_set h o (f x)
-home-set first block_bytes f xs o x h e = ap (home_of first block_bytes) (map-set f xs o x) ∙ ap (λ z. home_set z o (f x)) e
+-- one place changes, and how often the blocks have failed
+pub home-set : {A : Type 0} (first block_bytes : ℕ) (f : A → Bool) (xs : List A) (o : ℕ) (x : A) (failed failed' : ℕ) (h : Home)
+    → home_of first block_bytes (map f xs) failed ≡ h → home_of first block_bytes (map f (set xs o x)) failed' ≡ home_set h o (f x) failed'
+home-set first block_bytes f xs o x failed failed' h e =
+    ap (λ p. home_of first block_bytes p failed') (map-set f xs o x) ∙ ap (λ z. home_set z o (f x) failed') e
+
+-- a block leaves or comes with its failures
+pub failures-set : {B : Type 0} (failed : B → ℕ) (blocks : List (Option B)) (o : ℕ) (x : Option B) → o < length blocks
+    → failures_of failed (set blocks o x) + failed_at failed (get_or blocks o None) ≡ failures_of failed blocks + failed_at failed x
+failures-set failed blocks o x within = weigh-set (failed_at failed) blocks o x None within
+
+pub failures-none : {B : Type 0} (failed : B → ℕ) (n : ℕ) → failures_of failed (replicate {A = Option B} n None) ≡ 0
+failures-none {B} failed n = weigh-replicate (failed_at failed) n None refl
+
+-- where no block is there, none has failed
+pub failed-away : {B : Type 0} (failed : B → ℕ) (blocks : List (Option B)) (o : ℕ) → o < length blocks → get_or (map is_some blocks) o false ≡ false
+    → failed_at failed (get_or blocks o None) ≡ 0
+failed-away {B} failed blocks o within away = go (get_or blocks o None) (sym (get_or-map is_some blocks o None false within) ∙ away)
+  where
+    go : (x : Option B) → is_some x ≡ false → failed_at failed x ≡ 0
+    go None e = refl
+    go (Some b) e = absurd (let no = e in cc)

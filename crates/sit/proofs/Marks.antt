@@ -5,7 +5,8 @@ use Rattle.geometry.specs.declared.owner.Owner.{Owner}
 use Rattle.geometry.specs.declared.owner.Mark.{Mark}
 use Rattle.geometry.specs.Mark.{same_mark}
 use Rattle.geometry.proofs.MarkTests.{mark_eq}
-use Rattle.sit.specs.Summaries.{marks_from, count_of, times}
+use Rattle.books.specs.Lists.{times}
+use Rattle.sit.specs.Summaries.{marks_from, count_of}
 
 -- what the summary at an address weighs
 abbrev pub of_summary : (Mark → ℕ) → ℕ → Option Owner → ℕ
@@ -39,7 +40,7 @@ StandsIn m a ss = (o : ℕ) × (m.address ≡ a + o) × (o < length ss) × (get_
 later : (m : Mark) (a : ℕ) (s : Option Owner) (ss : List (Option Owner)) → StandsIn m (suc a) ss → StandsIn m a (s ∷ ss)
 later m a s ss (o, e, within, is) = (suc o, omega arith, omega arith, is)
 
-pub found : (m : Mark) (a : ℕ) (ss : List (Option Owner)) → 0 < times m (marks_from a ss) → StandsIn m a ss
+pub found : (m : Mark) (a : ℕ) (ss : List (Option Owner)) → 0 < times same_mark m (marks_from a ss) → StandsIn m a ss
 found m a [] some = absurd (omega arith)
 found m a (None ∷ ss) some = later m a None ss (found m (suc a) ss some)
 found m a (Some w ∷ ss) some = go (same_mark m here) refl some (found m (suc a) ss)
@@ -47,8 +48,8 @@ found m a (Some w ∷ ss) some = go (same_mark m here) refl some (found m (suc a
     here : Mark
     here = record { address = a; owner = w }
 
-    go : (b : Bool) → same_mark m here ≡ b → 0 < (if b then 1 else 0) + times m (marks_from (suc a) ss)
-        → (0 < times m (marks_from (suc a) ss) → StandsIn m (suc a) ss) → StandsIn m a (Some w ∷ ss)
+    go : (b : Bool) → same_mark m here ≡ b → 0 < (if b then 1 else 0) + times same_mark m (marks_from (suc a) ss)
+        → (0 < times same_mark m (marks_from (suc a) ss) → StandsIn m (suc a) ss) → StandsIn m a (Some w ∷ ss)
     go true e few rest = let is = mark_eq m here e in let at = ap (λ z. z.address) is in (0, omega arith, omega arith, sym (ap (λ z. Some z.owner) is))
     go false e few rest = later m a (Some w) ss (rest (omega arith))
 

@@ -7,3 +7,4 @@ pub mod Row
 pub mod NextValid
 pub mod Room
 pub mod Valid
+pub mod Registered

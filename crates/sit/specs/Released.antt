@@ -12,7 +12,7 @@ abbrev pub HasReleased : Segment → Released → Segment → Type 0
 HasReleased old Kept new = (new ≡ old) × (old.state ≡ Sealed → 0 < count_of old.summaries)
 HasReleased old Retired new = (new ≡ in_state old Prefree) × (old.state ≡ Sealed) × (count_of old.summaries ≡ 0)
 
--- what becomes of a segment in this state with so many valid blocks
-abbrev pub IsFate : State → ℕ → Released → Type 0
-IsFate state valid Kept = state ≡ Sealed → 0 < valid
-IsFate state valid Retired = (state ≡ Sealed) × (valid ≡ 0)
+-- the state in which a segment is left that was in a state and has so many valid blocks
+abbrev pub IsFate : State → ℕ → State → Released → Type 0
+IsFate state valid next Kept = (next ≡ state) × (state ≡ Sealed → 0 < valid)
+IsFate state valid next Retired = (next ≡ Prefree) × (state ≡ Sealed) × (valid ≡ 0)

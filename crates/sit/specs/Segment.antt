@@ -1,5 +1,5 @@
 -- What contracts see of a segment, and its law.
-use Rattle.std.specs.Prelude.{◌≡◌, ℕ, ◌+◌, ◌<◌, ◌≤◌, max, List, Option, Some, None, map, length, replicate, slice_set, slice_index_or}
+use Rattle.std.specs.Prelude.{◌≡◌, ℕ, ◌+◌, ◌<◌, ◌≤◌, ◌⊎◌, max, List, Option, Some, None, map, length, replicate, slice_set, slice_index_or}
 use Rattle.geometry.specs.declared.shape.Shape.{Shape}
 use Rattle.geometry.specs.declared.state.State.{State}
 use Rattle.geometry.specs.declared.state.State.TheVariants.{Free, Open, Sealed, Prefree}
@@ -10,7 +10,7 @@ use Rattle.geometry.specs.Address.{address_of}
 use Rattle.sit.specs.Home.{Home}
 use Rattle.sit.specs.Summaries.{is_clear, count_of, marks_from}
 
--- a segment: its shape and number, where it is in its life, who names each of its blocks, the largest time of an append, and the place of the next one
+-- a segment: its shape and number, where it is in its life, who names each of its blocks, the largest time of an append, the place of the next one, and how often its blocks at home have failed, all together
 pub record Segment : Type 0 where
   pub shape : Shape
   pub number : ℕ
@@ -18,18 +18,19 @@ pub record Segment : Type 0 where
   pub summaries : List (Option Owner)
   pub mtime : ℕ
   pub next : ℕ
+  pub failed : ℕ
 
--- What a segment's state says of its blocks: one that is free or retired has no valid block, an open one has none at or past its next place, a sealed one has some.
+-- What a segment's state says of its blocks: one that is free or retired has no valid block, an open one has a next place and none at or past it, a sealed one has some.
 abbrev pub IsFitting : State → ℕ → List (Option Owner) → Type 0
 IsFitting Free next summaries = count_of summaries ≡ 0
-IsFitting Open next summaries = (next ≤ length summaries) × ((o : ℕ) → next ≤ o → slice_index_or summaries o None ≡ None)
+IsFitting Open next summaries = (next < length summaries) × ((o : ℕ) → next ≤ o → slice_index_or summaries o None ≡ None)
 IsFitting Sealed next summaries = 0 < count_of summaries
 IsFitting Prefree next summaries = count_of summaries ≡ 0
 
 -- The law of a segment. A block is at home exactly where nobody names it.
 pub record SegmentLaw (segment : Segment) (home : Home) : Type 0 where
   pub sized : length segment.summaries ≡ segment_blocks segment.shape
-  pub home_is : home ≡ record { first = address_of segment.shape segment.number 0; block_bytes = block_bytes segment.shape; present = map is_clear segment.summaries }
+  pub home_is : home ≡ record { first = address_of segment.shape segment.number 0; block_bytes = block_bytes segment.shape; present = map is_clear segment.summaries; failed = segment.failed }
   pub fitting : IsFitting segment.state segment.next segment.summaries
 
 -- the valid blocks, with who names each
@@ -39,19 +40,28 @@ marks_of segment = marks_from (address_of segment.shape segment.number 0) segmen
 -- What each call makes of a segment.
 
 -- as a format leaves it
-abbrev pub fresh : Shape → ℕ → Segment
-fresh shape number = record { shape = shape; number = number; state = Free; summaries = replicate (segment_blocks shape) None; mtime = 0; next = 0 }
+abbrev pub fresh : Shape → ℕ → ℕ → Segment
+fresh shape number failed = record { shape = shape; number = number; state = Free; summaries = replicate (segment_blocks shape) None; mtime = 0; next = 0; failed = failed }
 
--- the next block is valid, and named by this owner
-abbrev pub placed : Segment → Owner → ℕ → Segment
-placed segment owner now = record segment { summaries = slice_set segment.summaries segment.next (Some owner); mtime = max segment.mtime now; next = segment.next + 1 }
+-- the next block is valid, and named by this owner; the blocks that stay at home have failed so often
+abbrev pub placed : Segment → Owner → ℕ → ℕ → Segment
+placed segment owner now failed =
+    record segment { summaries = slice_set segment.summaries segment.next (Some owner); mtime = max segment.mtime now; next = segment.next + 1; failed = failed }
 
--- the block at this place is not valid any more
-abbrev pub cleared : Segment → ℕ → Segment
-cleared segment offset = record segment { summaries = slice_set segment.summaries offset None }
+-- the block at this place is not valid any more, and comes home with its failures
+abbrev pub cleared : Segment → ℕ → ℕ → Segment
+cleared segment offset failed = record segment { summaries = slice_set segment.summaries offset None; failed = segment.failed + failed }
 
 abbrev pub in_state : Segment → State → Segment
 in_state segment state = record segment { state = state }
 
 abbrev pub opened : Segment → Segment
 opened segment = record segment { state = Open; next = 0 }
+
+-- a segment is open as long as it has a next place, and then sealed (Linux filesystems/f2fs)
+abbrev pub IsStateAt : ℕ → ℕ → State → Type 0
+IsStateAt next places state = ((next < places) × (state ≡ Open)) ⊎ ((next ≡ places) × (state ≡ Sealed))
+
+-- A segment in which a block was placed: where that was the last place, it is sealed in the same step.
+abbrev pub HasPlaced : Segment → Segment → Type 0
+HasPlaced placed new = (new ≡ in_state placed new.state) × IsStateAt placed.next (segment_blocks placed.shape) new.state

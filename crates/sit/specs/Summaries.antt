@@ -1,8 +1,7 @@
 -- The summaries of a segment: who names each of its blocks (Linux filesystems/f2fs, segment summary area). A block that somebody names is valid.
-use Rattle.std.specs.Prelude.{ℕ, suc, List, [], ◌∷◌, Option, Some, None, Bool, true, false, if◌then◌else◌}
+use Rattle.std.specs.Prelude.{ℕ, suc, List, [], ◌∷◌, Option, Some, None, Bool, true, false}
 use Rattle.geometry.specs.declared.owner.Owner.{Owner}
 use Rattle.geometry.specs.declared.owner.Mark.{Mark}
-use Rattle.geometry.specs.Mark.{same_mark}
 use Rattle.sums.specs.Weights.{weigh}
 
 abbrev pub is_set : Option Owner → Bool
@@ -26,7 +25,3 @@ abbrev pub marks_from : ℕ → List (Option Owner) → List Mark
 marks_from address [] = []
 marks_from address (Some owner ∷ rest) = record { address = address; owner = owner } ∷ marks_from (suc address) rest
 marks_from address (None ∷ rest) = marks_from (suc address) rest
-
--- how often a mark stands in a list
-abbrev pub times : Mark → List Mark → ℕ
-times m marks = weigh (λ y. if same_mark m y then 1 else 0) marks

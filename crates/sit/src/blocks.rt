@@ -19,11 +19,11 @@ pub(crate) struct Blocks<B: Block + Drop> {
 
 impl<B: Block + Drop> Model for Blocks<B> {
     ghost use Rattle.std.specs.Prelude.{◌≡◌, ◌+◌, ◌<◌, ◌^◌, ℕ, Some, None, map, length, slice_index_or, is_some};
-    ghost use Rattle.sit.specs.Home.{Home, AreAtHome};
+    ghost use Rattle.sit.specs.Home.{Home, AreAtHome, failures_of};
 
     ghost Value = { Home };
 
-    ghost view = { λ b. record { first = b.first; block_bytes = b.block_bytes; present = map is_some b.blocks.items } };
+    ghost view = { λ b. record { first = b.first; block_bytes = b.block_bytes; present = map is_some b.blocks.items; failed = failures_of B.failed b.blocks.items } };
 
     ghost invariant = { λ b. AreAtHome B.address_of B.content_of b.first b.block_bytes b.blocks.items };
 }
@@ -36,7 +36,7 @@ impl<B: Block + Drop> Blocks<B> {
         block_bytes: u32,
         count: u32,
     ) -> Result<Blocks<B>, Error>
-        ensures ok { IfOk result (λ blocks. blocks ≡ record { first = first; block_bytes = block_bytes; present = replicate count false }) }
+        ensures ok { IfOk result (λ blocks. blocks ≡ record { first = first; block_bytes = block_bytes; present = replicate count false; failed = 0 }) }
         ensures err { IfErr result (λ error. error ≡ NoMemory) }
     {
         let mut blocks = Vec::with_capacity(alloc, count as usize)?;
@@ -68,7 +68,8 @@ impl<B: Block + Drop> Blocks<B> {
     pub(crate) fn take(&mut self, offset: usize) -> B
         requires within { offset < length self.old.present }
         requires present { slice_index_or self.old.present offset false ≡ true }
-        ensures home { self.new ≡ record self.old { present = slice_set self.old.present offset false } }
+        ensures home { self.new ≡ record self.old { present = slice_set self.old.present offset false; failed = self.new.failed } }
+        ensures failures { self.new.failed + B.failed result ≡ self.old.failed }
         ensures address { B.address_of result ≡ self.old.first + offset }
         ensures length { length (B.content_of result) ≡ self.old.block_bytes }
     {
@@ -83,20 +84,23 @@ impl<B: Block + Drop> Blocks<B> {
         requires within { offset < length self.old.present }
         requires address { B.address_of block ≡ self.old.first + offset }
         requires length { length (B.content_of block) ≡ self.old.block_bytes }
-        ensures { self.new ≡ record self.old { present = slice_set self.old.present offset true } }
+        ensures home { self.new ≡ record self.old { present = slice_set self.old.present offset true; failed = self.new.failed } }
+        ensures failures { slice_index_or self.old.present offset false ≡ false → self.new.failed ≡ self.old.failed + B.failed block }
     {
         self.blocks[offset] = Some(block);
     }
 
-    /// A block is written, and leaves home. Where the device fails it stays.
+    /// A block is written, and leaves home. Where the device fails, and counts it, the block stays.
     pub(crate) fn write_out(&mut self, offset: usize, bytes: &[u8]) -> Result<B, DeviceError>
         requires within { offset < length self.old.present }
         requires present { slice_index_or self.old.present offset false ≡ true }
         requires bytes { length bytes.now ≡ self.old.block_bytes }
-        ensures home { IfOk result (λ block. self.new ≡ record self.old { present = slice_set self.old.present offset false }) }
+        ensures home { IfOk result (λ block. self.new ≡ record self.old { present = slice_set self.old.present offset false; failed = self.new.failed }) }
+        ensures failures { IfOk result (λ block. self.new.failed + B.failed block ≡ self.old.failed) }
         ensures address { IfOk result (λ block. B.address_of block ≡ self.old.first + offset) }
         ensures content { IfOk result (λ block. B.content_of block ≡ bytes.now) }
-        ensures err { OnErr result (self.new ≡ self.old) }
+        ensures err { OnErr result (self.new ≡ record self.old { failed = self.new.failed }) }
+        ensures failure { OnErr result (self.old.failed < self.new.failed) }
     {
         let mut block = self.take(offset);
         match block.write(bytes) {
@@ -113,7 +117,7 @@ impl<B: Block + Drop> Blocks<B> {
         requires run { IsBlockRun B.address_of B.content_of self.old.block_bytes 1 all.old.items }
         requires last { self.old.first + length self.old.present ≡ 1 + vec_len all.old }
         requires some { 0 < self.old.first }
-        ensures home { self.new ≡ record self.old { present = replicate (length self.old.present) true } }
+        ensures home { self.new ≡ record self.old { present = replicate (length self.old.present) true; failed = self.new.failed } }
         ensures run { IsBlockRun B.address_of B.content_of self.old.block_bytes 1 all.new.items }
         ensures rest { self.old.first ≡ 1 + vec_len all.new }
         ensures capacity { vec_capacity all.new ≡ vec_capacity all.old }

@@ -1,18 +1,21 @@
 //! The memory of a segment, before its blocks are there.
-ghost use Rattle.std.specs.Prelude.{◌≡◌, ◌+◌, ◌<◌, ◌≤◌, IfOk, IfErr, vec_len, vec_capacity};
+ghost use Rattle.std.specs.Prelude.{◌≡◌, ◌+◌, ◌<◌, [], IfOk, IfErr, vec_len, vec_capacity};
 ghost use Rattle.geometry.specs.declared.error.Error.TheVariants.{NoMemory};
 ghost use Rattle.device.specs.Parts.{IsBlockRun};
 ghost use Rattle.geometry.specs.Shape.{block_bytes, segment_blocks};
 ghost use Rattle.geometry.specs.Address.{address_of};
-ghost use Rattle.sit.specs.Summaries.{count_of};
+ghost use Rattle.words.specs.Claims.{fresh_life};
 
 use crate::blocks::Blocks;
+use crate::body::Body;
 use crate::segment::SegmentState;
 use crate::valid::ValidBlocks;
+use books::SegmentAccount;
 use device::Block;
 use geometry::{Error, Geometry, Shape, State};
 use std::alloc::Global;
 use std::marker::Model;
+use words::Standing;
 
 /// The memory of one segment without its blocks: with all rooms at hand, a device can be taken apart and put together
 /// without any more memory.
@@ -36,6 +39,7 @@ impl<B: Block + Drop> Model for Room<B> {
 
 impl<B: Block + Drop> Room<B> {
     ghost use Rattle.sit.specs.Segment.{fresh};
+    ghost use Rattle.sit.specs.Registered.{post_of};
 
     /// The memory of the segment of this number. The only error is NoMemory.
     pub fn new(alloc: Global, geometry: &Geometry, number: u32) -> Result<Room<B>, Error>
@@ -54,18 +58,44 @@ impl<B: Block + Drop> Room<B> {
         })
     }
 
-    /// The segment, free, with its blocks: the last ones of a run that begins at address 1 and ends with them.
-    pub fn fill(self, all: &mut Vec<B>) -> SegmentState<B>
+    /// The segment, free, with its account and its standing, and its blocks: the last ones of a run that begins at address 1
+    /// and ends with them.
+    pub fn fill(
+        self,
+        account: SegmentAccount,
+        standing: Standing,
+        all: &mut Vec<B>,
+    ) -> SegmentState<B>
+        requires account { account ≡ record { book = account.book; segment = self.number; marks = [] } }
+        requires standing { standing.life ≡ fresh_life self.number }
         requires run { IsBlockRun B.address_of B.content_of (block_bytes self.shape) 1 all.old.items }
         requires last { address_of self.shape self.number (segment_blocks self.shape) ≡ 1 + vec_len all.old }
-        ensures segment { result ≡ fresh self.shape self.number }
+        ensures segment { result.segment ≡ fresh self.shape self.number result.segment.failed }
+        ensures book { result.book ≡ account.book }
+        ensures standing { post_of result ≡ standing }
+        ensures run { IsBlockRun B.address_of B.content_of (block_bytes self.shape) 1 all.new.items }
+        ensures rest { address_of self.shape self.number 0 ≡ 1 + vec_len all.new }
+        ensures capacity { vec_capacity all.new ≡ vec_capacity all.old }
+    {
+        SegmentState {
+            body: self.fill_body(all),
+            account,
+            standing,
+        }
+    }
+
+    // The blocks of the segment.
+    fn fill_body(self, all: &mut Vec<B>) -> Body<B>
+        requires run { IsBlockRun B.address_of B.content_of (block_bytes self.shape) 1 all.old.items }
+        requires last { address_of self.shape self.number (segment_blocks self.shape) ≡ 1 + vec_len all.old }
+        ensures segment { result ≡ fresh self.shape self.number result.failed }
         ensures run { IsBlockRun B.address_of B.content_of (block_bytes self.shape) 1 all.new.items }
         ensures rest { address_of self.shape self.number 0 ≡ 1 + vec_len all.new }
         ensures capacity { vec_capacity all.new ≡ vec_capacity all.old }
     {
         let mut blocks = self.blocks;
         blocks.fill_from(all);
-        SegmentState {
+        Body {
             shape: self.shape,
             number: self.number,
             state: State::Free,
@@ -74,21 +104,5 @@ impl<B: Block + Drop> Room<B> {
             mtime: 0,
             next: 0,
         }
-    }
-}
-
-impl<B: Block + Drop> SegmentState<B> {
-    /// The blocks of a segment without valid blocks, put behind a run that begins at address 1 and ends before them. It
-    /// takes no memory.
-    pub fn empty_into(self, all: &mut Vec<B>)
-        requires none { count_of self.summaries ≡ 0 }
-        requires run { IsBlockRun B.address_of B.content_of (block_bytes self.shape) 1 all.old.items }
-        requires next { address_of self.shape self.number 0 ≡ 1 + vec_len all.old }
-        requires room { vec_len all.old + segment_blocks self.shape ≤ vec_capacity all.old }
-        ensures run { IsBlockRun B.address_of B.content_of (block_bytes self.shape) 1 all.new.items }
-        ensures count { vec_len all.new ≡ vec_len all.old + segment_blocks self.shape }
-        ensures capacity { vec_capacity all.new ≡ vec_capacity all.old }
-    {
-        self.blocks.empty_into(all);
     }
 }

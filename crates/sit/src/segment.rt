@@ -1,42 +1,45 @@
-//! One segment: which of its blocks are valid, who names each, and its blocks at home.
-ghost use Rattle.std.specs.Prelude.{◌≡◌, ◌≢◌, ◌+◌, ◌<◌, ◌≤◌, Some, None, IsTrue, ◌↔◌, ◌∷◌, length, slice_index_or, OnOk, IfOk, IfErr};
+//! One segment, as it lies in its lock.
+ghost use Rattle.std.specs.Prelude.{◌≡◌, ◌+◌, ◌<◌, ◌≤◌, Some, None, ◌∷◌, length, slice_index_or, MatchOption, OnOk, OnErr, IfOk, IfErr, vec_len, vec_capacity};
 ghost use Rattle.geometry.specs.declared.state.State.TheVariants.{Free, Open, Sealed, Prefree};
 ghost use Rattle.geometry.specs.declared.error.Error.TheVariants.{Device};
 ghost use Rattle.geometry.specs.Shape.{block_bytes, segment_blocks};
 ghost use Rattle.geometry.specs.Address.{address_of, segment_of, offset_of};
 ghost use Rattle.geometry.specs.Owner.{IsOwner};
+ghost use Rattle.geometry.specs.Mark.{same_mark};
+ghost use Rattle.device.specs.Parts.{IsBlockRun};
+ghost use Rattle.books.specs.Lists.{times, without};
+ghost use Rattle.words.specs.Tokens.{IsOpened, IsSealed, IsFreed, IsKept};
 ghost use Rattle.sit.specs.Summaries.{count_of};
 ghost use Rattle.sit.specs.NextValid.{IsNextValid};
+ghost use Rattle.sit.specs.declared.segment.Released.TheVariants.{Retired};
 
-use crate::blocks::Blocks;
-use crate::valid::ValidBlocks;
+use crate::body::Body;
+use books::{Books, Permit, SegmentAccount};
 use device::Block;
-use geometry::{Error, Owner, Shape, State};
+use geometry::{Error, Mark, Owner, State};
 use std::marker::Model;
 use tickets::Ticket;
+use words::{FreeSlip, OpenSlip, Standing, StoredOpenSlip, Words};
 
-/// One segment, under its law: a bit is set exactly where the block is not at home and has a ticket, whose owner the
-/// summary names; the count is that of the set bits; an open segment has no valid block at or past its next place, a
-/// sealed one has some, and a retired or free one has none.
+/// One segment in its lock (Linux `filesystems/f2fs`, segment information table and segment summary area). The law, whenever
+/// the lock is free: a block's bit is set exactly where the block is not at home; each set bit has one ticket out, whose
+/// owner the summary names; the count is that of the set bits; an open segment has a next place, and no valid block at or
+/// past it; a sealed one has some valid block; a retired or free one has none; and its state is that of its word.
 #[derive(Drop)]
 pub struct SegmentState<B: Block + Drop> {
-    pub(crate) shape: Shape,
-    pub(crate) number: u32,
-    pub(crate) state: State,
-    pub(crate) blocks: Blocks<B>,
-    pub(crate) valid: ValidBlocks,
-    pub(crate) mtime: u64,
-    pub(crate) next: u32,
+    pub(crate) body: Body<B>,
+    pub(crate) account: SegmentAccount,
+    pub(crate) standing: Standing,
 }
 
 impl<B: Block + Drop> Model for SegmentState<B> {
-    ghost use Rattle.sit.specs.Segment.{Segment, SegmentLaw};
+    ghost use Rattle.sit.specs.Registered.{Registered, IsRegistered};
 
-    ghost Value = { Segment };
+    ghost Value = { Registered };
 
-    ghost view = { λ s. record { shape = s.shape; number = s.number; state = s.state; summaries = s.valid; mtime = s.mtime; next = s.next } };
+    ghost view = { λ s. record { segment = s.body; book = s.account.book; table = s.standing.table; life = s.standing.life } };
 
-    ghost invariant = { λ s. SegmentLaw (record { shape = s.shape; number = s.number; state = s.state; summaries = s.valid; mtime = s.mtime; next = s.next }) s.blocks };
+    ghost invariant = { λ s. IsRegistered s.body s.account s.standing.life };
 }
 
 /// What became of a segment that lost a valid block.
@@ -51,7 +54,9 @@ pub enum Released {
 /// What a choice of a victim looks at in a segment.
 #[derive(Clone, Copy, Debug, PartialEq, Eq)]
 pub struct SegmentRow {
+    /// Its number, from 0 on.
     pub number: u32,
+    /// Where it is in its life.
     pub state: State,
     /// How many of its blocks are valid.
     pub valid: u32,
@@ -61,171 +66,251 @@ pub struct SegmentRow {
 
 impl<B: Block + Drop> SegmentState<B> {
     ghost use Rattle.sums.specs.Weights.{SameItems};
-    ghost use Rattle.sit.specs.Segment.{placed, cleared, in_state, opened, marks_of};
+    ghost use Rattle.sit.specs.Segment.{placed, cleared, in_state, opened, marks_of, HasPlaced};
+    ghost use Rattle.sit.specs.Registered.{AreItsBooks, IsSameBook, HasLivedOn, HasStood, post_of, slip_of, slip_after};
     ghost use Rattle.sit.specs.Released.{HasReleased};
     ghost use Rattle.sit.specs.Row.{row_of};
 
-    /// The number of the segment.
-    pub fn number(&self) -> u32
-        ensures { result ≡ self.now.number }
-    {
-        self.number
-    }
-
     /// Where it is in its life.
     pub fn state(&self) -> State
-        ensures { result ≡ self.now.state }
+        ensures { result ≡ self.now.segment.state }
     {
-        self.state
+        self.body.state()
     }
 
     /// How many of its blocks are valid.
     pub fn count(&self) -> u32
-        ensures { result ≡ count_of self.now.summaries }
+        ensures { result ≡ count_of self.now.segment.summaries }
     {
-        self.valid.count()
+        self.body.count()
     }
 
-    /// The place of the next append to an open segment, from 0 to the number of its blocks.
+    /// The place of the next append to an open segment, from 0 on.
     pub fn next(&self) -> u32
-        ensures { result ≡ self.now.next }
+        ensures { result ≡ self.now.segment.next }
     {
-        self.next
-    }
-
-    /// Whether it is open and has a next place.
-    pub fn has_room(&self) -> bool
-        ensures { IsTrue result ↔ ((self.now.state ≡ Open) × (self.now.next < segment_blocks self.now.shape)) }
-    {
-        match self.state {
-            State::Open => self.next < self.shape.segment_blocks(),
-            State::Free | State::Sealed | State::Prefree => false,
-        }
+        self.body.next()
     }
 
     /// Who names the block at a place, if anybody does.
     pub fn summary(&self, offset: u32) -> Option<Owner>
-        requires { offset < segment_blocks self.now.shape }
-        ensures { result ≡ slice_index_or self.now.summaries offset None }
+        requires { offset < segment_blocks self.now.segment.shape }
+        ensures { result ≡ slice_index_or self.now.segment.summaries offset None }
     {
-        self.valid.summary(offset)
+        self.body.summary(offset)
     }
 
     /// The least valid place at or past one.
     pub fn next_set(&self, from: u32) -> Option<u32>
-        ensures { IsNextValid self.now.summaries from result }
+        ensures { IsNextValid self.now.segment.summaries from result }
     {
-        self.valid.next_set(from)
+        self.body.next_set(from)
     }
 
     /// What a choice of a victim looks at.
     pub fn row(&self) -> SegmentRow
-        ensures { result ≡ row_of self.now }
+        ensures { result ≡ row_of self.now.segment }
     {
-        SegmentRow {
-            number: self.number,
-            state: self.state,
-            valid: self.valid.count(),
-            mtime: self.mtime,
-        }
+        self.body.row()
     }
 
-    /// Writes the block at the next place of an open segment; it is valid from then on, and its ticket names this owner.
+    /// Writes the block at the next place of the segment, which its slip shows to be open; the block is valid from then on,
+    /// and its ticket, which names this owner, is in the permit's hand. Where that was the last place the segment is sealed
+    /// and the slip spent. The order of the places is that of a log (Rosenblum and Ousterhout 1991).
     ///
-    /// The only error is Device: then nothing is marked, the place stays, and the block at it holds any bytes. The
-    /// order of the places is that of a log (Rosenblum and Ousterhout 1991).
+    /// The only error is Device, which the device has counted: then nothing is marked, the place stays, and the block at it
+    /// holds any bytes.
     pub fn place(
         &mut self,
+        books: &Books,
+        words: &Words,
+        permit: &mut Permit,
+        slip: &mut Option<StoredOpenSlip>,
         offset: u32,
         owner: Owner,
         now: u64,
         bytes: &[u8],
     ) -> Result<Ticket<B>, Error>
-        requires open { self.old.state ≡ Open }
-        requires place { offset ≡ self.old.next }
-        requires room { self.old.next < segment_blocks self.old.shape }
+        requires books { AreItsBooks books.now self.old }
+        requires permit { permit.old.book ≡ self.old.book }
+        requires words { words.now.table ≡ self.old.table }
+        requires slip { slip.old ≡ Some (slip_of self.old) }
+        requires place { offset ≡ self.old.segment.next }
         requires owner { IsOwner owner }
-        requires bytes { length bytes.now ≡ block_bytes self.old.shape }
-        ensures mark { IfOk result (λ ticket. ticket.mark ≡ record { address = address_of self.old.shape self.old.number offset; owner = owner }) }
+        requires bytes { length bytes.now ≡ block_bytes self.old.segment.shape }
+        ensures mark { IfOk result (λ ticket. ticket.mark ≡ record { address = address_of self.old.segment.shape self.old.segment.number offset; owner = owner }) }
         ensures content { IfOk result (λ ticket. ticket.content ≡ bytes.now) }
-        ensures segment { OnOk result (self.new ≡ placed self.old owner now) }
-        ensures marks { IfOk result (λ ticket. SameItems (ticket.mark ∷ marks_of self.old) (marks_of self.new)) }
-        ensures count { OnOk result (count_of self.new.summaries ≡ count_of self.old.summaries + 1) }
+        ensures failures { IfOk result (λ ticket. self.new.segment.failed + ticket.failed ≡ self.old.segment.failed) }
+        ensures segment { OnOk result (HasPlaced (placed self.old.segment owner now self.new.segment.failed) self.new.segment) }
+        ensures life { OnOk result (HasLivedOn self.new.segment.state (post_of self.old) (post_of self.new)) }
+        ensures slip { OnOk result (slip.new ≡ slip_after self.new.segment.state slip.old) }
+        ensures marks { IfOk result (λ ticket. SameItems (ticket.mark ∷ marks_of self.old.segment) (marks_of self.new.segment)) }
+        ensures count { OnOk result (count_of self.new.segment.summaries ≡ count_of self.old.segment.summaries + 1) }
+        ensures hand { IfOk result (λ ticket. permit.new ≡ record permit.old { tickets = ticket.mark ∷ permit.old.tickets }) }
+        ensures book { IsSameBook self.old self.new }
         ensures error { IfErr result (λ error. error ≡ Device) }
-        ensures err { IfErr result (λ error. self.new ≡ self.old) }
+        ensures failure { OnErr result (self.old.segment.failed < self.new.segment.failed) }
+        ensures err { OnErr result (self.new ≡ record self.old { segment = record self.old.segment { failed = self.new.segment.failed } }) }
+        ensures err_slip { OnErr result (slip.new ≡ slip.old) }
+        ensures err_hand { OnErr result (permit.new ≡ permit.old) }
     {
-        let block = self.blocks.write_out(offset as usize, bytes)?;
-        self.valid.set(offset, owner);
-        self.mtime = self.mtime.max(now);
-        self.next += 1;
-        Ok(Ticket::new(block, owner))
+        show_open(words, &mut self.standing, slip);
+        let block = self.body.place(offset, owner, now, bytes)?;
+        let address = block.address();
+        let claimed = books.mark(&mut self.account, permit, Mark { address, owner });
+        seal_full(words, &mut self.standing, slip, self.body.state());
+        Ok(Ticket::new(claimed, block))
     }
 
-    /// Takes back the ticket of one of its blocks, which comes home and is valid no more. A sealed segment that has no
-    /// valid block left is retired in the same call.
-    pub fn release(&mut self, ticket: Ticket<B>) -> Released
-        requires address { 0 < ticket.mark.address }
-        requires home { segment_of self.old.shape ticket.mark.address ≡ self.old.number }
-        requires valid { slice_index_or self.old.summaries (offset_of self.old.shape ticket.mark.address) None ≡ Some ticket.mark.owner }
-        requires bytes { length ticket.content ≡ block_bytes self.old.shape }
-        ensures segment { HasReleased (cleared self.old (offset_of self.old.shape ticket.mark.address)) result self.new }
-        ensures marks { SameItems (ticket.mark ∷ marks_of self.new) (marks_of self.old) }
+    /// Takes back the ticket of one of its blocks, which is in the permit's hand. That the block is valid, and named by the
+    /// ticket's owner, the books show. The block comes home and is valid no more. A sealed segment that has no valid block
+    /// left is retired in the same call. This cannot be refused.
+    pub fn release(
+        &mut self,
+        books: &Books,
+        words: &Words,
+        permit: &mut Permit,
+        ticket: Ticket<B>,
+    ) -> Released
+        requires books { AreItsBooks books.now self.old }
+        requires permit { permit.old.book ≡ self.old.book }
+        requires words { words.now.table ≡ self.old.table }
+        requires home { segment_of self.old.segment.shape ticket.mark.address ≡ self.old.segment.number }
+        requires held { 0 < times same_mark ticket.mark permit.old.tickets }
+        requires bytes { length ticket.content ≡ block_bytes self.old.segment.shape }
+        ensures valid { slice_index_or self.old.segment.summaries (offset_of self.old.segment.shape ticket.mark.address) None ≡ Some ticket.mark.owner }
+        ensures segment { HasReleased (cleared self.old.segment (offset_of self.old.segment.shape ticket.mark.address) ticket.failed) result self.new.segment }
+        ensures life { HasStood result (post_of self.old) (post_of self.new) }
+        ensures marks { SameItems (ticket.mark ∷ marks_of self.new.segment) (marks_of self.old.segment) }
+        ensures hand { permit.new ≡ record permit.old { tickets = without same_mark ticket.mark permit.old.tickets } }
+        ensures book { IsSameBook self.old self.new }
     {
-        let block = ticket.into_block();
-        let offset = block.address() - self.blocks.first();
-        self.valid.clear(offset);
-        self.blocks.put(offset as usize, block);
-        match fate_of(self.state, self.valid.count()) {
-            Released::Kept => Released::Kept,
-            Released::Retired => {
-                self.state = State::Prefree;
-                Released::Retired
-            }
-        }
+        let (claimed, block) = ticket.into_parts();
+        books.clear(&mut self.account, permit, claimed);
+        let released = self.body.release(block);
+        retire_empty(words, &mut self.standing, released);
+        released
     }
 
-    /// Seals an open segment that has a valid block.
-    pub fn seal(&mut self)
-        requires open { self.old.state ≡ Open }
-        requires some { 0 < count_of self.old.summaries }
-        ensures { self.new ≡ in_state self.old Sealed }
+    /// Seals a segment that has a valid block, before its last place is taken. Its slip shows that it is open, and is spent.
+    pub fn seal(&mut self, words: &Words, slip: OpenSlip)
+        requires words { words.now.table ≡ self.old.table }
+        requires slip { slip ≡ slip_of self.old }
+        requires some { 0 < count_of self.old.segment.summaries }
+        ensures segment { self.new.segment ≡ in_state self.old.segment Sealed }
+        ensures life { IsSealed (post_of self.old) (post_of self.new) }
+        ensures book { IsSameBook self.old self.new }
     {
-        self.state = State::Sealed;
+        words.seal(&mut self.standing, slip);
+        self.body.seal();
     }
 
     /// Retires the segment if it is sealed and none of its blocks is valid. `release` does so in its own call, so there
     /// is nothing left to do between calls.
-    pub fn retire(&mut self) -> Released
-        ensures { HasReleased self.old result self.new }
+    pub fn retire(&mut self, words: &Words) -> Released
+        requires words { words.now.table ≡ self.old.table }
+        ensures segment { HasReleased self.old.segment result self.new.segment }
+        ensures life { HasStood result (post_of self.old) (post_of self.new) }
+        ensures book { IsSameBook self.old self.new }
     {
-        match fate_of(self.state, self.valid.count()) {
-            Released::Kept => Released::Kept,
-            Released::Retired => {
-                self.state = State::Prefree;
-                Released::Retired
+        let released = self.body.retire();
+        retire_empty(words, &mut self.standing, released);
+        released
+    }
+
+    /// Frees a retired segment, and answers its one free slip. It answers `None`, and the segment stays retired, where a pin
+    /// is out or no version is complete that is later than the one in which it was retired.
+    pub fn free(&mut self, words: &Words) -> Option<FreeSlip>
+        requires words { words.now.table ≡ self.old.table }
+        requires retired { self.old.segment.state ≡ Prefree }
+        ensures segment { MatchOption result (self.new.segment ≡ self.old.segment) (λ slip. self.new.segment ≡ in_state self.old.segment Free) }
+        ensures life { MatchOption result (IsKept (post_of self.old) (post_of self.new)) (λ slip. IsFreed (post_of self.old) slip (post_of self.new)) }
+        ensures book { IsSameBook self.old self.new }
+    {
+        match words.free(&mut self.standing) {
+            Some(slip) => {
+                self.body.free();
+                Some(slip)
             }
+            None => None,
         }
     }
 
-    /// Opens a free segment; its next place is its first.
-    pub fn open(&mut self)
-        requires { self.old.state ≡ Free }
-        ensures { self.new ≡ opened self.old }
+    /// Opens a segment, which its slip shows to be free, and gives the slip of an open one; its next place is its first.
+    /// This cannot be refused.
+    pub fn open(&mut self, words: &Words, slip: FreeSlip) -> OpenSlip
+        requires words { words.now.table ≡ self.old.table }
+        requires slip { (slip.table ≡ self.old.table) × (slip.segment ≡ self.old.segment.number) }
+        ensures free { self.old.segment.state ≡ Free }
+        ensures segment { self.new.segment ≡ opened self.old.segment }
+        ensures slip { result ≡ slip_of self.old }
+        ensures life { IsOpened (post_of self.old) result (post_of self.new) }
+        ensures book { IsSameBook self.old self.new }
     {
-        self.state = State::Open;
-        self.next = 0;
+        let opened = words.open(&mut self.standing, slip);
+        self.body.open();
+        opened
+    }
+
+    /// The blocks of a segment without valid blocks, put behind a run that begins at address 1 and ends before them. It
+    /// takes no memory.
+    pub fn empty_into(self, all: &mut Vec<B>)
+        requires none { count_of self.segment.summaries ≡ 0 }
+        requires run { IsBlockRun B.address_of B.content_of (block_bytes self.segment.shape) 1 all.old.items }
+        requires next { address_of self.segment.shape self.segment.number 0 ≡ 1 + vec_len all.old }
+        requires room { vec_len all.old + segment_blocks self.segment.shape ≤ vec_capacity all.old }
+        ensures run { IsBlockRun B.address_of B.content_of (block_bytes self.segment.shape) 1 all.new.items }
+        ensures count { vec_len all.new ≡ vec_len all.old + segment_blocks self.segment.shape }
+        ensures capacity { vec_capacity all.new ≡ vec_capacity all.old }
+    {
+        self.body.empty_into(all);
     }
 }
 
-ghost use Rattle.sit.specs.Released.{IsFate};
+ghost use Rattle.sit.specs.Registered.{HasLivedOn as HasSealedFull, HasStood as HasRetiredEmpty, slip_after as slip_left};
 
-// What becomes of a segment in this state that has so many valid blocks.
-fn fate_of(state: State, valid: u32) -> Released
-    ensures { IsFate state valid result }
+// Shows that a standing's segment is open, by its slip.
+fn show_open(words: &Words, standing: &mut Standing, slip: &mut Option<StoredOpenSlip>)
+    requires table { standing.old.table ≡ words.now.table }
+    requires slip { slip.old ≡ Some (record { table = standing.old.table; segment = standing.old.life.segment }) }
+    ensures state { standing.old.life.state ≡ Open }
+    ensures standing { standing.new ≡ standing.old }
+    ensures slip { slip.new ≡ slip.old }
 {
-    if state == State::Sealed && valid == 0 {
-        Released::Retired
-    } else {
-        Released::Kept
+    match slip.take() {
+        Some(stored) => {
+            let mut open = stored.restore();
+            words.is_open(standing, &mut open);
+            *slip = Some(open.store());
+        }
+        None => unreachable!(),
+    }
+}
+
+// Seals a standing's segment where it has this state, and spends its slip.
+fn seal_full(words: &Words, standing: &mut Standing, slip: &mut Option<StoredOpenSlip>, state: State)
+    requires table { standing.old.table ≡ words.now.table }
+    requires slip { slip.old ≡ Some (record { table = standing.old.table; segment = standing.old.life.segment }) }
+    ensures standing { HasSealedFull state standing.old standing.new }
+    ensures slip { slip.new ≡ slip_left state slip.old }
+{
+    match state {
+        State::Sealed => match slip.take() {
+            Some(stored) => words.seal(standing, stored.restore()),
+            None => unreachable!(),
+        },
+        State::Free | State::Open | State::Prefree => {}
+    }
+}
+
+// Retires a standing's segment where it has lost its last valid block.
+fn retire_empty(words: &Words, standing: &mut Standing, released: Released)
+    requires table { standing.old.table ≡ words.now.table }
+    requires sealed { released ≡ Retired → standing.old.life.state ≡ Sealed }
+    ensures { HasRetiredEmpty released standing.old standing.new }
+{
+    match released {
+        Released::Kept => {}
+        Released::Retired => words.retire(standing),
     }
 }

@@ -1,32 +1,38 @@
-//! A ticket: a valid block, who names it, and its bytes.
-ghost use Rattle.std.specs.Prelude.{◌≡◌, length, OnOk, IfOk};
+//! A ticket: the right to a valid block, with the block itself.
+ghost use Rattle.std.specs.Prelude.{◌≡◌, ◌<◌, length, OnOk, OnErr, IfOk};
 
+use books::Ticket as Claimed;
 use device::{Block, DeviceError};
-use geometry::Owner;
+use geometry::{Mark, Owner};
 use std::marker::Model;
 
-/// The one right to a valid block: the block itself, and who names it. It can't be dropped or copied; its segment takes
-/// it back.
+/// The one right to a valid block: the block itself, and its ticket in the books, which names who has it. It can't be
+/// dropped or copied; its segment takes it back.
 pub struct Ticket<B: Block> {
-    owner: Owner,
+    claimed: Claimed,
     block: B,
 }
 
 impl<B: Block> Model for Ticket<B> {
+    ghost use Rattle.std.specs.Prelude.{◌≡◌};
     ghost use Rattle.tickets.specs.Placed.{Placed};
 
     ghost Value = { Placed };
 
-    ghost view = { λ t. record { mark = record { address = B.address_of t.block; owner = t.owner }; content = B.content_of t.block } };
+    ghost view = { λ t. record { mark = t.claimed; content = B.content_of t.block; failed = B.failed t.block } };
+
+    ghost invariant = { λ t. B.address_of t.block ≡ t.claimed.address };
 }
 
 impl<B: Block> Ticket<B> {
-    /// The ticket of a block that this owner names.
-    pub fn new(block: B, owner: Owner) -> Ticket<B>
-        ensures mark { result.mark ≡ record { address = B.address_of block; owner = owner } }
+    /// The ticket of a block, which the books have marked.
+    pub fn new(claimed: Claimed, block: B) -> Ticket<B>
+        requires address { B.address_of block ≡ claimed.address }
+        ensures mark { result.mark ≡ claimed }
         ensures content { result.content ≡ B.content_of block }
+        ensures failures { result.failed ≡ B.failed block }
     {
-        Ticket { owner, block }
+        Ticket { claimed, block }
     }
 
     /// The address of its block.
@@ -40,32 +46,41 @@ impl<B: Block> Ticket<B> {
     pub fn owner(&self) -> Owner
         ensures { result ≡ self.now.mark.owner }
     {
-        self.owner
+        let Mark { address: _, owner } = self.claimed.mark();
+        owner
     }
 
-    /// Reads its block into `out`, which has as many bytes. After a failure `out` has any bytes, and the block its own.
+    /// Reads its block into `out`, which has as many bytes. After a failure, which the device has counted, `out` has any
+    /// bytes, and the block its own.
     pub fn read(&mut self, out: &mut [u8]) -> Result<(), DeviceError>
         requires { length out.old ≡ length self.old.content }
-        ensures same { self.new ≡ self.old }
+        ensures same { self.new ≡ record self.old { failed = self.new.failed } }
         ensures bytes { OnOk result (out.new ≡ self.old.content) }
+        ensures sound { OnOk result (self.new.failed ≡ self.old.failed) }
+        ensures failure { OnErr result (self.old.failed < self.new.failed) }
     {
         self.block.read(out)
     }
 
-    /// The block's bytes as they are now, whatever becomes of the block. A failure changes nothing.
+    /// The block's bytes as they are now, whatever becomes of the block. A failure, which the device has counted, changes
+    /// nothing else.
     pub fn lend(&mut self) -> Result<B::Lease, DeviceError>
-        ensures same { self.new ≡ self.old }
+        ensures same { self.new ≡ record self.old { failed = self.new.failed } }
         ensures bytes { IfOk result (λ lease. B.Lease.items lease ≡ self.old.content) }
+        ensures sound { OnOk result (self.new.failed ≡ self.old.failed) }
+        ensures failure { OnErr result (self.old.failed < self.new.failed) }
     {
         self.block.lend()
     }
 
-    /// The block, and the end of the ticket.
-    pub fn into_block(self) -> B
-        ensures address { B.address_of result ≡ self.mark.address }
-        ensures content { B.content_of result ≡ self.content }
+    /// Its ticket in the books, and the block.
+    pub fn into_parts(self) -> (Claimed, B)
+        ensures mark { result.0 ≡ self.mark }
+        ensures address { B.address_of result.1 ≡ self.mark.address }
+        ensures content { B.content_of result.1 ≡ self.content }
+        ensures failures { B.failed result.1 ≡ self.failed }
     {
-        let Ticket { owner: _, block } = self;
-        block
+        let Ticket { claimed, block } = self;
+        (claimed, block)
     }
 }

@@ -4,9 +4,10 @@ use mathlib.Core.Logic.{dite}
 use native.Mathlib.Decide.{ℕ_discrete}
 use mathlib.Core.Option.{some}
 use lib.ListN.{get_elem?}
+use Rattle.sums.specs.Weights.{weigh}
 use Rattle.words.specs.declared.claim.Claim.{Claim}
 use Rattle.words.specs.declared.claim.Claim.TheVariants.{Stands, Slip, Appends, Reads, Checkpoint}
-use Rattle.words.specs.Claims.{sum_of, Every, total, stands, stands_at, rank, frees, opens, room, slips, appends, pins, pins_at, readers, checkpoints, version}
+use Rattle.words.specs.Claims.{Every, total, stands, stands_at, rank, frees, opens, room, slips, appends, pins, pins_at, readers, checkpoints, version}
 use Rattle.words.specs.Rule.{Sound, Law}
 use Rattle.words.proofs.Counts.{times_at_le, sum-set, sum-mono, sum-le, every-set, every-map}
 
@@ -36,19 +37,19 @@ module _ (n : ℕ) (words : List ℕ) (views : List (List Claim)) (law : Law n w
   }
 
   module _ (id : ℕ) (v w : List Claim) (at_id : get_elem? views id ≡ some v) where
-    pub moved : (f : Claim → ℕ) → total f (set views id w) + sum_of f v ≡ total f views + sum_of f w
-    moved f = sum-set (λ u. sum_of f u) views id v w at_id
+    pub moved : (f : Claim → ℕ) → total f (set views id w) + weigh f v ≡ total f views + weigh f w
+    moved f = sum-set (λ u. weigh f u) views id v w at_id
 
     pub changed : (words' : List ℕ) → length words' ≡ n + 1
-        → ((s : ℕ) → s < n → get_or words' s 0 + (sum_of (rank s) v + sum_of (pins s) v) ≡ get_or words s 0 + (sum_of (rank s) w + sum_of (pins s) w))
-        → get_or words' n 0 + sum_of version v ≡ get_or words n 0 + sum_of version w
+        → ((s : ℕ) → s < n → get_or words' s 0 + (weigh (rank s) v + weigh (pins s) v) ≡ get_or words s 0 + (weigh (rank s) w + weigh (pins s) w))
+        → get_or words' n 0 + weigh version v ≡ get_or words n 0 + weigh version w
         → get_or words n 0 ≤ get_or words' n 0
         → get_or words' n 0 < 4294967296
-        → ((s : ℕ) → sum_of (stands s) w ≡ sum_of (stands s) v)
-        → sum_of checkpoints w ≡ sum_of checkpoints v
-        → ((s : ℕ) → sum_of (slips s) w + sum_of (frees s) v ≡ sum_of (slips s) v + sum_of (frees s) w)
-        → ((s : ℕ) → sum_of (appends s) w + sum_of (opens s) v ≡ sum_of (appends s) v + sum_of (opens s) w)
-        → sum_of readers w ≡ sum_of readers v
+        → ((s : ℕ) → weigh (stands s) w ≡ weigh (stands s) v)
+        → weigh checkpoints w ≡ weigh checkpoints v
+        → ((s : ℕ) → weigh (slips s) w + weigh (frees s) v ≡ weigh (slips s) v + weigh (frees s) w)
+        → ((s : ℕ) → weigh (appends s) w + weigh (opens s) v ≡ weigh (appends s) v + weigh (opens s) w)
+        → weigh readers w ≡ weigh readers v
         → ((s : ℕ) → total (pins s) (set views id w) ≤ total (room s) (set views id w))
         → ((s i : ℕ) → total (pins_at s i) (set views id w) ≤ 64 * total (stands_at s i) (set views id w))
         → Every (Sound n (get_or words' n 0)) w
@@ -72,14 +73,14 @@ module _ (n : ℕ) (words : List ℕ) (views : List (List Claim)) (law : Law n w
 
     -- the word of one segment changes
     pub word_changed : (seg x : ℕ) → seg < n
-        → x + (sum_of (rank seg) v + sum_of (pins seg) v) ≡ get_or words seg 0 + (sum_of (rank seg) w + sum_of (pins seg) w)
-        → ((s : ℕ) → s ≢ seg → sum_of (rank s) w + sum_of (pins s) w ≡ sum_of (rank s) v + sum_of (pins s) v)
-        → sum_of version w ≡ sum_of version v
-        → ((s : ℕ) → sum_of (stands s) w ≡ sum_of (stands s) v)
-        → sum_of checkpoints w ≡ sum_of checkpoints v
-        → ((s : ℕ) → sum_of (slips s) w + sum_of (frees s) v ≡ sum_of (slips s) v + sum_of (frees s) w)
-        → ((s : ℕ) → sum_of (appends s) w + sum_of (opens s) v ≡ sum_of (appends s) v + sum_of (opens s) w)
-        → sum_of readers w ≡ sum_of readers v
+        → x + (weigh (rank seg) v + weigh (pins seg) v) ≡ get_or words seg 0 + (weigh (rank seg) w + weigh (pins seg) w)
+        → ((s : ℕ) → s ≢ seg → weigh (rank s) w + weigh (pins s) w ≡ weigh (rank s) v + weigh (pins s) v)
+        → weigh version w ≡ weigh version v
+        → ((s : ℕ) → weigh (stands s) w ≡ weigh (stands s) v)
+        → weigh checkpoints w ≡ weigh checkpoints v
+        → ((s : ℕ) → weigh (slips s) w + weigh (frees s) v ≡ weigh (slips s) v + weigh (frees s) w)
+        → ((s : ℕ) → weigh (appends s) w + weigh (opens s) v ≡ weigh (appends s) v + weigh (opens s) w)
+        → weigh readers w ≡ weigh readers v
         → ((s : ℕ) → total (pins s) (set views id w) ≤ total (room s) (set views id w))
         → ((s i : ℕ) → total (pins_at s i) (set views id w) ≤ 64 * total (stands_at s i) (set views id w))
         → Every (Sound n (get_or words n 0)) w
@@ -91,19 +92,19 @@ module _ (n : ℕ) (words : List ℕ) (views : List (List Claim)) (law : Law n w
         let bound = law.bounded in
         changed (set words seg x) (length-set words seg x ∙ law.wide)
         (λ s h. dite (ℕ_discrete s seg)
-        (λ e. let P : ℕ → Type 0 = λ z. get_or (set words seg x) z 0 + (sum_of (rank z) v + sum_of (pins z) v) ≡ get_or words z 0 + (sum_of (rank z) w + sum_of (pins z) w) in
+        (λ e. let P : ℕ → Type 0 = λ z. get_or (set words seg x) z 0 + (weigh (rank z) v + weigh (pins z) v) ≡ get_or words z 0 + (weigh (rank z) w + weigh (pins z) w) in
         subst P (sym e) (let is : get_or (set words seg x) seg 0 ≡ x = get_or-set_same words seg x 0 (omega arith) in omega (arith, here)))
         (λ ne. let is : get_or (set words seg x) s 0 ≡ get_or words s 0 = get_or-set_other words seg s x 0 ne in let d = else s ne in omega arith))
         (omega arith) (omega arith) (omega arith) st ck sl op rd wi sa (subst (λ z. Every (Sound n z) w) (sym last) snd) (λ c. subst (λ z. Sound n (get_or words n 0) c → Sound n z c) (sym last) (λ k. k))
 
     -- a load
-    pub looked : ((s : ℕ) → sum_of (rank s) w + sum_of (pins s) w ≡ sum_of (rank s) v + sum_of (pins s) v)
-        → sum_of version w ≡ sum_of version v
-        → ((s : ℕ) → sum_of (stands s) w ≡ sum_of (stands s) v)
-        → sum_of checkpoints w ≡ sum_of checkpoints v
-        → ((s : ℕ) → sum_of (slips s) w + sum_of (frees s) v ≡ sum_of (slips s) v + sum_of (frees s) w)
-        → ((s : ℕ) → sum_of (appends s) w + sum_of (opens s) v ≡ sum_of (appends s) v + sum_of (opens s) w)
-        → sum_of readers w ≡ sum_of readers v
+    pub looked : ((s : ℕ) → weigh (rank s) w + weigh (pins s) w ≡ weigh (rank s) v + weigh (pins s) v)
+        → weigh version w ≡ weigh version v
+        → ((s : ℕ) → weigh (stands s) w ≡ weigh (stands s) v)
+        → weigh checkpoints w ≡ weigh checkpoints v
+        → ((s : ℕ) → weigh (slips s) w + weigh (frees s) v ≡ weigh (slips s) v + weigh (frees s) w)
+        → ((s : ℕ) → weigh (appends s) w + weigh (opens s) v ≡ weigh (appends s) v + weigh (opens s) w)
+        → weigh readers w ≡ weigh readers v
         → ((s : ℕ) → total (pins s) (set views id w) ≤ total (room s) (set views id w))
         → ((s i : ℕ) → total (pins_at s i) (set views id w) ≤ 64 * total (stands_at s i) (set views id w))
         → Every (Sound n (get_or words n 0)) w
@@ -115,7 +116,7 @@ module _ (n : ℕ) (words : List ℕ) (views : List (List Claim)) (law : Law n w
   -- no segment has more pins than there are readers
   pub few_pins : (s : ℕ) → total (pins s) views ≤ 64
   few_pins s =
-      let a = sum-mono (λ u. sum_of (pins s) u) (λ u. sum_of readers u) (Every (Sound n (get_or words n 0))) views (λ u h. sum-mono (pins s) readers (Sound n (get_or words n 0)) u (pins_le n (get_or words n 0) s) h) law.sound in
+      let a = sum-mono (λ u. weigh (pins s) u) (λ u. weigh readers u) (Every (Sound n (get_or words n 0))) views (λ u h. sum-mono (pins s) readers (Sound n (get_or words n 0)) u (pins_le n (get_or words n 0) s) h) law.sound in
       let b = law.few_readers in omega arith
 
 pins_at_le : (s i : ℕ) (c : Claim) → pins_at s i c ≤ pins s c
@@ -127,4 +128,4 @@ pins_at_le s i (Checkpoint k) = omega arith
 
 -- the pins on one incarnation are among those on the segment
 pub part_of_pins : (s i : ℕ) (views : List (List Claim)) → total (pins_at s i) views ≤ total (pins s) views
-part_of_pins s i views = sum-le (λ u. sum_of (pins_at s i) u) (λ u. sum_of (pins s) u) views (λ u. sum-le (pins_at s i) (pins s) u (pins_at_le s i))
+part_of_pins s i views = sum-le (λ u. weigh (pins_at s i) u) (λ u. weigh (pins s) u) views (λ u. sum-le (pins_at s i) (pins s) u (pins_at_le s i))

@@ -3,8 +3,8 @@ use Rattle.std.proofs.Common.{◌≡◌, ℕ, ◌<◌, sym, ap, ◌∙◌, subst
 use Rattle.geometry.specs.declared.state.State.{State}
 use Rattle.geometry.specs.declared.state.State.TheVariants.{Free, Open, Sealed, Prefree}
 use Rattle.words.specs.declared.claim.Life.{Life}
-use Rattle.words.specs.Life.{Stage, StepFrom, LifeStep}
-use Rattle.words.specs.Life as life
+use Rattle.geometry.specs.Life.{Stage, StepFrom, LifeStep}
+use Rattle.geometry.specs.Life as life
 use Rattle.words.specs.Steps.{stage_of, life_seen, life_opened, life_sealed, life_retired, life_freed}
 
 step_from : (st : State) (completed : ℕ) (a b : Stage) → a.state ≡ st → StepFrom st completed a b → LifeStep completed a b

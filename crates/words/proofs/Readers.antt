@@ -9,11 +9,12 @@ use Rattle.atomic_table.specs.Table.{State as Table, Me, step, keeps, Allows}
 use Rattle.atomic_table.proofs.Lists.{set_again}
 use Rattle.geometry.specs.declared.state.State.{State}
 use Rattle.geometry.specs.declared.state.State.TheVariants.{Free, Open, Sealed, Prefree}
+use Rattle.sums.specs.Weights.{weigh}
 use Rattle.words.specs.declared.claim.Life.{Life}
 use Rattle.words.specs.declared.claim.Pins.{Pins}
 use Rattle.words.specs.declared.claim.Claim.{Claim}
 use Rattle.words.specs.declared.claim.Claim.TheVariants.{Stands, Slip, Appends, Reads, Checkpoint}
-use Rattle.words.specs.Claims.{sum_of, Every, total, at, code, room_of, times, times_at, stands, stands_at, rank_of, rank, room, pins, pins_at, readers}
+use Rattle.words.specs.Claims.{Every, total, at, code, room_of, times, times_at, stands, stands_at, rank_of, rank, room, pins, pins_at, readers}
 use Rattle.words.specs.Rule.{Sound, Law}
 use Rattle.words.specs.Steps.{life_counted, pins_seen, pins_loaded, pins_with, pins_without, pinned, unpinned, pins_counted, version_seen, agreed}
 use Rattle.words.proofs.Counts.{at_here, at_same, at_other, at_le, sum-find, sum-gap, sum-none, sum-only, sum-in, sum-mono, every-get, without_times, without_times_at}
@@ -36,11 +37,11 @@ life_here s (Checkpoint v) h = absurd (omega arith)
 pub owner : (n : ℕ) (words : List ℕ) (views : List (List Claim)) → Law n words views → (s : ℕ) → s < n → Owner n words views s
 owner n words views law s lt =
     let all = law.one_standing s lt in
-    let f = sum-find (λ u. sum_of (stands s) u) views all in
+    let f = sum-find (λ u. weigh (stands s) u) views all in
     let g = sum-find (stands s) f.1 f.3 in
     let h = life_here s g.1 g.3 in
     let the : (k : Claim → ℕ) → ((c : Claim) → stands s c ≡ 0 → k c ≡ 0) → total k views ≡ k (Stands h.0) = λ k no'.
-    sum-only (λ u. sum_of (stands s) u) (λ u. sum_of k u) views f.0 f.1 (λ u. sum-none (stands s) k u no') f.2 f.3 all ∙ (sum-only (stands s) k f.1 g.0 g.1 no' g.2 g.3 f.3 ∙ ap k h.1) in
+    sum-only (λ u. weigh (stands s) u) (λ u. weigh k u) views f.0 f.1 (λ u. sum-none (stands s) k u no') f.2 f.3 all ∙ (sum-only (stands s) k f.1 g.0 g.1 no' g.2 g.3 f.3 ∙ ap k h.1) in
     let r = the (rank s) (no_rank s) in
     let d = at_same h.0.segment s (rank_of h.0) h.2 in
     let e = law.encoded s lt in
@@ -72,10 +73,10 @@ module _ (n slots id : ℕ) (c : List (ℕ × Unit {0})) (p : Pins) where
 
     -- the seat's own pins are counted
     own_pins : (z : ℕ) → times z p.held ≤ total (pins z) s.views
-    own_pins z = let h : sum_of (pins z) (Reads p ∷ []) ≤ total (pins z) s.views = sum-in (λ u. sum_of (pins z) u) s.views id (Reads p ∷ []) at_id in omega arith
+    own_pins z = let h : weigh (pins z) (Reads p ∷ []) ≤ total (pins z) s.views = sum-in (λ u. weigh (pins z) u) s.views id (Reads p ∷ []) at_id in omega arith
 
     own_pins_at : (z i : ℕ) → times_at z i p.held ≤ total (pins_at z i) s.views
-    own_pins_at z i = let h : sum_of (pins_at z i) (Reads p ∷ []) ≤ total (pins_at z i) s.views = sum-in (λ u. sum_of (pins_at z i) u) s.views id (Reads p ∷ []) at_id in omega arith
+    own_pins_at z i = let h : weigh (pins_at z i) (Reads p ∷ []) ≤ total (pins_at z i) s.views = sum-in (λ u. weigh (pins_at z i) u) s.views id (Reads p ∷ []) at_id in omega arith
 
     reader_looked : (seen : ℕ) (load : ℕ × ℕ) → seen ≤ get_or s.words n 0 → Law n s.words (set s.views id (Reads (record { held = p.held; seen = seen; load = load }) ∷ []))
     reader_looked seen load old =
@@ -157,8 +158,8 @@ module _ (n slots id : ℕ) (c : List (ℕ × Unit {0})) (l : Life) (p : Pins) w
       let mv = moved n s.words s.views law id v w at_id in
       let here = every-get (Every (Sound n (get_or s.words n 0))) s.views id v law.sound at_id in
       let wide_room : (q : ℕ) → room_of l.state q ≡ 64 = λ q. ⊎_elim (λ e. ap (λ st. room_of st q) e) (λ e. ap (λ st. room_of st q) e) busy in
-      let fewer : total (pins g) s.views + sum_of readers v ≤ total readers s.views + sum_of (pins g) v =
-      sum-gap (λ u. sum_of (pins g) u) (λ u. sum_of readers u) (Every (Sound n (get_or s.words n 0))) s.views id v
+      let fewer : total (pins g) s.views + weigh readers v ≤ total readers s.views + weigh (pins g) v =
+      sum-gap (λ u. weigh (pins g) u) (λ u. weigh readers u) (Every (Sound n (get_or s.words n 0))) s.views id v
       (λ u h. sum-mono (pins g) readers (Sound n (get_or s.words n 0)) u (pins_le n (get_or s.words n 0) g) h) law.sound at_id in
       let most = law.few_readers in
       let few : total (pins g) s.views ≤ 63 = omega arith in
@@ -212,9 +213,9 @@ module _ (n slots id : ℕ) (c : List (ℕ × Unit {0})) (l : Life) (p : Pins) w
         (
           refl,
           refl,
-          (λ i h. let own : sum_of (pins_at g i) v ≤ total (pins_at g i) s.views = sum-in (λ u. sum_of (pins_at g i) u) s.views id v at_id in
+          (λ i h. let own : weigh (pins_at g i) v ≤ total (pins_at g i) s.views = sum-in (λ u. weigh (pins_at g i) u) s.views id v at_id in
               let b = law.same_life g i in let d = f.lives i in sym (found_life l.incarnation i (times_at g i p.held) h (omega arith))),
-          (λ h e. let own : sum_of (pins g) v ≤ total (pins g) s.views = sum-in (λ u. sum_of (pins g) u) s.views id v at_id in
+          (λ h e. let own : weigh (pins g) v ≤ total (pins g) s.views = sum-in (λ u. weigh (pins g) u) s.views id v at_id in
               let wi = f.within in let z : room_of l.state l.pins ≡ 0 = ap (λ st. room_of st l.pins) e in absurd (omega arith)),
         ),
       )

@@ -9,9 +9,10 @@ use Rattle.atomic_table.specs.Table.{step, keeps, Allows, Splits, Joins}
 use Rattle.atomic_table.proofs.Lists.{set_else}
 use Rattle.geometry.specs.declared.state.State.{State}
 use Rattle.geometry.specs.declared.state.State.TheVariants.{Free, Open, Sealed, Prefree}
+use Rattle.sums.specs.Weights.{weigh}
 use Rattle.words.specs.declared.claim.Claim.{Claim}
 use Rattle.words.specs.declared.claim.Claim.TheVariants.{Stands, Slip, Appends, Reads, Checkpoint}
-use Rattle.words.specs.Claims.{sum_of, Every, total, at, stands, stands_at, rank, frees, opens, room, slips, appends, pins, pins_at, readers, checkpoints, version, fresh_life, fresh_pins, fresh_segments, opening_view, without_second, second}
+use Rattle.words.specs.Claims.{Every, total, at, stands, stands_at, rank, frees, opens, room, slips, appends, pins, pins_at, readers, checkpoints, version, fresh_life, fresh_pins, fresh_segments, opening_view, without_second, second}
 use Rattle.words.specs.Rule.{IsDated, Sound, Law}
 use Rattle.words.specs.Steps.{advanced}
 use Rattle.words.proofs.Counts.{at_same, at_other, at_zero, sum-append, sum-set, sum-only, sum-none, sum-replicate, sum-ones, every-append, every-set, every-get, every-replicate}
@@ -45,7 +46,7 @@ advances n slots id c v small s law _ at_id _ =
     let w : List Claim = Checkpoint (v + 1) ∷ [] in
     let all = law.one_checkpoint in
     let mine : total version s.views ≡ v + 0 =
-    sum-only (λ u. sum_of checkpoints u) (λ u. sum_of version u) s.views id (Checkpoint v ∷ []) (λ u. sum-none checkpoints version u no_version) at_id refl all in
+    sum-only (λ u. weigh checkpoints u) (λ u. weigh version u) s.views id (Checkpoint v ∷ []) (λ u. sum-none checkpoints version u no_version) at_id refl all in
     let is : x ≡ v = let e = law.completed in omega arith in
     let mv = moved n s.words s.views law id (Checkpoint v ∷ []) w at_id in
     let long : length s.words ≡ n + 1 = law.wide in
@@ -69,14 +70,14 @@ pub joins : (n id : ℕ) (v : List Claim) (other : ℕ) (w : List Claim) → Joi
 joins n id v other w s law at_v apart at_w =
     let at_w' : get_elem? s.views other ≡ some w = sym (set_else s.views id other (v ++ w) apart) ∙ at_w in
     regrouped n s.words s.views law (set (set s.views id (v ++ w)) other [])
-    (λ f. let a = sum-set (λ u. sum_of f u) s.views id v (v ++ w) at_v in let b = sum-set (λ u. sum_of f u) (set s.views id (v ++ w)) other w [] at_w in let e = sum-append f v w in omega arith)
+    (λ f. let a = sum-set (λ u. weigh f u) s.views id v (v ++ w) at_v in let b = sum-set (λ u. weigh f u) (set s.views id (v ++ w)) other w [] at_w in let e = sum-append f v w in omega arith)
     (λ P h. every-set (Every P) (set s.views id (v ++ w)) other []
     (every-set (Every P) s.views id (v ++ w) h (every-append P v w (every-get (Every P) s.views id v h at_v) (every-get (Every P) s.views other w h at_w'))) tt)
 
-cut : (n id : ℕ) (v left right : List Claim) → ((f : Claim → ℕ) → sum_of f left + sum_of f right ≡ sum_of f v) → ((P : Claim → Type 0) → Every P v → Every P left × Every P right) → Splits (Holds n) id v left right
+cut : (n id : ℕ) (v left right : List Claim) → ((f : Claim → ℕ) → weigh f left + weigh f right ≡ weigh f v) → ((P : Claim → Type 0) → Every P v → Every P left × Every P right) → Splits (Holds n) id v left right
 cut n id v left right same every s law at_v =
     regrouped n s.words s.views law (set s.views id left ++ right ∷ [])
-    (λ f. let a = sum-set (λ u. sum_of f u) s.views id v left at_v in let b = sum-append (λ u. sum_of f u) (set s.views id left) (right ∷ []) in let e = same f in omega arith)
+    (λ f. let a = sum-set (λ u. weigh f u) s.views id v left at_v in let b = sum-append (λ u. weigh f u) (set s.views id left) (right ∷ []) in let e = same f in omega arith)
     (λ P h. let k = every P (every-get (Every P) s.views id v h at_v) in
     every-append (Every P) (set s.views id left) (right ∷ []) (every-set (Every P) s.views id left h k.0) (k.1, tt))
 
@@ -93,19 +94,19 @@ pub ruleset cuts_and_joins = (cuts_second, cuts_whole, joins)
 
 -- the start
 
-nothing : (f : Claim → ℕ) (a count : ℕ) → ((s : ℕ) → f (Stands (fresh_life s)) ≡ 0) → ((s : ℕ) → f (Slip s) ≡ 0) → sum_of f (fresh_segments a count) ≡ 0
+nothing : (f : Claim → ℕ) (a count : ℕ) → ((s : ℕ) → f (Stands (fresh_life s)) ≡ 0) → ((s : ℕ) → f (Slip s) ≡ 0) → weigh f (fresh_segments a count) ≡ 0
 nothing f a zero x y = refl
 nothing f a (suc count) x y = let p = x a in let q = y a in let r = nothing f (suc a) count x y in omega arith
 
-alike : (f g : Claim → ℕ) (a count : ℕ) → ((s : ℕ) → f (Stands (fresh_life s)) + f (Slip s) ≡ g (Stands (fresh_life s)) + g (Slip s)) → sum_of f (fresh_segments a count) ≡ sum_of g (fresh_segments a count)
+alike : (f g : Claim → ℕ) (a count : ℕ) → ((s : ℕ) → f (Stands (fresh_life s)) + f (Slip s) ≡ g (Stands (fresh_life s)) + g (Slip s)) → weigh f (fresh_segments a count) ≡ weigh g (fresh_segments a count)
 alike f g a zero x = refl
 alike f g a (suc count) x = let p = x a in let r = alike f g (suc a) count x in omega arith
 
-before : (s a count : ℕ) → s < a → sum_of (stands s) (fresh_segments a count) ≡ 0
+before : (s a count : ℕ) → s < a → weigh (stands s) (fresh_segments a count) ≡ 0
 before s a zero h = refl
 before s a (suc count) h = let ne : s ≢ a = omega arith in let k = at_other a s 1 ne in let r = before s (suc a) count (omega arith) in omega arith
 
-once : (s a count : ℕ) → a ≤ s → s < a + count → sum_of (stands s) (fresh_segments a count) ≡ 1
+once : (s a count : ℕ) → a ≤ s → s < a + count → weigh (stands s) (fresh_segments a count) ≡ 1
 once s a zero h k = absurd (omega arith)
 once s a (suc count) h k = dite (ℕ_discrete s a)
     (λ e. let w : at a s 1 ≡ 1 = at_same a s 1 (sym e) in let r = before s (suc a) count (omega arith) in omega arith)
@@ -116,7 +117,7 @@ fresh_sound n completed a zero h k = tt
 fresh_sound n completed a (suc count) h k = ((omega arith, omega arith, k), (tt, fresh_sound n completed (suc a) count (omega arith) k))
 
 module _ (n seats start : ℕ) where
-  sums : (f : Claim → ℕ) → f (Reads fresh_pins) ≡ 0 → total f (opening_view n seats start ∷ []) ≡ f (Checkpoint start) + sum_of f (fresh_segments 0 n)
+  sums : (f : Claim → ℕ) → f (Reads fresh_pins) ≡ 0 → total f (opening_view n seats start ∷ []) ≡ f (Checkpoint start) + weigh f (fresh_segments 0 n)
   sums f z = let a = sum-append f (fresh_segments 0 n) (replicate seats (Reads fresh_pins)) in let b = sum-replicate f seats (Reads fresh_pins) z in omega arith
 
   pub opens_lawful : (words : List ℕ) → length words ≡ n + 1 → ((s : ℕ) → s < n → get_or words s 0 ≡ 0) → get_or words n 0 ≡ start → 0 < start → start < 4294967296 → seats ≤ 64

@@ -9,10 +9,11 @@ use Rattle.atomic_table.specs.Table.{State as Table, Me, step, keeps, Allows}
 use Rattle.atomic_table.proofs.Lists.{set_again}
 use Rattle.geometry.specs.declared.state.State.{State}
 use Rattle.geometry.specs.declared.state.State.TheVariants.{Free, Open, Sealed, Prefree}
+use Rattle.sums.specs.Weights.{weigh}
 use Rattle.words.specs.declared.claim.Life.{Life}
 use Rattle.words.specs.declared.claim.Claim.{Claim}
 use Rattle.words.specs.declared.claim.Claim.TheVariants.{Stands, Slip, Appends, Reads, Checkpoint}
-use Rattle.words.specs.Claims.{sum_of, Every, total, at, code, is_free, is_open, room_of, stands, stands_at, rank_of, rank, frees, opens, room, slips, appends, pins, pins_at}
+use Rattle.words.specs.Claims.{Every, total, at, code, is_free, is_open, room_of, stands, stands_at, rank_of, rank, frees, opens, room, slips, appends, pins, pins_at}
 use Rattle.words.specs.Rule.{IsDated, Sound, Law}
 use Rattle.words.specs.Steps.{life_seen, life_counted, life_sealed, life_retired, life_freed, life_opened, version_loaded, counted, sealed, retired, freed, opened, shown_open}
 use Rattle.words.proofs.Counts.{at_here, at_other, at_zero, at_none, sum-none, sum-only, sum-in, every-get}
@@ -78,11 +79,11 @@ module _ (n : ℕ) (words : List ℕ) (views : List (List Claim)) (law : Law n w
   sound_here : Sound n (get_or words n 0) (Stands l)
   sound_here = (every-get (Every (Sound n (get_or words n 0))) views id (Stands l ∷ rest) law.sound at_id).0
 
-  module _ (nobody : sum_of (stands l.segment) rest ≡ 0) where
+  module _ (nobody : weigh (stands l.segment) rest ≡ 0) where
     alone : (g : Claim → ℕ) → ((c : Claim) → stands l.segment c ≡ 0 → g c ≡ 0) → total g views ≡ g (Stands l)
     alone g no' = let lt = sound_here.0 in let here = at_here l.segment 1 in
-        let one : sum_of (stands l.segment) (Stands l ∷ rest) ≡ 1 = omega arith in
-        let t = sum-only (λ u. sum_of (stands l.segment) u) (λ u. sum_of g u) views id (Stands l ∷ rest) (λ u. sum-none (stands l.segment) g u no') at_id one (law.one_standing l.segment lt) in
+        let one : weigh (stands l.segment) (Stands l ∷ rest) ≡ 1 = omega arith in
+        let t = sum-only (λ u. weigh (stands l.segment) u) (λ u. weigh g u) views id (Stands l ∷ rest) (λ u. sum-none (stands l.segment) g u no') at_id one (law.one_standing l.segment lt) in
         let z = sum-none (stands l.segment) g rest no' nobody in omega arith
 
     pub facts : Facts n words views l
@@ -254,7 +255,7 @@ module _ (n slots id : ℕ) (c : List (ℕ × Unit {0})) (l : Life) where
       let x : ℕ = get_or s.words l.segment 0 in
       let p : ℕ = total (pins l.segment) s.views in
       let own = at_here g 1 in
-      let slip : sum_of (slips g) v ≤ total (slips g) s.views = sum-in (λ u. sum_of (slips g) u) s.views id v at_id in
+      let slip : weigh (slips g) v ≤ total (slips g) s.views = sum-in (λ u. weigh (slips g) u) s.views id v at_id in
       let same = law.one_slip g in
       let fr : total (frees g) s.views ≡ is_free l.state = f.free in
       let is : l.state ≡ Free = only_free l.state (omega arith) in
@@ -304,7 +305,7 @@ module _ (n slots id : ℕ) (c : List (ℕ × Unit {0})) (l : Life) where
       let g : ℕ = l.segment in
       let f = facts n s.words s.views law id l (Appends g ∷ []) at_id refl in
       let own = at_here g 1 in
-      let mine : sum_of (appends g) appending.0 ≤ total (appends g) s.views = sum-in (λ u. sum_of (appends g) u) s.views id appending.0 at_id in
+      let mine : weigh (appends g) appending.0 ≤ total (appends g) s.views = sum-in (λ u. weigh (appends g) u) s.views id appending.0 at_id in
       let same = law.one_appender g in
       let opn : total (opens g) s.views ≡ is_open l.state = f.opn in only_open l.state (omega arith)
     where

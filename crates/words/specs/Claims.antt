@@ -2,15 +2,11 @@
 use Rattle.std.specs.Prelude.{ℕ, zero, suc, ◌+◌, ◌*◌, cond, eqb, List, [], ◌∷◌, ◌++◌, replicate}
 use Rattle.geometry.specs.declared.state.State.{State}
 use Rattle.geometry.specs.declared.state.State.TheVariants.{Free, Open, Sealed, Prefree}
+use Rattle.sums.specs.Weights.{weigh}
 use Rattle.words.specs.declared.claim.Life.{Life}
 use Rattle.words.specs.declared.claim.Pins.{Pins}
 use Rattle.words.specs.declared.claim.Claim.{Claim}
 use Rattle.words.specs.declared.claim.Claim.TheVariants.{Stands, Slip, Appends, Reads, Checkpoint}
-
--- the sum of f over a list
-abbrev pub sum_of : {X : Type 0} → (X → ℕ) → List X → ℕ
-sum_of f [] = 0
-sum_of f (x ∷ xs) = f x + sum_of f xs
 
 -- P holds of each element
 abbrev pub Every : {X : Type 0} → (X → Type 0) → List X → Type 0
@@ -19,7 +15,7 @@ Every P (x ∷ xs) = P x × Every P xs
 
 -- the sum of f over all claims of all seats
 abbrev pub total : (Claim → ℕ) → List (List Claim) → ℕ
-total f views = sum_of (λ v. sum_of f v) views
+total f views = weigh (λ v. weigh f v) views
 
 -- n where the two numbers are equal, else 0
 unfoldable pub at : ℕ → ℕ → ℕ → ℕ
@@ -55,11 +51,11 @@ room_of Prefree pins = pins
 
 -- how many of the pins are on the segment s
 abbrev pub times : ℕ → List (ℕ × ℕ) → ℕ
-times s held = sum_of (λ p. at p.0 s 1) held
+times s held = weigh (λ p. at p.0 s 1) held
 
 -- how many of them are on its incarnation i
 abbrev pub times_at : ℕ → ℕ → List (ℕ × ℕ) → ℕ
-times_at s i held = sum_of (λ p. at p.0 s (at p.1 i 1)) held
+times_at s i held = weigh (λ p. at p.0 s (at p.1 i 1)) held
 
 -- what one claim adds to each count
 

@@ -6,8 +6,8 @@ use Rattle.words.specs.declared.claim.Life.{Life}
 use Rattle.words.specs.declared.claim.Pins.{Pins}
 use Rattle.words.specs.declared.claim.Claim.{Claim}
 use Rattle.words.specs.declared.claim.Claim.TheVariants.{Stands, Slip, Appends, Reads, Checkpoint}
-use Rattle.words.specs.Life.{Stage}
-use Rattle.words.specs.Life as life
+use Rattle.geometry.specs.Life.{Stage}
+use Rattle.geometry.specs.Life as life
 use Rattle.words.specs.Claims.{times, times_at, life_of, pins_of, version_of}
 
 -- a seat's claims, and the slots that it holds, of which there are none

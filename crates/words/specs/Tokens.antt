@@ -5,7 +5,7 @@ use Rattle.geometry.specs.declared.state.State.{State}
 use Rattle.geometry.specs.declared.state.State.TheVariants.{Free, Open, Sealed}
 use Rattle.words.specs.declared.claim.Life.{Life}
 use Rattle.words.specs.declared.claim.Pins.{Pins}
-use Rattle.words.specs.Life.{LifeStep}
+use Rattle.geometry.specs.Life.{LifeStep}
 use Rattle.words.specs.Claims.{fresh_life, fresh_pins}
 use Rattle.words.specs.Steps.{stage_of, life_seen, life_counted, life_sealed, life_retired, life_freed, life_opened}
 

@@ -1,6 +1,8 @@
 use Rattle.std.proofs.Common.{◌≡◌, ap, ◌∙◌, false, None, map, replicate, arith}
 use Rattle.std.specs.Prelude.{is_some}
+use Rattle.sit.specs.Home.{failures_of}
 use Rattle.sit.proofs.Lists.{map_replicate}
+use Rattle.sit.proofs.Homes.{failures-none}
 use Rattle.sit.proofs.blocks.Blocks.new.Goals as goal
 
 pub returns-clause-ok : goal.returns-clause-ok
@@ -10,4 +12,5 @@ returns-clause-ok g c =
     let count : c.loop-place._place ≡ c.args.count = omega arith in
     let present : map is_some c.loop-place.blocks.items ≡ replicate c.args.count false =
     ap (map is_some) (c.loop-place.invariant.0 ∙ ap (λ n. replicate n None) count) ∙ map_replicate is_some c.args.count None in
-    λ i. record { first = c.args.first; block_bytes = c.args.block_bytes; present = present i }
+    let failed : failures_of g.B.Block.failed c.loop-place.blocks.items ≡ 0 = ap (failures_of g.B.Block.failed) c.loop-place.invariant.0 ∙ failures-none g.B.Block.failed c.loop-place._place in
+    λ i. record { first = c.args.first; block_bytes = c.args.block_bytes; present = present i; failed = failed i }

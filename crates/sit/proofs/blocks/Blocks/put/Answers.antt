@@ -1,8 +1,9 @@
-use Rattle.std.proofs.Common.{◌≡◌, ◌+◌, ◌<◌, Some, length, arith, ap, sym, ◌∙◌}
+use Rattle.std.proofs.Common.{◌≡◌, ◌+◌, ◌<◌, Some, length, get_or, set, false, arith, ap, sym, ◌∙◌}
 use Rattle.std.proofs.lemmas.List.{length-map}
 use Rattle.std.specs.Prelude.{is_some}
 use Rattle.sit.proofs.Lists.{each-set, some-injective}
-use Rattle.sit.proofs.Homes.{home-set}
+use Rattle.sit.specs.Home.{failures_of}
+use Rattle.sit.proofs.Homes.{home-set, failures-set, failed-away}
 use Rattle.sit.proofs.blocks.Blocks.put.Goals as goal
 
 pub invariant_of-self : goal.invariant_of-self
@@ -17,5 +18,18 @@ invariant_of-self g c =
           (λ b e. ap (λ x. length (g.B.Block.content_of x)) (sym (some-injective c.args.block b e)) ∙ (c.requires.length ∙ ap (λ h. h.block_bytes) (sym c.self.view_is)));
     }
 
-pub returns : goal.returns
-returns g c = home-set c.self.inside.first c.self.inside.block_bytes is_some c.self.inside.blocks.items c.args.offset (Some c.args.block) c.args.self.now c.self.view_is
+pub returns-clause-home : goal.returns-clause-home
+returns-clause-home g c =
+    let s = c.self.inside in
+    home-set s.first s.block_bytes is_some s.blocks.items c.args.offset (Some c.args.block) (failures_of g.B.Block.failed s.blocks.items)
+    (failures_of g.B.Block.failed (set s.blocks.items c.args.offset (Some c.args.block))) c.args.self.now c.self.view_is
+
+pub returns-clause-failures : goal.returns-clause-failures
+returns-clause-failures g c away =
+    let s = c.self.inside in
+    let xs = s.blocks.items in
+    let within : c.args.offset < length xs = let l = ap (λ h. length h.present) c.self.view_is in let m = length-map xs is_some in let r = c.requires.within in omega arith in
+    let none = failed-away g.B.Block.failed xs c.args.offset within (ap (λ h. get_or h.present c.args.offset false) c.self.view_is ∙ away) in
+    let change = failures-set g.B.Block.failed xs c.args.offset (Some c.args.block) within in
+    let before : failures_of g.B.Block.failed xs ≡ c.args.self.now.failed = ap (λ h. h.failed) c.self.view_is in
+    omega arith

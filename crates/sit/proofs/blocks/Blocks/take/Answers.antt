@@ -2,7 +2,8 @@ use Rattle.std.proofs.Common.{◌≡◌, ◌+◌, ◌<◌, Some, None, length, g
 use Rattle.std.proofs.lemmas.List.{length-map}
 use Rattle.std.specs.Prelude.{is_some}
 use Rattle.sit.proofs.Lists.{each-set, get_or-default, some-ne-none}
-use Rattle.sit.proofs.Homes.{home-set}
+use Rattle.sit.specs.Home.{failed_at, failures_of}
+use Rattle.sit.proofs.Homes.{home-set, failures-set}
 use Rattle.sit.proofs.blocks.Blocks.take.Goals as goal
 
 pub invariant_of-self : goal.invariant_of-self
@@ -19,8 +20,21 @@ invariant_of-self g c =
 
 pub returns-clause-home : goal.returns-clause-home
 returns-clause-home g c =
-    home-set c.self.inside.first c.self.inside.block_bytes is_some c.self.inside.blocks.items c.args.offset c.take.new.self c.args.self.now c.self.view_is
-    ∙ ap (λ x. record { first = c.args.self.now.first; block_bytes = c.args.self.now.block_bytes; present = set c.args.self.now.present c.args.offset (is_some x) }) c.take.ensures.after
+    let s = c.self.inside in
+    let after = set s.blocks.items c.args.offset c.take.new.self in
+    home-set s.first s.block_bytes is_some s.blocks.items c.args.offset c.take.new.self (failures_of g.B.Block.failed s.blocks.items) (failures_of g.B.Block.failed after) c.args.self.now c.self.view_is
+    ∙ ap (λ x. record { first = c.args.self.now.first; block_bytes = c.args.self.now.block_bytes; present = set c.args.self.now.present c.args.offset (is_some x); failed = failures_of g.B.Block.failed after }) c.take.ensures.after
+
+pub returns-clause-failures : goal.returns-clause-failures
+returns-clause-failures g c =
+    let s = c.self.inside in
+    let within : c.args.offset < length s.blocks.items = let l = ap (λ h. length h.present) c.self.view_is in let m = length-map s.blocks.items is_some in let r = c.requires.within in omega arith in
+    let is : get_or s.blocks.items c.args.offset None ≡ Some c.in-Some.block = get_or-default s.blocks.items c.args.offset None _ within ∙ (sym c.index_mut.ensures.value ∙ (sym c.take.ensures.value ∙ c.in-Some.is)) in
+    let change = failures-set g.B.Block.failed s.blocks.items c.args.offset c.take.new.self within in
+    let here = ap (failed_at g.B.Block.failed) is in
+    let away = ap (failed_at g.B.Block.failed) c.take.ensures.after in
+    let before : failures_of g.B.Block.failed s.blocks.items ≡ c.args.self.now.failed = ap (λ h. h.failed) c.self.view_is in
+    omega arith
 
 pub returns-clause-address : goal.returns-clause-address
 returns-clause-address g c =

@@ -1,32 +1,37 @@
-use Rattle.std.proofs.Common.{◌≡◌, ◌+◌, ◌<◌, ◌∷◌, ap, sym, subst, ◌∙◌, arith}
+use Rattle.std.proofs.Common.{◌≡◌, ◌<◌, ◌∷◌, None, length, get_or, ap, sym, ◌∙◌, subst, arith}
 use Rattle.geometry.specs.declared.owner.Mark.{Mark}
-use Rattle.geometry.specs.Shape.{segment_blocks}
+use Rattle.geometry.specs.declared.state.State.{State}
 use Rattle.geometry.specs.Address.{address_of}
 use Rattle.sums.specs.Weights.{SameItems}
-use Rattle.sit.specs.Summaries.{marks_from}
+use Rattle.words.specs.Tokens.{Post}
+use Rattle.sit.specs.Registered.{Registered, HasLivedOn}
 use Rattle.sit.specs.Segment.{Segment, marks_of}
-use Rattle.sit.proofs.Laws.{is_open, placed-law}
-use Rattle.sit.proofs.Marks.{marks_set}
+use Rattle.sit.proofs.Registry.{placed_marks, placed-registered}
 use Rattle.sit.proofs.segment.SegmentState.place.Goals as goal
 
 pub invariant_of-self-2 : goal.invariant_of-self-2
 invariant_of-self-2 g c =
     let s = c.self.inside in
-    let view = c.self.view_is in
-    let room : s.next < segment_blocks s.shape = let n = ap (λ (x : Segment). x.next) view in let b = ap (λ (x : Segment). segment_blocks x.shape) view in let r = c.requires.room in omega arith in
-    let place : c.args.offset ≡ s.next = let n = ap (λ (x : Segment). x.next) view in let p = c.requires.place in omega arith in
-    placed-law _ s.blocks c.self.invariant c.args.offset _ c.set.new.self c.write_out.new.self c.args.owner
-    (ap (λ (x : Segment). x.state) view ∙ c.requires.open) place room c.set.ensures.set c.in_ok-block.ensures.home
+    let done = c.in_ok-block.ensures in
+    let m : Mark = record { address = c.address-address.result; owner = c.args.owner } in
+    let place : c.args.offset ≡ s.body.next = c.requires.place ∙ sym (ap (λ (x : Registered). x.segment.next) c.self.view_is) in
+    let room : s.body.next < length s.body.summaries = let r = done.room in let e = done.sized in omega arith in
+    let at = c.address-address.ensures ∙ done.address ∙ ap (address_of s.body.shape s.body.number) place in
+    let marks = placed_marks s.body c.place.new.self c.args.owner c.args.now c.place.new.self.failed m done.segment room (sym (ap (λ o. get_or s.body.summaries o None) place) ∙ done.clear)
+    (λ i. record { address = at i; owner = c.args.owner }) in
+    placed-registered s.body c.place.new.self s.account c.mark-claimed.new.segment s.standing c.seal_full.new.standing c.self.invariant c.args.owner c.args.now c.place.new.self.failed m
+    (c.self.invariant.state ∙ c.show_open.ensures.state) done.segment
+    (subst (λ (p : State × Post). HasLivedOn p.0 p.1 c.seal_full.new.standing) (λ i. (c.state.ensures i, c.show_open.ensures.standing i)) c.seal_full.ensures.standing)
+    c.mark-claimed.ensures.segment marks
 
 pub returns-clause-marks : goal.returns-clause-marks
 returns-clause-marks g c =
     let s = c.self.inside in
-    let view = c.self.view_is in
-    let room : s.next < segment_blocks s.shape = let n = ap (λ (x : Segment). x.next) view in let b = ap (λ (x : Segment). segment_blocks x.shape) view in let r = c.requires.room in omega arith in
-    let place : c.args.offset ≡ s.next = let n = ap (λ (x : Segment). x.next) view in let p = c.requires.place in omega arith in
-    let sized = c.self.invariant.sized in
-    let fits = is_open _ s.blocks c.self.invariant (ap (λ (x : Segment). x.state) view ∙ c.requires.open) in
-    let clear = fits.1 c.args.offset (omega arith) in
-    let at = c.in_ok-block.ensures.address ∙ ap (λ h. h.first + c.args.offset) c.self.invariant.home_is in
-    subst (λ (p : Mark × Segment). SameItems (p.0 ∷ marks_of p.1) (marks_from (address_of s.shape s.number 0) c.set.new.self)) (λ i. (sym c.new.ensures.mark i, view i))
-    (marks_set (address_of s.shape s.number 0) c.args.offset s.valid c.set.new.self (record { address = g.B.Block.address_of c.in_ok-block.block; owner = c.args.owner }) (omega arith) clear c.set.ensures.set at)
+    let done = c.in_ok-block.ensures in
+    let m : Mark = record { address = c.address-address.result; owner = c.args.owner } in
+    let place : c.args.offset ≡ s.body.next = c.requires.place ∙ sym (ap (λ (x : Registered). x.segment.next) c.self.view_is) in
+    let room : s.body.next < length s.body.summaries = let r = done.room in let e = done.sized in omega arith in
+    let at = c.address-address.ensures ∙ done.address ∙ ap (address_of s.body.shape s.body.number) place in
+    subst (λ (p : Mark × Segment). SameItems (p.0 ∷ marks_of p.1) (marks_of c.place.new.self)) (λ i. (sym (c.new.ensures.mark ∙ c.mark-claimed.ensures.ticket) i, (c.self.view_is i).segment))
+    (placed_marks s.body c.place.new.self c.args.owner c.args.now c.place.new.self.failed m done.segment room (sym (ap (λ o. get_or s.body.summaries o None) place) ∙ done.clear)
+    (λ i. record { address = at i; owner = c.args.owner }))

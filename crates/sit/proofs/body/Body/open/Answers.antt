@@ -1,6 +1,6 @@
 use Rattle.std.proofs.Common.{ap, ◌∙◌}
 use Rattle.sit.proofs.Laws.{opened-law}
-use Rattle.sit.proofs.segment.SegmentState.open.Goals as goal
+use Rattle.sit.proofs.body.Body.open.Goals as goal
 
 pub invariant_of-self : goal.invariant_of-self
 invariant_of-self g c =

@@ -3,7 +3,7 @@ use Rattle.std.proofs.lemmas.List.{length-map}
 use Rattle.sit.specs.Summaries.{is_clear, count_of}
 use Rattle.sit.specs.Segment.{Segment}
 use Rattle.sit.proofs.Lists.{all_clear}
-use Rattle.sit.proofs.segment.SegmentState.empty_into.Goals as goal
+use Rattle.sit.proofs.body.Body.empty_into.Goals as goal
 
 pub empty_into-requires-clause-whole : goal.empty_into-requires-clause-whole
 empty_into-requires-clause-whole g c =
