@@ -175,3 +175,8 @@ module _ (s : Segment) (account : SegmentView) (post : Post) (is : IsRegistered 
           → IsRegistered s' account' post'.life
       lost-registered account' post' stood booked =
           cleared-registered s s' account account' post post' is (offset_of s.shape a) failed released m has stood booked held lost-marks
+
+-- how often the blocks at home have failed after a release
+pub released_failed : (s s' : Segment) (o failed : ℕ) (released : Released) → HasReleased (cleared s o failed) released s' → failed ≡ s'.failed
+released_failed s s' o failed Kept has = sym (ap (λ x. x.failed) has.0)
+released_failed s s' o failed Retired has = sym (ap (λ x. x.failed) has.0)

@@ -48,9 +48,9 @@ abbrev pub placed : Segment → Owner → ℕ → ℕ → Segment
 placed segment owner now failed =
     record segment { summaries = slice_set segment.summaries segment.next (Some owner); mtime = max segment.mtime now; next = segment.next + 1; failed = failed }
 
--- the block at this place is not valid any more, and comes home with its failures
+-- the block at this place is not valid any more; it comes home, and the blocks that are there then have failed so often
 abbrev pub cleared : Segment → ℕ → ℕ → Segment
-cleared segment offset failed = record segment { summaries = slice_set segment.summaries offset None; failed = segment.failed + failed }
+cleared segment offset failed = record segment { summaries = slice_set segment.summaries offset None; failed = failed }
 
 abbrev pub in_state : Segment → State → Segment
 in_state segment state = record segment { state = state }

@@ -132,7 +132,7 @@ impl<B: Block + Drop> Body<B> {
         requires valid { IsSome (slice_index_or self.old.summaries (offset_of self.old.shape (B.address_of block)) None) }
         requires bytes { length (B.content_of block) ≡ block_bytes self.old.shape }
         ensures sized { length self.old.summaries ≡ segment_blocks self.old.shape }
-        ensures segment { HasReleased (cleared self.old (offset_of self.old.shape (B.address_of block)) (B.failed block)) result self.new }
+        ensures segment { HasReleased (cleared self.old (offset_of self.old.shape (B.address_of block)) (self.old.failed + B.failed block)) result self.new }
     {
         let offset = block.address() - self.blocks.first();
         self.valid.clear(offset);

@@ -140,7 +140,6 @@ impl<B: Block + Drop> SegmentState<B> {
         requires bytes { length bytes.now ≡ block_bytes self.old.segment.shape }
         ensures mark { IfOk result (λ ticket. ticket.mark ≡ record { address = address_of self.old.segment.shape self.old.segment.number offset; owner = owner }) }
         ensures content { IfOk result (λ ticket. ticket.content ≡ bytes.now) }
-        ensures failures { IfOk result (λ ticket. self.new.segment.failed + ticket.failed ≡ self.old.segment.failed) }
         ensures segment { OnOk result (HasPlaced (placed self.old.segment owner now self.new.segment.failed) self.new.segment) }
         ensures life { OnOk result (HasLivedOn self.new.segment.state (post_of self.old) (post_of self.new)) }
         ensures slip { OnOk result (slip.new ≡ slip_after self.new.segment.state slip.old) }
@@ -179,7 +178,7 @@ impl<B: Block + Drop> SegmentState<B> {
         requires held { 0 < times same_mark ticket.mark permit.old.tickets }
         requires bytes { length ticket.content ≡ block_bytes self.old.segment.shape }
         ensures valid { slice_index_or self.old.segment.summaries (offset_of self.old.segment.shape ticket.mark.address) None ≡ Some ticket.mark.owner }
-        ensures segment { HasReleased (cleared self.old.segment (offset_of self.old.segment.shape ticket.mark.address) ticket.failed) result self.new.segment }
+        ensures segment { HasReleased (cleared self.old.segment (offset_of self.old.segment.shape ticket.mark.address) self.new.segment.failed) result self.new.segment }
         ensures life { HasStood result (post_of self.old) (post_of self.new) }
         ensures marks { SameItems (ticket.mark ∷ marks_of self.new.segment) (marks_of self.old.segment) }
         ensures hand { permit.new ≡ record permit.old { tickets = without same_mark ticket.mark permit.old.tickets } }

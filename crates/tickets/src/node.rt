@@ -36,7 +36,6 @@ pub fn give_block<B: Block>(
     ensures before { result.1 ≡ lodged_of token.old }
     ensures address { B.address_of result.0 ≡ token.new.address }
     ensures content { B.content_of result.0 ≡ token.new.bytes }
-    ensures failures { B.failed result.0 ≡ ticket.failed }
     ensures shard { shard.new ≡ record shard.old { taken = token.new ∷ without same_entry token.old shard.old.taken } }
     ensures permit { permit.new ≡ record permit.old {
       tickets = with_lodged token.old (without same_mark ticket.mark permit.old.tickets);

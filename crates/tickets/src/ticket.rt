@@ -1,5 +1,5 @@
 //! A ticket: the right to a valid block, with the block itself.
-ghost use Rattle.std.specs.Prelude.{◌≡◌, ◌<◌, length, OnOk, OnErr, IfOk};
+ghost use Rattle.std.specs.Prelude.{◌≡◌, length, OnOk, IfOk};
 
 use books::Ticket as Claimed;
 use device::{Block, DeviceError};
@@ -19,7 +19,7 @@ impl<B: Block> Model for Ticket<B> {
 
     ghost Value = { Placed };
 
-    ghost view = { λ t. record { mark = t.claimed; content = B.content_of t.block; failed = B.failed t.block } };
+    ghost view = { λ t. record { mark = t.claimed; content = B.content_of t.block } };
 
     ghost invariant = { λ t. B.address_of t.block ≡ t.claimed.address };
 }
@@ -30,7 +30,6 @@ impl<B: Block> Ticket<B> {
         requires address { B.address_of block ≡ claimed.address }
         ensures mark { result.mark ≡ claimed }
         ensures content { result.content ≡ B.content_of block }
-        ensures failures { result.failed ≡ B.failed block }
     {
         Ticket { claimed, block }
     }
@@ -50,25 +49,20 @@ impl<B: Block> Ticket<B> {
         owner
     }
 
-    /// Reads its block into `out`, which has as many bytes. After a failure, which the device has counted, `out` has any
-    /// bytes, and the block its own.
+    /// Reads its block into `out`, which has as many bytes. After a failure of the device `out` has any bytes, and the block
+    /// its own.
     pub fn read(&mut self, out: &mut [u8]) -> Result<(), DeviceError>
         requires { length out.old ≡ length self.old.content }
-        ensures same { self.new ≡ record self.old { failed = self.new.failed } }
+        ensures same { self.new ≡ self.old }
         ensures bytes { OnOk result (out.new ≡ self.old.content) }
-        ensures sound { OnOk result (self.new.failed ≡ self.old.failed) }
-        ensures failure { OnErr result (self.old.failed < self.new.failed) }
     {
         self.block.read(out)
     }
 
-    /// The block's bytes as they are now, whatever becomes of the block. A failure, which the device has counted, changes
-    /// nothing else.
+    /// The block's bytes as they are now, whatever becomes of the block. A failure of the device changes nothing.
     pub fn lend(&mut self) -> Result<B::Lease, DeviceError>
-        ensures same { self.new ≡ record self.old { failed = self.new.failed } }
+        ensures same { self.new ≡ self.old }
         ensures bytes { IfOk result (λ lease. B.Lease.items lease ≡ self.old.content) }
-        ensures sound { OnOk result (self.new.failed ≡ self.old.failed) }
-        ensures failure { OnErr result (self.old.failed < self.new.failed) }
     {
         self.block.lend()
     }
@@ -78,7 +72,6 @@ impl<B: Block> Ticket<B> {
         ensures mark { result.0 ≡ self.mark }
         ensures address { B.address_of result.1 ≡ self.mark.address }
         ensures content { B.content_of result.1 ≡ self.content }
-        ensures failures { B.failed result.1 ≡ self.failed }
     {
         let Ticket { claimed, block } = self;
         (claimed, block)

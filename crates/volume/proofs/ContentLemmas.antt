@@ -19,7 +19,7 @@ use Rattle.sums.specs.Weights.{weigh, SameItems}
 use Rattle.sums.proofs.Weighing.{weigh-append}
 use Rattle.sums.proofs.Indexing.{each_set}
 use Rattle.tickets.specs.Placed.{Placed}
-use Rattle.sit.specs.Summaries.{times}
+use Rattle.books.specs.Lists.{times}
 use Rattle.volume.specs.Area.{Area, marks_in}
 use Rattle.volume.specs.Contents.{Inode, blocks_from, file_of, marks_at, marks_of_files, IsInode, AreWhole}
 use Rattle.volume.specs.Volume.{Volume, VolumeLaw, HasFile, file_at, AreInodes, slots_used}
@@ -196,7 +196,7 @@ file_at_is inodes k other inode low is = get_or-map file_of inodes k inode other
 pub last_valid : (area start_area : List Mark) (start slots front : List (Option Placed)) (rest : List Mark) (slot : Option Placed) (ticket : Placed) → slots ≡ front ++ slot ∷ [] → slot ≡ Some ticket
     → SameItems start_area (marks_at start ++ rest)
     → ((weight : Mark → ℕ) → weigh weight area + weigh weight (marks_at start) ≡ weigh weight start_area + weigh weight (marks_at slots))
-    → 0 < times ticket.mark area
+    → 0 < times same_mark ticket.mark area
 last_valid area start_area start slots front rest slot ticket popped is held now =
     let w : Mark → ℕ = λ y. if same_mark ticket.mark y then 1 else 0 in
     let a = held w in
@@ -209,7 +209,7 @@ last_valid area start_area start slots front rest slot ticket popped is held now
 
 -- the block of a slot of one of the files is valid
 pub slot_valid : (area : List Mark) (inodes : List Inode) (k i : ℕ) (inode : Inode) (ticket : Placed) → SameItems area (marks_of_files inodes) → k < length inodes → inode ≡ get_or inodes k inode
-    → i < length inode.slots → get_or inode.slots i None ≡ Some ticket → 0 < times ticket.mark area
+    → i < length inode.slots → get_or inode.slots i None ≡ Some ticket → 0 < times same_mark ticket.mark area
 slot_valid area inodes k i inode ticket balance low at inside is =
     let w : Mark → ℕ = λ y. if same_mark ticket.mark y then 1 else 0 in
     let a = balance w in
@@ -240,7 +240,7 @@ module _ (area appended new : List Mark) (inodes : List Inode) (k i : ℕ) (inod
   put_again before is released weight = let c = change weight in let z = ap (of_slot weight) is in let r = released weight in omega arith
 
   -- and was valid until then
-  pub before_valid : (before : Placed) → get_or inode.slots i None ≡ Some before → 0 < times before.mark appended
+  pub before_valid : (before : Placed) → get_or inode.slots i None ≡ Some before → 0 < times same_mark before.mark appended
   before_valid before is =
       let w : Mark → ℕ = λ y. if same_mark before.mark y then 1 else 0 in
       let c = change w in

@@ -1,53 +1,62 @@
--- The main area of a volume: its segments, and the log that appends to them.
-use Rattle.std.specs.Prelude.{◌≡◌, ℕ, ◌<◌, ◌≤◌, List, [], ◌∷◌, ◌++◌, length, slice_index_or, Option, Some, None, Bool, false}
+-- The main area of a volume: its segments, the books and words that they are of, the logs and the free segments.
+use Rattle.std.specs.Prelude.{◌≡◌, ℕ, ◌<◌, ◌≤◌, List, [], ◌∷◌, ◌++◌, length, slice_index_or, Option, Some, None}
+use Rattle.atomic_table.specs.Seated.{TableId}
+use Rattle.claims.specs.Rules.{Ruled}
 use Rattle.geometry.specs.declared.geometry.Geometry.{Geometry}
-use Rattle.geometry.specs.declared.state.State.TheVariants.{Free, Open}
 use Rattle.geometry.specs.declared.owner.Mark.{Mark}
 use Rattle.geometry.specs.Shape.{segment_blocks}
 use Rattle.geometry.specs.Area.{block_count}
-use Rattle.sit.specs.Segment.{Segment, marks_of}
+use Rattle.sums.specs.Weights.{SameItems}
+use Rattle.books.specs.declared.claim.Layout.{Layout}
+use Rattle.books.specs.Accounts.{HandView}
+use Rattle.words.specs.Tokens.{FreeSegment, OpenSegment}
+use Rattle.sit.specs.Segment.{marks_of}
+use Rattle.sit.specs.Registered.{Registered}
 
--- the segments, the log's open one, how many segments have been opened, and for how many blocks there is room beside them
+-- the segments, the books, the words, the tickets that are out, each log's open segment, the free segments, and for how many blocks there is room beside them
 pub record Area : Type 0 where
   pub geometry : Geometry
-  pub segments : List Segment
-  pub log : Option ℕ
-  pub opened : ℕ
+  pub segments : List Registered
+  pub books : Ruled Layout
+  pub table : TableId
+  pub hand : HandView
+  pub logs : List (Option OpenSegment)
+  pub free : List FreeSegment
   pub spare : ℕ
 
 -- a segment of the volume, by its number
-pub record IsSegmentOf (geometry : Geometry) (number : ℕ) (segment : Segment) : Type 0 where
-  pub shape : segment.shape ≡ geometry.shape
-  pub number_is : segment.number ≡ number
-  pub sized : length segment.summaries ≡ segment_blocks geometry.shape
+pub record IsSegmentOf (geometry : Geometry) (book table : TableId) (number : ℕ) (r : Registered) : Type 0 where
+  pub shape : r.segment.shape ≡ geometry.shape
+  pub number_is : r.segment.number ≡ number
+  pub sized : length r.segment.summaries ≡ segment_blocks geometry.shape
+  pub book_is : r.book ≡ book
+  pub table_is : r.table ≡ table
 
--- an open segment that has a next place
-pub record HasPlace (segment : Segment) : Type 0 where
-  pub state : segment.state ≡ Open
-  pub place : segment.next < segment_blocks segment.shape
+-- the slip of a log's open segment is of these words, and of one of so many segments
+abbrev pub LogStands : TableId → ℕ → Option OpenSegment → Type 0
+LogStands table count None = Unit {0}
+LogStands table count (Some slip) = (slip.table ≡ table) × (slip.segment < count)
 
--- the segment that a log has open is open, has a next place, and is one of those that were opened
-abbrev pub LogStands : List Segment → ℕ → Option ℕ → Type 0
-LogStands segments opened None = Unit {0}
-LogStands segments opened (Some number) = (number < opened) × ((other : Segment) → HasPlace (slice_index_or segments number other))
+abbrev pub AreLogs : TableId → ℕ → List (Option OpenSegment) → Type 0
+AreLogs table count logs = (k : ℕ) (other : Option OpenSegment) → k < length logs → LogStands table count (slice_index_or logs k other)
 
--- segments are opened in ascending order, and there is room for all blocks beside them
-pub record AreaLaw (area : Area) : Type 0 where
-  pub counted : length area.segments ≡ area.geometry.segments
-  pub each : (k : ℕ) (other : Segment) → k < length area.segments → IsSegmentOf area.geometry k (slice_index_or area.segments k other)
-  pub some : area.opened ≤ length area.segments
-  pub log_stands : LogStands area.segments area.opened area.log
-  pub unopened : (k : ℕ) (other : Segment) → area.opened ≤ k → k < length area.segments → (slice_index_or area.segments k other).state ≡ Free
-  pub room : block_count area.geometry ≤ area.spare
+-- so is that of a free segment
+abbrev pub IsFreeOf : TableId → ℕ → FreeSegment → Type 0
+IsFreeOf table count slip = (slip.table ≡ table) × (slip.segment < count)
 
 -- the valid blocks of all segments
-abbrev pub marks_in : List Segment → List Mark
+abbrev pub marks_in : List Registered → List Mark
 marks_in [] = []
-marks_in (s ∷ segments) = marks_of s ++ marks_in segments
+marks_in (r ∷ segments) = marks_of r.segment ++ marks_in segments
 
--- What an append makes of the open segment: one more block is valid, and where none is left the segment is sealed.
-pub record Appends (old new : Segment) (full : Bool) : Type 0 where
-  pub shape : new.shape ≡ old.shape
-  pub number : new.number ≡ old.number
-  pub long : length new.summaries ≡ length old.summaries
-  pub has_place : full ≡ false → HasPlace new
+-- The tickets of the valid blocks are in hand, each once, the slips are of the volume's segments, and there is room for all blocks beside them.
+pub record AreaLaw (area : Area) : Type 0 where
+  pub counted : length area.segments ≡ area.geometry.segments
+  pub each : (k : ℕ) (other : Registered) → k < length area.segments → IsSegmentOf area.geometry area.books.book area.table k (slice_index_or area.segments k other)
+  pub blocks : area.books.key.blocks ≡ segment_blocks area.geometry.shape
+  pub book : area.hand.book ≡ area.books.book
+  pub held : SameItems (marks_in area.segments) area.hand.tickets
+  pub six : length area.logs ≡ 6
+  pub log_stands : AreLogs area.table (length area.segments) area.logs
+  pub free_stands : (k : ℕ) (other : FreeSegment) → k < length area.free → IsFreeOf area.table (length area.segments) (slice_index_or area.free k other)
+  pub room : block_count area.geometry ≤ area.spare

@@ -3,7 +3,7 @@ use Rattle.geometry.specs.declared.owner.Mark.{Mark}
 use Rattle.geometry.specs.Address.{address_of}
 use Rattle.sums.specs.Weights.{weigh}
 use Rattle.sums.proofs.Indexing.{each_reverse}
-use Rattle.sit.specs.Segment.{Segment}
+use Rattle.sit.specs.Registered.{Registered}
 use Rattle.sit.proofs.Marks.{marks_count}
 use Rattle.volume.specs.Area.{Area, marks_in}
 use Rattle.volume.specs.Rooms.{AreEmpty, IsEmpty}
@@ -15,13 +15,13 @@ empty_segments-requires-clause-segments g c =
     let a = c.self.inside in
     let shape = a.geometry.shape in
     let none : weigh (λ (m : Mark). 1) (marks_in a.segments.items) ≡ 0 = ap (λ (x : Area). weigh (λ (m : Mark). 1) (marks_in x.segments)) c.self.view_is ∙ sym (c.requires (λ m. 1)) in
-    let turned = each_reverse (IsEmpty shape) (λ k x. IsEmpty shape (a.geometry.segments - 1 - k) x) a.segments.items a.geometry.segments c.self.invariant.0.counted (λ k x low is. is)
+    let turned = each_reverse (λ k x. IsEmpty shape k x.segment) (λ k x. IsEmpty shape (a.geometry.segments - 1 - k) x.segment) a.segments.items a.geometry.segments c.self.invariant.0.counted (λ k x low is. is)
     (λ k other low.
     let s = get_or a.segments.items k other in
     let is = c.self.invariant.0.each k other low in
     record {
       shape_is = is.shape;
       number_is = is.number_is;
-      none = let here = marks_in-at (λ m. 1) a.segments.items k other low in let count = marks_count (address_of s.shape s.number 0) s.summaries in omega arith;
+      none = let here = marks_in-at (λ m. 1) a.segments.items k other low in let count = marks_count (address_of s.segment.shape s.segment.number 0) s.segment.summaries in omega arith;
     }) in
-    subst (λ (xs : List Segment). AreEmpty shape a.geometry.segments xs) (sym c.reverse.ensures.items) turned
+    subst (λ (xs : List Registered). AreEmpty shape a.geometry.segments xs) (sym c.reverse.ensures.items) turned

@@ -1,16 +1,78 @@
-use Rattle.std.proofs.Common.{◌<◌, length, set, ap, subst, arith}
-use Rattle.sums.specs.Weights.{SameItems}
-use Rattle.sit.specs.Segment.{marks_of}
-use Rattle.volume.specs.Area.{Area, marks_in}
-use Rattle.volume.proofs.AreaLemmas.{marks_kept}
+use Rattle.std.proofs.Common.{◌≡◌, ◌+◌, ◌∷◌, ◌<◌, ℕ, List, Option, Some, None, [], length, get_or, set, sym, ap, subst, ◌∙◌, arith}
+use Rattle.std.proofs.lemmas.List.{length-set, length-append, get_or-set_same}
+use Rattle.sums.specs.Weights.{weigh, SameItems}
+use Rattle.sums.proofs.Indexing.{each_front, each_last, each_set}
+use Rattle.words.specs.Tokens.{FreeSegment, OpenSegment}
+use Rattle.sit.specs.Segment.{Segment, marks_of}
+use Rattle.sit.specs.Registered.{Registered}
+use Rattle.volume.specs.Area.{Area, marks_in, IsFreeOf, LogStands}
+use Rattle.volume.proofs.AreaLemmas.{segment_was, changed-law, opened_is, held_same, marks_kept}
 use Rattle.volume.proofs.area.MainArea.open_segment.Goals as goal
+
+pub invariant_of-self-2 : goal.invariant_of-self-2
+invariant_of-self-2 g c =
+    let a = c.self.inside in
+    let law = c.self.invariant.0 in
+    let n = length a.segments.items in
+    let table = a.words.table in
+    let slips = subst (λ (xs : List FreeSegment). (j : ℕ) (other : FreeSegment) → j < length xs → IsFreeOf table n (get_or xs j other)) c.in-Some-pop.ensures.items law.free_stands in
+    let last = each_last (λ j v. IsFreeOf table n v) c.pop.new.self.items c.in-Some-pop.stored slips in
+    let k = c.segment-number.result in
+    let number : k ≡ c.in-Some-pop.stored.segment = c.segment-number.ensures ∙ ap (λ (v : FreeSegment). v.segment) c.restore-slip.ensures in
+    let within : k < n = let l = last.1 in omega arith in
+    let r = c.index_mut.result.now in
+    let is = c.index_mut.ensures.value in
+    let was = segment_was _ law k r within is in
+    let new = c.open-open.new.self in
+    let opn = c.store.ensures ∙ c.open-open.ensures.slip in
+    (changed-law _ law k new a.permit (set a.logs.items 4 (Some c.store.result)) c.pop.new.self.items within
+    (opened_is a.geometry a.books.book table k r new was c.open-open.ensures.book c.open-open.ensures.segment) law.book
+    (held_same _ law k r new within is (ap marks_of c.open-open.ensures.segment))
+    (length-set a.logs.items 4 (Some c.store.result) ∙ law.six)
+    (each_set (λ j. LogStands table n) a.logs.items 4 (Some c.store.result) law.log_stands (
+      ap (λ (v : OpenSegment). v.table) opn ∙ was.table_is,
+      let e : c.store.result.segment ≡ k = ap (λ (v : OpenSegment). v.segment) opn ∙ was.number_is in omega arith,
+    ))
+    (each_front (λ j v. IsFreeOf table n v) c.pop.new.self.items (c.in-Some-pop.stored ∷ []) slips), c.self.invariant.1)
+
+pub returns-clause-log : goal.returns-clause-log
+returns-clause-log g c =
+    let a = c.self.inside in
+    let law = c.self.invariant.0 in
+    let n = length a.segments.items in
+    let table = a.words.table in
+    let slips = subst (λ (xs : List FreeSegment). (j : ℕ) (other : FreeSegment) → j < length xs → IsFreeOf table n (get_or xs j other)) c.in-Some-pop.ensures.items law.free_stands in
+    let last = each_last (λ j v. IsFreeOf table n v) c.pop.new.self.items c.in-Some-pop.stored slips in
+    let k = c.segment-number.result in
+    let number : k ≡ c.in-Some-pop.stored.segment = c.segment-number.ensures ∙ ap (λ (v : FreeSegment). v.segment) c.restore-slip.ensures in
+    let within : k < n = let l = last.1 in omega arith in
+    let was = segment_was _ law k c.index_mut.result.now within c.index_mut.ensures.value in
+    let six = law.six in
+    let opn = c.store.ensures ∙ c.open-open.ensures.slip in
+    get_or-set_same a.logs.items 4 (Some c.store.result) None (omega arith)
+    ∙ ap (λ (v : OpenSegment). Some v) (λ i. record { table = (ap (λ (v : OpenSegment). v.table) opn ∙ was.table_is) i; segment = (ap (λ (v : OpenSegment). v.segment) opn ∙ was.number_is) i })
+
+pub returns-clause-within : goal.returns-clause-within
+returns-clause-within g c =
+    let a = c.self.inside in
+    let law = c.self.invariant.0 in
+    let n = length a.segments.items in
+    let table = a.words.table in
+    let slips = subst (λ (xs : List FreeSegment). (j : ℕ) (other : FreeSegment) → j < length xs → IsFreeOf table n (get_or xs j other)) c.in-Some-pop.ensures.items law.free_stands in
+    let last = each_last (λ j v. IsFreeOf table n v) c.pop.new.self.items c.in-Some-pop.stored slips in
+    let number = c.segment-number.ensures ∙ ap (λ (v : FreeSegment). v.segment) c.restore-slip.ensures in
+    let long = length-set a.segments.items c.segment-number.result c.open-open.new.self in
+    let l = last.1 in omega arith
 
 pub returns-clause-marks : goal.returns-clause-marks
 returns-clause-marks g c =
     let a = c.self.inside in
-    let counted = c.self.invariant.0.counted in
-    let some = c.self.invariant.0.some in
-    let not_all = c.if-self.false in
-    let within : a.opened < length a.segments.items = omega arith in
-    subst (λ (x : Area). SameItems (marks_in x.segments) (marks_in (set a.segments.items a.opened c.open.new.self))) c.self.view_is
-    (marks_kept a.segments.items a.opened c.index_mut.result.now c.open.new.self within c.index_mut.ensures.value (ap marks_of c.open.ensures))
+    let law = c.self.invariant.0 in
+    let n = length a.segments.items in
+    let table = a.words.table in
+    let slips = subst (λ (xs : List FreeSegment). (j : ℕ) (other : FreeSegment) → j < length xs → IsFreeOf table n (get_or xs j other)) c.in-Some-pop.ensures.items law.free_stands in
+    let last = each_last (λ j v. IsFreeOf table n v) c.pop.new.self.items c.in-Some-pop.stored slips in
+    let number = c.segment-number.ensures ∙ ap (λ (v : FreeSegment). v.segment) c.restore-slip.ensures in
+    let l = last.1 in
+    subst (λ (x : Area). SameItems (marks_in x.segments) (marks_in (set a.segments.items c.segment-number.result c.open-open.new.self))) c.self.view_is
+    (marks_kept a.segments.items c.segment-number.result c.index_mut.result.now c.open-open.new.self (omega arith) c.index_mut.ensures.value (ap marks_of c.open-open.ensures.segment))

@@ -2,11 +2,11 @@ use Rattle.std.proofs.Common.{◌≡◌, ap, sym, subst, ◌∙◌, arith}
 use Rattle.volume.specs.Rooms.{AreRooms}
 use Rattle.volume.proofs.RoomLemmas.{room_of}
 use Rattle.sums.proofs.Indexing.{each_push}
-use Rattle.volume.proofs.area.rooms.Rooms.new.Goals as goal
+use Rattle.volume.proofs.area.rooms.new_rooms.Goals as goal
 
 pub loop-number-preserved : goal.loop-number-preserved
 loop-number-preserved g c =
-    let shape = c.args.geometry.shape in
+    let shape = c.args.geometry.now.shape in
     let rooms = c.loop-number.rooms in
     let inside = rooms.ok.0 in
     let so_far = c.loop-number.invariant.1 in
