@@ -1,7 +1,7 @@
 -- The blocks at home, of which one leaves or comes.
-use Rattle.std.proofs.Common.{◌≡◌, ℕ, ◌+◌, ◌<◌, List, Option, Some, None, Bool, length, get_or, map, set, replicate, ap, sym, ◌∙◌, refl, arith}
+use Rattle.std.proofs.Common.{◌≡◌, ℕ, ◌+◌, ◌<◌, List, Option, Some, None, Bool, length, get_or, map, set, replicate, ap, sym, ◌∙◌, refl}
 use Rattle.std.proofs.lemmas.List.{map-set, get_or-map}
-use Rattle.std.specs.Prelude.{is_some, true, false}
+use Rattle.std.specs.Prelude.{is_some, false}
 use Rattle.sums.proofs.Weighing.{weigh-set, weigh-replicate}
 use Rattle.sit.specs.Home.{Home, failed_at, failures_of}
 

@@ -55,7 +55,7 @@ module _ (s : Segment) (home : Home) (law : SegmentLaw s home) where
       let at : ss' ≡ set ss s.next (Some owner) = is ∙ ap (λ o. set ss o (Some owner)) place in record {
         sized = ap length is ∙ length-set ss offset (Some owner) ∙ law.sized;
         home_is = is_home ∙ (ap (λ h. home_set h offset false failed) law.home_is
-        ∙ ap (λ p. home_of (address_of s.shape s.number 0) (block_bytes s.shape) p failed) (sym (ap (map is_clear) is ∙ map-set is_clear ss offset (Some owner))));
+            ∙ ap (λ p. home_of (address_of s.shape s.number 0) (block_bytes s.shape) p failed) (sym (ap (map is_clear) is ∙ map-set is_clear ss offset (Some owner))));
         fitting = fitting at at_state;
       }
     where
@@ -65,8 +65,8 @@ module _ (s : Segment) (home : Home) (law : SegmentLaw s home) where
         λ p le. ap (λ xs. get_or xs p None) at ∙ set_past ss s.next owner (is_open opn).1 p le,
       )
       fitting at (inr full) = subst (λ x. IsFitting x (s.next + 1) ss') (sym full.1) (
-        let counted = count-set ss s.next owner (is_open opn).0 ((is_open opn).1 s.next (omega arith)) in
-        let same = ap count_of at in omega arith)
+          let counted = count-set ss s.next owner (is_open opn).0 ((is_open opn).1 s.next (omega arith)) in
+          let same = ap count_of at in omega arith)
 
   cleared_home : (o failed : ℕ) (home' : Home) → home' ≡ home_set home o true failed
       → home' ≡ home_of (address_of s.shape s.number 0) (block_bytes s.shape) (map is_clear (set ss o None)) failed
@@ -114,7 +114,7 @@ module _ (s : Segment) (home : Home) (law : SegmentLaw s home) where
     sized = law.sized;
     home_is = law.home_is;
     fitting = let none : count_of ss ≡ 0 = subst (λ x. IsFitting x s.next ss) free law.fitting in
-    (let e = law.sized in let b = segment_blocks-positive s.shape in omega arith, λ o le. none_valid ss none o);
+        (let e = law.sized in let b = segment_blocks-positive s.shape in omega arith, λ o le. none_valid ss none o);
   }
 
 -- what became of a segment

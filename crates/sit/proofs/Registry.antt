@@ -1,5 +1,5 @@
 -- A segment stays in step with its account and its standing.
-use Rattle.std.proofs.Common.{◌≡◌, ℕ, ◌+◌, ◌-◌, ◌<◌, List, [], ◌∷◌, Option, Some, None, IsSome, length, get_or, set, refl, sym, ap, ◌∙◌, subst, inl, inr, if◌then◌else◌, arith}
+use Rattle.std.proofs.Common.{◌≡◌, ℕ, ◌+◌, ◌<◌, [], ◌∷◌, Option, Some, None, IsSome, length, get_or, set, refl, sym, ap, ◌∙◌, inl, inr, if◌then◌else◌, arith}
 use Rattle.std.specs.Prelude.{is_some}
 use Rattle.geometry.specs.declared.state.State.{State}
 use Rattle.geometry.specs.declared.state.State.TheVariants.{Free, Open, Sealed, Prefree}
@@ -13,11 +13,11 @@ use Rattle.sums.specs.Weights.{weigh, SameItems}
 use Rattle.books.specs.Accounts.{SegmentView}
 use Rattle.books.specs.Lists.{times, without}
 use Rattle.books.proofs.Steps.{without_mark}
-use Rattle.words.specs.Tokens.{Post, IsSealed, IsRetired}
+use Rattle.words.specs.Tokens.{Post, IsSealed}
 use Rattle.sit.specs.declared.segment.Released.{Released}
 use Rattle.sit.specs.declared.segment.Released.TheVariants.{Kept, Retired}
 use Rattle.sit.specs.Summaries.{marks_from}
-use Rattle.sit.specs.Segment.{Segment, marks_of, placed, cleared, in_state, fresh, HasPlaced, IsStateAt}
+use Rattle.sit.specs.Segment.{Segment, marks_of, placed, cleared, fresh, HasPlaced, IsStateAt}
 use Rattle.sit.specs.Released.{HasReleased}
 use Rattle.words.specs.Claims.{fresh_life}
 use Rattle.words.specs.declared.claim.Life.{Life}

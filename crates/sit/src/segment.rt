@@ -287,7 +287,12 @@ fn show_open(words: &Words, standing: &mut Standing, slip: &mut Option<StoredOpe
 }
 
 // Seals a standing's segment where it has this state, and spends its slip.
-fn seal_full(words: &Words, standing: &mut Standing, slip: &mut Option<StoredOpenSlip>, state: State)
+fn seal_full(
+    words: &Words,
+    standing: &mut Standing,
+    slip: &mut Option<StoredOpenSlip>,
+    state: State,
+)
     requires table { standing.old.table ≡ words.now.table }
     requires slip { slip.old ≡ Some (record { table = standing.old.table; segment = standing.old.life.segment }) }
     ensures standing { HasSealedFull state standing.old standing.new }

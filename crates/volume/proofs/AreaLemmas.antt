@@ -1,11 +1,9 @@
 -- The valid blocks of the segments, where one stands, and what a change of a segment leaves.
-use Rattle.std.proofs.Common.{◌≡◌, ◌⊎◌, inl, inr, ⊎_elim, ℕ, zero, suc, ◌+◌, ◌*◌, ◌<◌, ◌≤◌, List, [], ◌∷◌, ◌++◌, Option, Some, None, if◌then◌else◌, length, get_or, set, refl, sym, ap, subst, ◌∙◌, arith}
-use Rattle.std.proofs.lemmas.List.{length-set, get_or_default, get_or-set_same, get_or-set_other}
+use Rattle.std.proofs.Common.{◌≡◌, ℕ, zero, suc, ◌+◌, ◌*◌, ◌<◌, ◌≤◌, List, [], ◌∷◌, ◌++◌, Option, Some, None, if◌then◌else◌, length, get_or, set, refl, sym, ap, subst, ◌∙◌, arith}
+use Rattle.std.proofs.lemmas.List.{length-set}
 use Rattle.std.specs.declared.result.Result.{Result}
 use Rattle.std.specs.declared.result.Result.TheVariants.{Ok, Err}
 use Rattle.std.specs.Prelude.{OnErr}
-use mathlib.Core.Logic.{dite}
-use native.Mathlib.Decide.{ℕ_discrete}
 use Rattle.geometry.specs.declared.geometry.Geometry.{Geometry}
 use Rattle.geometry.specs.declared.shape.Shape.{Shape}
 use Rattle.geometry.specs.declared.state.State.TheVariants.{Free, Open, Sealed, Prefree}
@@ -15,8 +13,8 @@ use Rattle.atomic_table.specs.Seated.{TableId}
 use Rattle.geometry.specs.Mark.{same_mark}
 use Rattle.geometry.specs.Shape.{segment_blocks}
 use Rattle.geometry.specs.Area.{block_count}
-use Rattle.geometry.specs.Address.{address_of, segment_of, offset_of}
-use Rattle.geometry.proofs.Addresses.{segment_of-address_of, offset_of-address_of, address_of-most}
+use Rattle.geometry.specs.Address.{address_of, segment_of}
+use Rattle.geometry.proofs.Addresses.{segment_of-address_of, address_of-most}
 use Rattle.sums.specs.Weights.{weigh, SameItems}
 use Rattle.sums.proofs.Weighing.{weigh-append}
 use Rattle.sums.proofs.Indexing.{each_set}

@@ -12,7 +12,7 @@ use Rattle.atomic_table.specs.Seated.{TableId}
 use Rattle.books.specs.Accounts.{SegmentView}
 use Rattle.words.specs.Tokens.{Post, FreeSegment, OpenSegment, fresh_post, fresh_posts, fresh_slip, fresh_slips}
 use Rattle.sit.specs.Segment.{Segment, fresh}
-use Rattle.sit.specs.Registered.{Registered, post_of}
+use Rattle.sit.specs.Registered.{Registered}
 use Rattle.sums.specs.Weights.{weigh}
 use Rattle.geometry.specs.Area.{block_count}
 use Rattle.geometry.specs.declared.owner.Owner.{Owner}
@@ -20,7 +20,7 @@ use Rattle.books.specs.Accounts.{HandView}
 use Rattle.sit.specs.Summaries.{marks_from}
 use Rattle.sit.proofs.Marks.{none_from}
 use Rattle.volume.proofs.AreaLemmas.{none_in}
-use Rattle.volume.specs.Area.{Area, AreaLaw, AreLogs, LogStands, marks_in}
+use Rattle.volume.specs.Area.{Area, AreaLaw, AreLogs, marks_in}
 use Rattle.volume.specs.Rooms.{AreRooms, IsBare, AreBare, BareFallFrom, AreEmpty, IsEmpty, AreAccounts, ArePosts, SlipsFallFrom}
 
 times-plus : (a b n : ℕ) → (a + b) * n ≡ a * n + b * n
@@ -110,7 +110,7 @@ module _ {B : Type 0} (block_address : B → ℕ) (content_of : B → List ℕ) 
         let after : count - length segments + 1 ≡ count - length rest = omega arith in
         let here : (count - length segments + 1) * segment_blocks shape ≡ (count - length segments) * segment_blocks shape + segment_blocks shape = omega arith in
         let there : (count - length rest) * segment_blocks shape + length rest * segment_blocks shape ≡ count * segment_blocks shape =
-            let whole : count - length rest + length rest ≡ count = omega arith in sym (times-plus (count - length rest) (length rest) (segment_blocks shape)) ∙ ap (λ n. n * segment_blocks shape) whole in
+        let whole : count - length rest + length rest ≡ count = omega arith in sym (times-plus (count - length rest) (length rest) (segment_blocks shape)) ∙ ap (λ n. n * segment_blocks shape) whole in
         let same = ap (λ n. n * segment_blocks shape) after in omega arith
 
     pub emptying_goes_on : (blocks' : List B) → IsBlockRun block_address content_of (block_bytes segment.segment.shape) 1 blocks' → length blocks' ≡ length blocks + segment_blocks segment.segment.shape → Emptying rest blocks'

@@ -1,8 +1,7 @@
 -- The segments of a volume, and their memory, while blocks come into them and out of them.
-use Rattle.std.specs.Prelude.{◌≡◌, ℕ, ◌-◌, ◌<◌, ◌≤◌, List, [], Option, None, length, replicate, slice_index_or}
+use Rattle.std.specs.Prelude.{◌≡◌, ℕ, ◌-◌, ◌<◌, List, [], None, length, replicate, slice_index_or}
 use Rattle.atomic_table.specs.Seated.{TableId}
 use Rattle.geometry.specs.declared.shape.Shape.{Shape}
-use Rattle.geometry.specs.declared.owner.Owner.{Owner}
 use Rattle.geometry.specs.Shape.{segment_blocks}
 use Rattle.books.specs.Accounts.{SegmentView}
 use Rattle.words.specs.Tokens.{Post, FreeSegment, fresh_post, fresh_slip}

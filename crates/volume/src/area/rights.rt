@@ -37,7 +37,10 @@ impl Model for Rights {
 impl Rights {
     /// The rights to all segments of a volume, and the slips of the segments, which are all free, the first one last. The only
     /// error is NoMemory.
-    pub(crate) fn new(alloc: Global, geometry: &Geometry) -> Result<(Rights, Vec<StoredSlip>), Error>
+    pub(crate) fn new(
+        alloc: Global,
+        geometry: &Geometry,
+    ) -> Result<(Rights, Vec<StoredSlip>), Error>
         ensures segments { IfOk result (λ dealt. dealt.0.segments ≡ geometry.now.segments) }
         ensures blocks { IfOk result (λ dealt. dealt.0.blocks ≡ segment_blocks geometry.now.shape) }
         ensures slips { IfOk result (λ dealt. SlipsFallFrom dealt.0.table geometry.now.segments dealt.1.items) }

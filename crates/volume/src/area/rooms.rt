@@ -86,7 +86,14 @@ impl<B: Block + Drop> Rooms<B> {
         let mut segments = fill_segments(&geometry, rooms, &mut rights, segments, &mut blocks);
         segments.reverse();
         let (books, words, permit) = rights.into_parts();
-        open_logs(&geometry, &books, &words, &mut segments, &mut free, &mut logs);
+        open_logs(
+            &geometry,
+            &books,
+            &words,
+            &mut segments,
+            &mut free,
+            &mut logs,
+        );
         MainArea {
             geometry,
             segments,

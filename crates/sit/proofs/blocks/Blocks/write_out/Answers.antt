@@ -1,4 +1,4 @@
-use Rattle.std.proofs.Common.{◌≡◌, ◌<◌, false, true, set, get_or, ap, ◌∙◌, length, arith}
+use Rattle.std.proofs.Common.{false, true, get_or, ap, ◌∙◌, arith}
 use Rattle.std.proofs.lemmas.List.{get_or-set_same}
 use Rattle.sit.proofs.Lists.{set-back}
 use Rattle.sit.proofs.Homes.{home_of, home_set}

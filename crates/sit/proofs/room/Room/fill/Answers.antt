@@ -1,4 +1,3 @@
-use Rattle.std.proofs.Common.{refl}
 use Rattle.sit.proofs.Registry.{fresh-registered}
 use Rattle.sit.proofs.room.Room.fill.Goals as goal
 

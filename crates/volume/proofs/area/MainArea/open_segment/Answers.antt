@@ -1,10 +1,9 @@
-use Rattle.std.proofs.Common.{◌≡◌, ◌+◌, ◌∷◌, ◌<◌, ℕ, List, Option, Some, None, [], length, get_or, set, sym, ap, subst, ◌∙◌, arith}
-use Rattle.std.proofs.lemmas.List.{length-set, length-append, get_or-set_same}
-use Rattle.sums.specs.Weights.{weigh, SameItems}
+use Rattle.std.proofs.Common.{◌≡◌, ◌∷◌, ◌<◌, ℕ, List, Some, None, [], length, get_or, set, ap, subst, ◌∙◌, arith}
+use Rattle.std.proofs.lemmas.List.{length-set, get_or-set_same}
+use Rattle.sums.specs.Weights.{SameItems}
 use Rattle.sums.proofs.Indexing.{each_front, each_last, each_set}
 use Rattle.words.specs.Tokens.{FreeSegment, OpenSegment}
-use Rattle.sit.specs.Segment.{Segment, marks_of}
-use Rattle.sit.specs.Registered.{Registered}
+use Rattle.sit.specs.Segment.{marks_of}
 use Rattle.volume.specs.Area.{Area, marks_in, IsFreeOf, LogStands}
 use Rattle.volume.proofs.AreaLemmas.{segment_was, changed-law, opened_is, held_same, marks_kept}
 use Rattle.volume.proofs.area.MainArea.open_segment.Goals as goal
@@ -24,16 +23,18 @@ invariant_of-self-2 g c =
     let is = c.index_mut.ensures.value in
     let was = segment_was _ law k r within is in
     let new = c.open-open.new.self in
-    let opn = c.store.ensures ∙ c.open-open.ensures.slip in
-    (changed-law _ law k new a.permit (set a.logs.items 4 (Some c.store.result)) c.pop.new.self.items within
-    (opened_is a.geometry a.books.book table k r new was c.open-open.ensures.book c.open-open.ensures.segment) law.book
-    (held_same _ law k r new within is (ap marks_of c.open-open.ensures.segment))
-    (length-set a.logs.items 4 (Some c.store.result) ∙ law.six)
-    (each_set (λ j. LogStands table n) a.logs.items 4 (Some c.store.result) law.log_stands (
-      ap (λ (v : OpenSegment). v.table) opn ∙ was.table_is,
-      let e : c.store.result.segment ≡ k = ap (λ (v : OpenSegment). v.segment) opn ∙ was.number_is in omega arith,
-    ))
-    (each_front (λ j v. IsFreeOf table n v) c.pop.new.self.items (c.in-Some-pop.stored ∷ []) slips), c.self.invariant.1)
+    let opn = c.store.ensures ∙ c.open-open.ensures.slip in (
+      changed-law _ law k new a.permit (set a.logs.items 4 (Some c.store.result)) c.pop.new.self.items within
+          (opened_is a.geometry a.books.book table k r new was c.open-open.ensures.book c.open-open.ensures.segment) law.book
+          (held_same _ law k r new within is (ap marks_of c.open-open.ensures.segment))
+          (length-set a.logs.items 4 (Some c.store.result) ∙ law.six)
+          (each_set (λ j. LogStands table n) a.logs.items 4 (Some c.store.result) law.log_stands (
+            ap (λ (v : OpenSegment). v.table) opn ∙ was.table_is,
+            let e : c.store.result.segment ≡ k = ap (λ (v : OpenSegment). v.segment) opn ∙ was.number_is in omega arith,
+          ))
+          (each_front (λ j v. IsFreeOf table n v) c.pop.new.self.items (c.in-Some-pop.stored ∷ []) slips),
+      c.self.invariant.1,
+    )
 
 pub returns-clause-log : goal.returns-clause-log
 returns-clause-log g c =

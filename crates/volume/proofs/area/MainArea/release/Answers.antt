@@ -1,4 +1,4 @@
-use Rattle.std.proofs.Common.{◌≡◌, ◌<◌, length, sym, ap, subst, ◌∙◌, arith}
+use Rattle.std.proofs.Common.{◌<◌, length, sym, ap, subst, ◌∙◌, arith}
 use Rattle.geometry.specs.Mark.{same_mark}
 use Rattle.sums.specs.Weights.{weigh}
 use Rattle.books.specs.Accounts.{HandView}
@@ -25,11 +25,13 @@ invariant_of-self g c =
     let m = c.args.ticket.mark in
     let within : k < length a.segments.items = let counted = law.counted in let low = c.segment_of-number.ensures.within in omega arith in
     let is = c.index_mut-segment.ensures.value in
-    let some = subst (λ (x : Area). 0 < times same_mark m (marks_in x.segments)) (sym c.self.view_is) c.requires.valid in
-    (changed-law _ law k c.release.new.self c.release.new.permit a.logs.items a.free.items within
-    (released_is a.geometry a.books.book a.words.table k r c.release.new.self (segment_was _ law k r within is) c.release.ensures.book _ _ c.release.result c.release.ensures.segment)
-    (ap (λ (h : HandView). h.book) c.release.ensures.hand ∙ law.book)
-    (held_less _ law k r c.release.new.self m c.release.new.permit within is c.release.ensures.marks some c.release.ensures.hand) law.six law.log_stands law.free_stands, c.self.invariant.1)
+    let some = subst (λ (x : Area). 0 < times same_mark m (marks_in x.segments)) (sym c.self.view_is) c.requires.valid in (
+      changed-law _ law k c.release.new.self c.release.new.permit a.logs.items a.free.items within
+          (released_is a.geometry a.books.book a.words.table k r c.release.new.self (segment_was _ law k r within is) c.release.ensures.book _ _ c.release.result c.release.ensures.segment)
+          (ap (λ (h : HandView). h.book) c.release.ensures.hand ∙ law.book)
+          (held_less _ law k r c.release.new.self m c.release.new.permit within is c.release.ensures.marks some c.release.ensures.hand) law.six law.log_stands law.free_stands,
+      c.self.invariant.1,
+    )
 
 pub returns-clause-marks : goal.returns-clause-marks
 returns-clause-marks g c =

@@ -1,4 +1,4 @@
-use Rattle.std.proofs.Common.{◌≡◌, ◌+◌, ◌≤◌, vec_len, vec_capacity}
+use Rattle.std.proofs.Common.{◌≤◌, vec_len, vec_capacity}
 use Rattle.volume.proofs.RoomLemmas.{Storing}
 use Rattle.volume.proofs.area.rights.store_slips.Given as goal
 

@@ -1,5 +1,5 @@
-use Rattle.std.proofs.Common.{sym, ap, subst, ◌∙◌, ◌≡◌, ◌*◌, ◌+◌, arith}
-use Rattle.geometry.specs.Shape.{block_bytes, segment_blocks}
+use Rattle.std.proofs.Common.{sym, subst, ◌∙◌, arith}
+use Rattle.geometry.specs.Shape.{block_bytes}
 use Rattle.device.specs.Parts.{IsBlockRun}
 use Rattle.volume.proofs.RoomLemmas.{popped_empty, popped_first, popped_fits, emptying_goes_on}
 use Rattle.volume.proofs.area.rooms.empty_segments.Goals as goal

@@ -1,5 +1,5 @@
 use Rattle.std.proofs.Common.{◌≡◌, ap, sym, subst, ◌∙◌, length, vec_len, arith}
-use Rattle.words.specs.Tokens.{fresh_slips, fresh_posts}
+use Rattle.words.specs.Tokens.{fresh_slips}
 use Rattle.volume.specs.Rooms.{SlipsFallFrom}
 use Rattle.volume.proofs.RoomLemmas.{are_accounts, are_posts, posts_long, slips_long}
 use Rattle.volume.proofs.area.rights.Rights.new.Goals as goal
@@ -23,11 +23,12 @@ invariant_of-rights c =
     let dealt = c.in_ok-words.field-0 in
     let opened = c.in_ok-books.field-0 in
     let n = c.args.geometry.now.segments in
-    let posts : vec_len dealt.standings ≡ n = dealt.standings.ok.0 ∙ (ap length c.in_ok-words.ensures.standings ∙ posts_long dealt.words.table 0 n) in
-    (are_accounts opened.books.book opened.segments.items c.in_ok-books.ensures.segments,
-    are_posts dealt.words.table dealt.standings.items n c.in_ok-words.ensures.standings,
-    (let every = c.in_ok-books.ensures.every_segment in let long = opened.segments.ok.0 in omega arith),
-    c.take_permit-others.ensures.permit)
+    let posts : vec_len dealt.standings ≡ n = dealt.standings.ok.0 ∙ (ap length c.in_ok-words.ensures.standings ∙ posts_long dealt.words.table 0 n) in (
+      are_accounts opened.books.book opened.segments.items c.in_ok-books.ensures.segments,
+      are_posts dealt.words.table dealt.standings.items n c.in_ok-words.ensures.standings,
+      (let every = c.in_ok-books.ensures.every_segment in let long = opened.segments.ok.0 in omega arith),
+      c.take_permit-others.ensures.permit,
+    )
 
 pub returns-clause-slips : goal.returns-clause-slips
 returns-clause-slips c =

@@ -1,4 +1,4 @@
-use Rattle.std.proofs.Common.{◌≡◌, List, [], ap, sym, ◌∙◌, get_or, Option, arith}
+use Rattle.std.proofs.Common.{List, [], ap, sym, ◌∙◌, get_or, Option, arith}
 use Rattle.geometry.specs.declared.owner.Owner.{Owner}
 use Rattle.sums.specs.Weights.{weigh}
 use Rattle.geometry.specs.declared.owner.Mark.{Mark}
@@ -28,10 +28,11 @@ invariant_of-result g c =
     let parts = c.into_parts-books in
     let left = c.fill_segments-segments.ensures.rights in
     let long = c.open_logs.new.segments.ok.0 in
-    let six = c.open_logs.new.logs.ok.0 in
-    (filled-law _ (let e = c.open_logs.ensures.count in omega arith) c.open_logs.ensures.segments
-    (parts.ensures.books.1 ∙ (ap (λ (r : RightsTo). r.blocks) left ∙ c.self.invariant.5))
-    (parts.ensures.permit ∙ (λ i. record { book = sym parts.ensures.books.0 i; tickets = []; tokens = [] }))
-    (let e = c.open_logs.ensures.six in omega arith) c.open_logs.ensures.logs c.open_logs.ensures.free
-    (let count = c.requires.count in let same = ap block_count c.self.view_is in let capacity = c.fill_segments-segments.ensures.capacity in let ok = c.args.blocks.ok in grind (arith, count, same, capacity, ok)),
-    c.fill_segments-segments.ensures.none)
+    let six = c.open_logs.new.logs.ok.0 in (
+      filled-law _ (let e = c.open_logs.ensures.count in omega arith) c.open_logs.ensures.segments
+          (parts.ensures.books.1 ∙ (ap (λ (r : RightsTo). r.blocks) left ∙ c.self.invariant.5))
+          (parts.ensures.permit ∙ (λ i. record { book = sym parts.ensures.books.0 i; tickets = []; tokens = [] }))
+          (let e = c.open_logs.ensures.six in omega arith) c.open_logs.ensures.logs c.open_logs.ensures.free
+          (let count = c.requires.count in let same = ap block_count c.self.view_is in let capacity = c.fill_segments-segments.ensures.capacity in let ok = c.args.blocks.ok in grind (arith, count, same, capacity, ok)),
+      c.fill_segments-segments.ensures.none,
+    )
