@@ -5,3 +5,4 @@ pub mod Calls
 pub mod Gathering
 pub mod BlockRuns
 mod ZeroBlocks
+mod ImageFiles

@@ -1,7 +1,7 @@
 //! A device that fails when told to: the n-th write or sync from the moment of arming fails once.
 ghost use Rattle.std.specs.Prelude.{◌≡◌, ◌+◌};
 
-use crate::{DeviceError, Failures, Meta};
+use crate::{Block, DeviceError, Failures, Meta};
 use std::sync::Arc;
 use std::sync::atomic::{AtomicU64, Ordering};
 
@@ -54,21 +54,24 @@ impl Fuse {
     }
 }
 
-/// A meta area that fails where its fuse says so, and else does what the one inside does.
+/// A part of a device, its meta area or a block, that fails where its fuse says so, and else does what the one inside
+/// does.
 ///
-/// Its failures are those of the one inside and those of the fuse. Reads never fail by the fuse.
+/// Its failures are those of the one inside and those of the fuse. Only writes and syncs fail by the fuse: it counts no
+/// read and no lease.
 #[derive(Drop)]
-pub struct Faulty<M> {
-    pub inner: M,
+pub struct Faulty<P> {
+    pub inner: P,
     fuse: Arc<Fuse>,
-    failures: Failures,
+    /// Those of the fuse.
+    pub failures: Failures,
 }
 
-impl<M: Meta> Faulty<M> {
-    /// The area with a fuse, which has counted no failure yet.
-    pub fn new(inner: M, fuse: Arc<Fuse>) -> Faulty<M>
+impl<P> Faulty<P> {
+    /// The part with a fuse, which has counted no failure yet.
+    pub fn new(inner: P, fuse: Arc<Fuse>) -> Faulty<P>
         ensures inner { result.inner ≡ inner }
-        ensures sound { ⟦<Faulty<M> as Meta>⟧.failed result ≡ M.failed inner }
+        ensures sound { result.failures.total.count ≡ 0 }
     {
         Faulty {
             inner,
@@ -77,8 +80,8 @@ impl<M: Meta> Faulty<M> {
         }
     }
 
-    /// The area inside, without the fuse.
-    pub fn into_inner(self) -> M
+    /// The part inside, without the fuse.
+    pub fn into_inner(self) -> P
         ensures { result ≡ self.inner }
     {
         self.inner
@@ -142,6 +145,47 @@ impl<M: Meta> Meta for Faulty<M> {
 
     fn failures(&self) -> u64 {
         self.inner.failures().saturating_add(self.failures.told())
+    }
+}
+
+impl<B: Block> Block for Faulty<B> {
+    type Lease = B::Lease;
+
+    ghost address_of = { λ f. B.Block.address_of f.inner };
+
+    ghost content_of = { λ f. B.Block.content_of f.inner };
+
+    ghost failed = { λ f. B.Block.failed f.inner + f.failures.total.count };
+
+    fn address(&self) -> u32 {
+        self.inner.address()
+    }
+
+    fn write(&mut self, bytes: &[u8]) -> Result<(), DeviceError> {
+        match self.fuse.burn() {
+            None => self.inner.write(bytes),
+            Some(Fault::Before) => {
+                self.failures.count();
+                Err(DeviceError)
+            }
+            Some(Fault::After) => {
+                let _done = self.inner.write(bytes);
+                self.failures.count();
+                Err(DeviceError)
+            }
+        }
+    }
+
+    fn read(&mut self, out: &mut [u8]) -> Result<(), DeviceError> {
+        self.inner.read(out)
+    }
+
+    fn lend(&mut self) -> Result<B::Lease, DeviceError> {
+        self.inner.lend()
+    }
+
+    fn failures(&self) -> u64 {
+        self.failures.told().saturating_add(self.inner.failures())
     }
 }
 

@@ -50,6 +50,13 @@ impl MemBlock {
         }
     }
 
+    /// The bytes that it holds.
+    pub fn as_slice(&self) -> &[u8]
+        ensures { result.now ≡ ⟦<MemBlock as Block>⟧.content_of self.now }
+    {
+        &self.bytes[..]
+    }
+
     // Leaves the bytes to the leases and takes memory for new ones.
     fn share_copy(&mut self, bytes: &[u8]) -> Result<(), AllocError>
         ensures address { self.new.address ≡ self.old.address }

@@ -1,10 +1,10 @@
 //! A whole device in memory.
-ghost use Rattle.std.specs.Prelude.{◌≡◌, length, replicate, All, IfOk, IfErr};
+ghost use Rattle.std.specs.Prelude.{◌≡◌, ◌≤◌, ◌<◌, ◌+◌, ◌++◌, ◌^◌, length, replicate, All, IfOk, IfErr, OnOk, OnErr, MatchOption, vec_len, vec_capacity};
 ghost use Rattle.geometry.specs.declared.error.Error.TheVariants.{NoMemory};
 ghost use Rattle.geometry.specs.Shape.{block_bytes};
 ghost use Rattle.geometry.specs.Area.{block_count, meta_bytes};
 ghost use Rattle.device.specs.Disk.{Only};
-ghost use Rattle.device.specs.Parts.{IsBlockRun, HasSize};
+ghost use Rattle.device.specs.Parts.{IsBlockRun, HasSize, image_file};
 
 use crate::{Block, MemBlock, MemMeta, Meta, Parts};
 use geometry::{Error, Geometry};
@@ -57,6 +57,40 @@ impl MemDevice {
         ensures { result.parts ≡ parts }
     {
         MemDevice { parts }
+    }
+
+    /// Adds the device's image file to `file`: the bytes of the meta area, and behind them those of every block in
+    /// address order. Answers NoMemory where memory was refused, and then `file` is as before.
+    pub fn append_to(&self, file: &mut Vec<u8>) -> Result<(), Error>
+        ensures added { OnOk result (file.new.items ≡ file.old.items
+            ++ image_file ⟦<MemMeta as Meta>⟧.seen ⟦<MemBlock as Block>⟧.content_of self.now.parts) }
+        ensures kept { OnErr result (file.new.items ≡ file.old.items) }
+        ensures err { IfErr result (λ e. e ≡ NoMemory) }
+
+        // A file that has room for them takes them.
+        ensures full { OnErr result (vec_capacity file.old < vec_len file.old
+            + length (image_file ⟦<MemMeta as Meta>⟧.seen ⟦<MemBlock as Block>⟧.content_of self.now.parts)) }
+    {
+        let bytes = self.image_bytes().ok_or(Error::NoMemory)?;
+        file.reserve(bytes)?;
+        // There is room for all of them now, so nothing is refused from here on.
+        file.extend_from_slice(self.parts.meta.bytes.as_slice())?;
+        for block in &self.parts.blocks {
+            file.extend_from_slice(block.as_slice())?;
+        }
+        Ok(())
+    }
+
+    // How many bytes its image file has, where as many can be counted.
+    fn image_bytes(&self) -> Option<usize>
+        ensures { let file = image_file ⟦<MemMeta as Meta>⟧.seen ⟦<MemBlock as Block>⟧.content_of self.now.parts in
+            MatchOption result (2 ^ 64 ≤ length file) (λ bytes. bytes ≡ length file) }
+    {
+        let mut bytes = self.parts.meta.bytes.len();
+        for block in &self.parts.blocks {
+            bytes = bytes.checked_add(block.as_slice().len())?;
+        }
+        Some(bytes)
     }
 }
 

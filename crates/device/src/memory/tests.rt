@@ -55,3 +55,28 @@ fn a_device_is_split_and_joined(rt: HostRuntime) -> Result<(), Fail> {
     assert!(rt; out == [9u8; 64]);
     Ok(())
 }
+
+#[test]
+fn an_image_file_is_the_meta_area_and_then_the_blocks(rt: HostRuntime) -> Result<(), Fail> {
+    let alloc = rt.alloc();
+    let geometry = Geometry::new(Shape::TINY, 32, 1, 4, 64)?;
+    let mut parts = MemDevice::new(alloc, &geometry)?.split();
+    parts.meta.write(0, b"F2SEG001")?;
+    for (block, byte) in parts.blocks.iter_mut().zip(1u8..255) {
+        // No lease lives, so this needs no memory.
+        block.write(&[byte; 64])?;
+    }
+    let device = MemDevice::join(parts);
+    let mut file = Vec::from_slice(alloc, b"before")?;
+    device.append_to(&mut file)?;
+    // The meta area of this geometry has 6136 bytes, and its 256 blocks have 64 each.
+    assert!(rt; file.len() == 6 + 22_520);
+    let bytes = file.as_slice();
+    assert!(rt; &bytes[..14] == &b"beforeF2SEG001"[..]);
+    assert!(rt; bytes[6 + 6_135] == 0);
+    assert!(rt; bytes[6 + 6_136] == 1 && bytes[6 + 6_136 + 63] == 1);
+    assert!(rt; bytes[6 + 6_136 + 64] == 2);
+    assert!(rt; bytes[6 + 6_136 + 253 * 64] == 254);
+    assert!(rt; bytes[6 + 6_136 + 254 * 64] == 0);
+    Ok(())
+}

@@ -1,0 +1,11 @@
+pub mod Crash
+pub mod Picking
+pub mod Slots
+pub mod Steps
+pub mod Footer
+pub mod Named
+pub mod Header
+pub mod Opening
+pub mod First
+pub mod Sizes
+pub mod Fronts

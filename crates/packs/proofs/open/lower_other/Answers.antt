@@ -1,0 +1,94 @@
+use Rattle.std.proofs.Common.{◌≡◌, inl, inr, ℕ, ◌-◌, ◌≤◌, List, sym, ◌∙◌, subst, arith}
+use Rattle.device.specs.Disk.{Torn}
+use Rattle.device.proofs.Moments.{torn_leaves, torn_moments, quiet_moments}
+use Rattle.packs.specs.Pack.{IsSettled, MayClear}
+use Rattle.packs.specs.Area.{reading_of}
+use Rattle.packs.specs.Device.{IsSameArea, KeepsArea}
+use Rattle.packs.proofs.Fronts.{kept_alone}
+use Rattle.packs.proofs.Picking.{picked_settled}
+use Rattle.packs.proofs.Slots.{torn_area, torn_footer}
+use Rattle.packs.proofs.Steps.{footer_behind, footer_zero}
+use Rattle.packs.proofs.open.lower_other.Goals as goal
+
+pub returns-in_err-write-clause-any_moment : goal.returns-in_err-write-clause-any_moment
+returns-in_err-write-clause-any_moment g c =
+    let area = g.M.Meta.seen c.args.meta.now in
+    let f = c.requires.found in
+    let P : List ℕ → Type 0 = λ d. d ≡ area in
+    let Q = KeepsArea area (MayClear (reading_of c.args.len) c.args.found.slot area) in
+    let behind : 64 ≤ c.footer_at.result = omega (arith, footer_behind c.args.len (1 - c.args.found.slot), c.footer_at.ensures) in
+    let weak : (d : List ℕ) → P d → Q d = λ d is. kept_alone (MayClear (reading_of c.args.len) c.args.found.slot area) area d is (inl is) in
+    let step : (d e : List ℕ) → P d → Torn c.footer_at.result 4 d e → Q e = λ d e is torn.
+    let here : Torn c.footer_at.result 4 area e = subst (λ (l : List ℕ). Torn c.footer_at.result 4 l e) is torn in
+    record {
+      packs = inr (
+        omega (arith, f.version, f.other, c.if-found.false),
+        torn_footer c.args.len c.args.found.slot area e f.slot.within (subst (λ (a : ℕ). Torn a 4 area e) c.footer_at.ensures here),
+      );
+      same = torn_area c.footer_at.result 4 area e behind here;
+    } in
+    torn_moments g.M.Meta.moment g.M.Meta.left_since g.M.Meta.may_leave g.met.M.Meta.only_now _ _ _ _ P Q c.requires.durable c.write.ensures.crash c.write.ensures.time weak step
+
+pub returns-in_err-write-clause-same : goal.returns-in_err-write-clause-same
+returns-in_err-write-clause-same g c =
+    torn_area _ _ _ _ (omega (arith, footer_behind c.args.len (1 - c.args.found.slot), c.footer_at.ensures)) c.write.ensures.others
+
+pub returns-in_err-sync-clause-any_moment : goal.returns-in_err-sync-clause-any_moment
+returns-in_err-sync-clause-any_moment g c =
+    let area = g.M.Meta.seen c.args.meta.now in
+    let f = c.requires.found in
+    let P : List ℕ → Type 0 = λ d. d ≡ area in
+    let Q = KeepsArea area (MayClear (reading_of c.args.len) c.args.found.slot area) in
+    let behind : 64 ≤ c.footer_at.result = omega (arith, footer_behind c.args.len (1 - c.args.found.slot), c.footer_at.ensures) in
+    let weak : (d : List ℕ) → P d → Q d = λ d is. kept_alone (MayClear (reading_of c.args.len) c.args.found.slot area) area d is (inl is) in
+    let step : (d e : List ℕ) → P d → Torn c.footer_at.result 4 d e → Q e = λ d e is torn.
+    let here : Torn c.footer_at.result 4 area e = subst (λ (l : List ℕ). Torn c.footer_at.result 4 l e) is torn in
+    record {
+      packs = inr (
+        omega (arith, f.version, f.other, c.if-found.false),
+        torn_footer c.args.len c.args.found.slot area e f.slot.within (subst (λ (a : ℕ). Torn a 4 area e) c.footer_at.ensures here),
+      );
+      same = torn_area c.footer_at.result 4 area e behind here;
+    } in
+    let wrote = torn_moments g.M.Meta.moment g.M.Meta.left_since g.M.Meta.may_leave g.met.M.Meta.only_now _ _ _ _ P Q c.requires.durable c.write.ensures.crash c.write.ensures.time weak step in
+    let left = torn_leaves g.M.Meta.moment g.M.Meta.left_since g.M.Meta.may_leave _ _ _ _ P Q c.requires.durable c.write.ensures.crash step in
+    quiet_moments g.M.Meta.moment g.M.Meta.left_since g.M.Meta.seen g.M.Meta.may_leave _ _ _ Q wrote left c.sync.ensures.quiet
+
+pub returns-clause-any_moment : goal.returns-clause-any_moment
+returns-clause-any_moment g c =
+    let area = g.M.Meta.seen c.args.meta.now in
+    let f = c.requires.found in
+    let P : List ℕ → Type 0 = λ d. d ≡ area in
+    let Q = KeepsArea area (MayClear (reading_of c.args.len) c.args.found.slot area) in
+    let behind : 64 ≤ c.footer_at.result = omega (arith, footer_behind c.args.len (1 - c.args.found.slot), c.footer_at.ensures) in
+    let weak : (d : List ℕ) → P d → Q d = λ d is. kept_alone (MayClear (reading_of c.args.len) c.args.found.slot area) area d is (inl is) in
+    let step : (d e : List ℕ) → P d → Torn c.footer_at.result 4 d e → Q e = λ d e is torn.
+    let here : Torn c.footer_at.result 4 area e = subst (λ (l : List ℕ). Torn c.footer_at.result 4 l e) is torn in
+    record {
+      packs = inr (
+        omega (arith, f.version, f.other, c.if-found.false),
+        torn_footer c.args.len c.args.found.slot area e f.slot.within (subst (λ (a : ℕ). Torn a 4 area e) c.footer_at.ensures here),
+      );
+      same = torn_area c.footer_at.result 4 area e behind here;
+    } in
+    let wrote = torn_moments g.M.Meta.moment g.M.Meta.left_since g.M.Meta.may_leave g.met.M.Meta.only_now _ _ _ _ P Q c.requires.durable c.write.ensures.crash c.write.ensures.time weak step in
+    let left = torn_leaves g.M.Meta.moment g.M.Meta.left_since g.M.Meta.may_leave _ _ _ _ P Q c.requires.durable c.write.ensures.crash step in
+    quiet_moments g.M.Meta.moment g.M.Meta.left_since g.M.Meta.seen g.M.Meta.may_leave _ _ _ Q wrote left c.sync.ensures.quiet
+
+pub returns-in_err-sync-clause-same : goal.returns-in_err-sync-clause-same
+returns-in_err-sync-clause-same g c =
+    subst (λ (l : List ℕ). IsSameArea (g.M.Meta.seen c.args.meta.now) l) (sym c.sync.ensures.quiet.same) (torn_area _ _ _ _ (omega (arith, footer_behind c.args.len (1 - c.args.found.slot), c.footer_at.ensures)) c.write.ensures.others)
+
+pub returns-clause-same : goal.returns-clause-same
+returns-clause-same g c =
+    subst (λ (l : List ℕ). IsSameArea (g.M.Meta.seen c.args.meta.now) l) (sym c.sync.ensures.quiet.same) (torn_area _ _ _ _ (omega (arith, footer_behind c.args.len (1 - c.args.found.slot), c.footer_at.ensures)) c.write.ensures.others)
+
+pub returns-clause-lowered : goal.returns-clause-lowered
+returns-clause-lowered g c =
+    let area = g.M.Meta.seen c.args.meta.now in
+    let f = c.requires.found in
+    let torn = torn_footer c.args.len c.args.found.slot area (g.M.Meta.seen c.write.new.self) f.slot.within (subst (λ (a : ℕ). Torn a 4 area (g.M.Meta.seen c.write.new.self)) c.footer_at.ensures c.write.ensures.others) in
+    let zero = footer_zero c.args.len c.args.found.slot _ _ _ f.slot.within c.footer_at.ensures c.requires.area.long c.in_ok-write.ensures.written in
+    let settled = picked_settled (reading_of c.args.len) area c.args.found.slot (g.M.Meta.seen c.write.new.self) f.slot torn (let positive = f.slot.sound.positive in omega (arith, zero, positive)) in
+    let S = IsSettled (reading_of c.args.len) ((reading_of c.args.len).body c.args.found.slot area) in
+    λ d now. kept_alone S (g.M.Meta.seen c.sync.new.self) d (c.in_ok-sync.ensures.durable d now ∙ sym c.sync.ensures.quiet.same) (subst S (sym (c.in_ok-sync.ensures.durable d now)) settled)

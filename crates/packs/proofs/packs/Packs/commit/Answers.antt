@@ -1,0 +1,90 @@
+use Rattle.std.proofs.Common.{◌≡◌, ◌+◌, ◌-◌, ◌≤◌, List, ℕ, length, sym, ◌∙◌, ap, subst, arith}
+use Rattle.device.proofs.Moments.{torn_leaves, torn_moments, quiet_moments}
+use Rattle.packs.specs.Pack.{version_of, slot_of, IsSettled, IsStaged, Between}
+use Rattle.packs.specs.Area.{reading_of}
+use Rattle.packs.specs.Device.{IsSameArea, KeepsArea, body_of, staged_in}
+use Rattle.packs.proofs.Crash.{settled_between}
+use Rattle.packs.proofs.Footer.{footer_reads, footer_long}
+use Rattle.packs.proofs.Fronts.{kept_torn, kept_weaker, kept_alone}
+use Rattle.packs.proofs.Slots.{torn_area}
+use Rattle.packs.proofs.Steps.{footer_between, footer_settled, footer_behind, area_stays}
+use Rattle.packs.proofs.packs.Packs.commit.Goals as goal
+
+pub returns-in_err-write-clause-any_moment : goal.returns-in_err-write-clause-any_moment
+returns-in_err-write-clause-any_moment g c =
+    let s = c.requires.staged in
+    let old = body_of (reading_of c.args.self.now.len) g.M.Meta.seen c.args.self.now in
+    let new = staged_in (reading_of c.args.self.now.len) g.M.Meta.seen c.args.self.now in
+    let next : version_of new ≡ version_of old + 1 = omega (arith, s.version, c.requires.version, c.requires.next) in
+    let area = g.M.Meta.seen c.args.self.now.meta in
+    let S = IsStaged (reading_of c.args.self.now.len) old new in
+    let B = Between (reading_of c.args.self.now.len) old new in
+    let P = KeepsArea area S in
+    let Q = KeepsArea area B in
+    let behind : 64 ≤ c.footer_at-at.result = omega (arith, footer_behind c.args.self.now.len (1 - slot_of c.args.self.now.version), c.footer_at-at.ensures) in
+    let weak = λ (d : List ℕ). kept_weaker S B area d (λ is. settled_between (reading_of c.args.self.now.len) old new d next is.settled) in
+    let step = λ (d e : List ℕ). kept_torn S B area d e c.footer_at-at.result (length c.write_u32.new.buf) behind (footer_between c.args.self.now.len c.args.self.now.version c.footer_at-at.result (length c.write_u32.new.buf) old new d e c.footer_at-at.ensures (footer_long _ _ c.write_u32.ensures) s.version next) in
+    torn_moments g.M.Meta.moment g.M.Meta.left_since g.M.Meta.may_leave g.met.M.Meta.only_now _ _ _ _ P Q s.left c.write.ensures.crash c.write.ensures.time weak step
+
+pub returns-in_err-write-clause-same : goal.returns-in_err-write-clause-same
+returns-in_err-write-clause-same g c =
+    torn_area _ _ _ _ (omega (arith, footer_behind c.args.self.now.len (1 - slot_of c.args.self.now.version), c.footer_at-at.ensures)) c.write.ensures.others
+
+pub returns-in_err-sync-clause-any_moment : goal.returns-in_err-sync-clause-any_moment
+returns-in_err-sync-clause-any_moment g c =
+    let s = c.requires.staged in
+    let old = body_of (reading_of c.args.self.now.len) g.M.Meta.seen c.args.self.now in
+    let new = staged_in (reading_of c.args.self.now.len) g.M.Meta.seen c.args.self.now in
+    let next : version_of new ≡ version_of old + 1 = omega (arith, s.version, c.requires.version, c.requires.next) in
+    let area = g.M.Meta.seen c.args.self.now.meta in
+    let S = IsStaged (reading_of c.args.self.now.len) old new in
+    let B = Between (reading_of c.args.self.now.len) old new in
+    let P = KeepsArea area S in
+    let Q = KeepsArea area B in
+    let behind : 64 ≤ c.footer_at-at.result = omega (arith, footer_behind c.args.self.now.len (1 - slot_of c.args.self.now.version), c.footer_at-at.ensures) in
+    let weak = λ (d : List ℕ). kept_weaker S B area d (λ is. settled_between (reading_of c.args.self.now.len) old new d next is.settled) in
+    let step = λ (d e : List ℕ). kept_torn S B area d e c.footer_at-at.result (length c.write_u32.new.buf) behind (footer_between c.args.self.now.len c.args.self.now.version c.footer_at-at.result (length c.write_u32.new.buf) old new d e c.footer_at-at.ensures (footer_long _ _ c.write_u32.ensures) s.version next) in
+    let wrote = torn_moments g.M.Meta.moment g.M.Meta.left_since g.M.Meta.may_leave g.met.M.Meta.only_now _ _ _ _ P Q s.left c.write.ensures.crash c.write.ensures.time weak step in
+    let left = torn_leaves g.M.Meta.moment g.M.Meta.left_since g.M.Meta.may_leave _ _ _ _ P Q s.left c.write.ensures.crash step in
+    quiet_moments g.M.Meta.moment g.M.Meta.left_since g.M.Meta.seen g.M.Meta.may_leave _ _ _ Q wrote left c.sync.ensures.quiet
+
+pub returns-clause-any_moment : goal.returns-clause-any_moment
+returns-clause-any_moment g c =
+    let s = c.requires.staged in
+    let old = body_of (reading_of c.args.self.now.len) g.M.Meta.seen c.args.self.now in
+    let new = staged_in (reading_of c.args.self.now.len) g.M.Meta.seen c.args.self.now in
+    let next : version_of new ≡ version_of old + 1 = omega (arith, s.version, c.requires.version, c.requires.next) in
+    let area = g.M.Meta.seen c.args.self.now.meta in
+    let S = IsStaged (reading_of c.args.self.now.len) old new in
+    let B = Between (reading_of c.args.self.now.len) old new in
+    let P = KeepsArea area S in
+    let Q = KeepsArea area B in
+    let behind : 64 ≤ c.footer_at-at.result = omega (arith, footer_behind c.args.self.now.len (1 - slot_of c.args.self.now.version), c.footer_at-at.ensures) in
+    let weak = λ (d : List ℕ). kept_weaker S B area d (λ is. settled_between (reading_of c.args.self.now.len) old new d next is.settled) in
+    let step = λ (d e : List ℕ). kept_torn S B area d e c.footer_at-at.result (length c.write_u32.new.buf) behind (footer_between c.args.self.now.len c.args.self.now.version c.footer_at-at.result (length c.write_u32.new.buf) old new d e c.footer_at-at.ensures (footer_long _ _ c.write_u32.ensures) s.version next) in
+    let wrote = torn_moments g.M.Meta.moment g.M.Meta.left_since g.M.Meta.may_leave g.met.M.Meta.only_now _ _ _ _ P Q s.left c.write.ensures.crash c.write.ensures.time weak step in
+    let left = torn_leaves g.M.Meta.moment g.M.Meta.left_since g.M.Meta.may_leave _ _ _ _ P Q s.left c.write.ensures.crash step in
+    quiet_moments g.M.Meta.moment g.M.Meta.left_since g.M.Meta.seen g.M.Meta.may_leave _ _ _ Q wrote left c.sync.ensures.quiet
+
+pub returns-in_err-sync-clause-same : goal.returns-in_err-sync-clause-same
+returns-in_err-sync-clause-same g c =
+    subst (λ (l : List ℕ). IsSameArea (g.M.Meta.seen c.args.self.now.meta) l) (sym c.sync.ensures.quiet.same) (torn_area _ _ _ _ (omega (arith, footer_behind c.args.self.now.len (1 - slot_of c.args.self.now.version), c.footer_at-at.ensures)) c.write.ensures.others)
+
+pub returns-clause-same : goal.returns-clause-same
+returns-clause-same g c =
+    subst (λ (l : List ℕ). IsSameArea (g.M.Meta.seen c.args.self.now.meta) l) (sym c.sync.ensures.quiet.same) (torn_area _ _ _ _ (omega (arith, footer_behind c.args.self.now.len (1 - slot_of c.args.self.now.version), c.footer_at-at.ensures)) c.write.ensures.others)
+
+pub returns-clause-settled : goal.returns-clause-settled
+returns-clause-settled g c =
+    let s = c.requires.staged in
+    let old = body_of (reading_of c.args.self.now.len) g.M.Meta.seen c.args.self.now in
+    let new = staged_in (reading_of c.args.self.now.len) g.M.Meta.seen c.args.self.now in
+    let before = (s.left (g.M.Meta.seen c.args.self.now.meta) (g.met.M.Meta.seen_is_left c.args.self.now.meta)).packs in
+    let settled = footer_settled c.args.self.now.len c.args.self.now.version _ c.args.version _ old new _ _ c.footer_at-at.ensures (footer_long _ _ c.write_u32.ensures) s.version s.area.long
+    (footer_reads _ _ c.write_u32.ensures (omega arith)) c.requires.version c.requires.next before c.write.ensures.others c.in_ok-write.ensures.written in
+    record {
+      area = area_stays _ _ _ s.area (ap length c.sync.ensures.quiet.same ∙ c.write.ensures.others.long);
+      version = c.requires.version;
+      left = λ d now. kept_alone (IsSettled (reading_of c.args.self.now.len) new) (g.M.Meta.seen c.sync.new.self) d (c.in_ok-sync.ensures.durable d now ∙ sym c.sync.ensures.quiet.same)
+          (subst (IsSettled (reading_of c.args.self.now.len) new) (sym (c.in_ok-sync.ensures.durable d now)) settled);
+    }
