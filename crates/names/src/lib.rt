@@ -1,0 +1,102 @@
+//! The names of a volume's tables, which exist for the proofs alone.
+//!
+//! What comes out of a lock, a queue or a channel is known by its type alone. So each such value is generic in the name of
+//! its table, a type whose ghost members say which table it is. A name is picked at the call that is made once the table
+//! exists, and the volume's names are put together in one.
+#![tactic(auto)]
+
+use std::marker::{Brand, PhantomData};
+
+/// Names the books of a volume, and their layout.
+pub trait BooksName {
+    ghost use Rattle.claims.specs.Rules.{Ruled};
+    ghost use Rattle.books.specs.declared.claim.Layout.{Layout};
+
+    ghost books: { Ruled Layout };
+}
+
+impl BooksName for Brand {
+    ghost use Rattle.names.specs.Names.{no_books};
+
+    ghost books = { no_books };
+}
+
+/// Names the table of the segments' words.
+pub trait WordsName {
+    ghost use Rattle.atomic_table.specs.Seated.{TableId};
+
+    ghost words: { TableId };
+}
+
+impl WordsName for Brand {
+    ghost use Rattle.names.specs.Names.{no_table};
+
+    ghost words = { no_table };
+}
+
+/// Names the two queues of free segments.
+pub trait PoolName {
+    ghost use Rattle.atomic_table.specs.Seated.{TableId};
+
+    ghost ordinary: { TableId };
+
+    ghost reserve: { TableId };
+}
+
+impl PoolName for Brand {
+    ghost use Rattle.names.specs.Names.{no_table};
+
+    ghost ordinary = { no_table };
+
+    ghost reserve = { no_table };
+}
+
+/// Names the channel of the permits: its table, and the key of its messages, each of which is a permit of the books.
+pub trait TurnName {
+    ghost use Rattle.atomic_table.specs.Seated.{TableId};
+    ghost use Rattle.atomic_table.specs.declared.badge.Badge.{Badge};
+    ghost use Rattle.books.specs.Accounts.{HandView};
+    ghost use Rattle.crossbeam_channel.specs.declared.flavors.array.Key.{Key};
+
+    ghost turns: { TableId };
+
+    ghost key: { Badge (Key HandView) };
+}
+
+impl TurnName for Brand {
+    ghost use Rattle.names.specs.Names.{no_table, no_turns};
+
+    ghost turns = { no_table };
+
+    ghost key = { no_turns };
+}
+
+/// Names all tables of one volume.
+pub trait VolumeName {
+    /// The name of its books.
+    type Books: BooksName;
+
+    /// The name of its segments' words.
+    type Words: WordsName;
+
+    /// The name of its two queues of free segments.
+    type Pool: PoolName;
+
+    /// The name of its channel of permits.
+    type Turns: TurnName;
+}
+
+/// Names that were picked one after the other, put together in one.
+pub struct Named<B, W, P, T> {
+    names: PhantomData<(B, W, P, T)>,
+}
+
+impl<B: BooksName, W: WordsName, P: PoolName, T: TurnName> VolumeName for Named<B, W, P, T> {
+    type Books = B;
+
+    type Words = W;
+
+    type Pool = P;
+
+    type Turns = T;
+}

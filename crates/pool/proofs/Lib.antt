@@ -1,0 +1,4 @@
+pub mod Tallies
+pub mod Steps
+pub mod Gathering
+pub mod Fresh

@@ -1,0 +1,103 @@
+-- Each step keeps the law.
+use Rattle.std.proofs.Common.{◌≡◌, ℕ, zero, suc, ◌+◌, ◌-◌, ◌<◌, ◌≤◌, [], ◌∷◌, ◌++◌, set, sym, refl, ap, arith}
+use mathlib.Core.Option.{some, some-injective, some-ne-none}
+use lib.ListN.{get_elem?}
+use Rattle.crossbeam_queue.specs.Fifo.{Pushes, Pops, Forks, Merges, Learns}
+use Rattle.pool.specs.declared.law.Tally.{Tally}
+use Rattle.sums.specs.Weights.{weigh}
+use Rattle.sums.proofs.Weighing.{weigh-append}
+use Rattle.words.proofs.Counts.{sum-set, sum-in}
+use Rattle.pool.specs.Law.{all_parts, tally, idle, SlipLaw, Moment, Settled, with_put, with_taken, both}
+use Rattle.pool.proofs.Tallies.{idle_set, idle_snoc, total_whole}
+
+only : (j : ℕ) (w u : Tally) → get_elem? (w ∷ []) j ≡ some u → w ≡ u
+only zero w u at = some-injective w u at
+only (suc j) w u at = absurd (some-ne-none u (sym at))
+
+pub begins : SlipLaw [] (tally all_parts [] [] ∷ [])
+begins = record {
+  whole = refl;
+  balance = λ h. refl;
+  rest_idle = λ j u at none. let e = only j (tally all_parts [] []) u at in (ap (λ (y : Tally). y.put) (sym e), ap (λ (y : Tally). y.taken) (sym e));
+}
+
+pub puts : (n port : ℕ) (v : Tally) (x : ℕ) → 0 < v.parts → Pushes SlipLaw n port v x (λ w. w ≡ with_put v x)
+puts n port v x some_part items views room b at =
+    let w = with_put v x in (
+      w,
+      record {
+        whole = let s = sum-set (λ u. u.parts) views port v w at in let p = b.whole in omega (arith, s, p);
+        balance = λ h.
+            (let s = sum-set (λ u. weigh h u.put) views port v w at in
+            let t = sum-set (λ u. weigh h u.taken) views port v w at in
+            let p = b.balance h in
+            omega (arith, s, t, p, weigh-append h v.put (x ∷ []), weigh-append h items (x ∷ [])));
+        rest_idle = idle_set views port w (λ none. absurd (omega (arith, none, some_part))) b.rest_idle;
+      },
+      refl,
+    )
+
+pub takes : (port : ℕ) (v : Tally) → 0 < v.parts → Pops SlipLaw port v (λ x w. w ≡ with_taken v x)
+takes port v some_part x items views b at =
+    let w = with_taken v x in (
+      w,
+      record {
+        whole = let s = sum-set (λ u. u.parts) views port v w at in let p = b.whole in omega (arith, s, p);
+        balance = λ h.
+            (let s = sum-set (λ u. weigh h u.put) views port v w at in
+            let t = sum-set (λ u. weigh h u.taken) views port v w at in
+            let p = b.balance h in
+            omega (arith, s, t, p, weigh-append h v.taken (x ∷ [])));
+        rest_idle = idle_set views port w (λ none. absurd (omega (arith, none, some_part))) b.rest_idle;
+      },
+      refl,
+    )
+
+pub forks : (port : ℕ) (v : Tally) → 1 < v.parts → Forks SlipLaw port v (tally (v.parts - 1) v.put v.taken) (tally 1 [] [])
+forks port v more items views b at =
+    let l = tally (v.parts - 1) v.put v.taken in
+    let r = tally 1 [] [] in
+    let sum : (f : Tally → ℕ) → weigh f (set views port l ++ r ∷ []) + f v ≡ (weigh f views + f l) + f r = λ f.
+    (let s = sum-set f views port v l at in
+    let t = weigh-append f (set views port l) (r ∷ []) in
+    omega (arith, s, t)) in
+    record {
+      whole = let s = sum (λ u. u.parts) in let p = b.whole in omega (arith, s, p, more);
+      balance = λ h. (let s = sum (λ u. weigh h u.put) in let t = sum (λ u. weigh h u.taken) in let p = b.balance h in omega (arith, s, t, p));
+      rest_idle = idle_snoc (set views port l) r (λ none. absurd (omega (arith, none))) (idle_set views port l (λ none. absurd (omega (arith, none, more))) b.rest_idle);
+    }
+
+pub merges : (port : ℕ) (v : Tally) (other : ℕ) (u : Tally) → 0 < v.parts → Merges SlipLaw port v other u (both v u) idle
+merges port v other u some_part items views b at apart at' =
+    let w = both v u in
+    let vs = set views port w in
+    let sum : (f : Tally → ℕ) → f idle ≡ 0 → (weigh f (set vs other idle) + f u) + f v ≡ weigh f views + f w = λ f none.
+    (let s = sum-set f views port v w at in
+    let t = sum-set f vs other u idle at' in
+    omega (arith, s, t, none)) in
+    record {
+      whole = let s = sum (λ u. u.parts) refl in let p = b.whole in omega (arith, s, p);
+      balance = λ h.
+          (let s = sum (λ u. weigh h u.put) refl in
+          let t = sum (λ u. weigh h u.taken) refl in
+          let p = b.balance h in
+          omega (arith, s, t, p, weigh-append h v.put u.put, weigh-append h v.taken u.taken));
+      rest_idle = idle_set vs other idle (λ _. (refl, refl)) (idle_set views port w (λ none. absurd (omega (arith, none, some_part))) b.rest_idle);
+    }
+
+-- parts are never more than there are
+pub settles : (port : ℕ) (v : Tally) → all_parts ≤ v.parts → Learns SlipLaw port v (Settled v)
+settles port v all items views b at =
+    let most = sum-in (λ u. u.parts) views port v at in
+    let sum = b.whole in
+    let whole : weigh (λ u. u.parts) views ≡ v.parts = omega (arith, most, sum, all) in
+    record {
+      same = λ h.
+          (let put = total_whole (λ u. weigh h u.put) (λ u p t. ap (weigh h) p) views port v at whole b.rest_idle in
+          let taken = total_whole (λ u. weigh h u.taken) (λ u p t. ap (weigh h) t) views port v at whole b.rest_idle in
+          let p = b.balance h in
+          omega (arith, put, taken, p, weigh-append h v.taken items));
+    }
+
+pub moments : (port : ℕ) (v : Tally) → Learns SlipLaw port v (Moment v)
+moments port v items views b at all = settles port v all items views b at

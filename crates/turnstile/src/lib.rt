@@ -1,0 +1,23 @@
+//! The turnstile: the 64 permits of a volume's books, in a channel that threads share.
+//!
+//! Each call that changes the volume holds a permit for its whole length, with what it has in hand: tickets of marked
+//! blocks, and tokens of node numbers. A permit that lies in the channel has nothing in hand. So who has gathered all 64
+//! knows that nothing is in flight, and may begin an audit of the books.
+//!
+//! The turnstile owns the books. A permit must be given back, and so must all of them.
+#![tactic(auto)]
+
+mod all;
+mod law;
+mod opened;
+mod permit;
+#[cfg(test)]
+mod tests;
+mod token;
+mod turnstile;
+
+pub use all::{AllPermits, Auditing};
+pub use law::Turn;
+pub use opened::OpenedTurnstile;
+pub use permit::Permit;
+pub use turnstile::Turnstile;
