@@ -1,0 +1,16 @@
+pub mod Weighing
+pub mod Trees
+pub mod Marking
+pub mod Linking
+pub mod Naming
+pub mod Looking
+pub mod Ranges
+pub mod Marks
+pub mod Assembling
+pub mod Filing
+pub mod Tables
+pub mod Lawfulness
+pub mod Balancing
+pub mod Sharding
+pub mod Replacing
+pub mod PartsExample

@@ -1,0 +1,7 @@
+pub mod Items
+pub mod Parts
+pub mod Contents
+pub mod Assembled
+pub mod AssemblyLaw
+pub mod TreeView
+pub mod ShardSlots

@@ -1,0 +1,6 @@
+pub mod TreeLemmas
+pub mod RangeLemmas
+pub mod RoomLemmas
+pub mod NamedLemmas
+pub mod FaultLemmas
+pub mod LengthLemmas

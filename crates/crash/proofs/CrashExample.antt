@@ -1,0 +1,164 @@
+-- The premises of the crash law can be met: a format, a file of one block, and a pack of version 2.
+use Rattle.std.proofs.Common.{◌≡◌, refl, sym, ap, subst, ℕ, zero, suc, ◌<◌, false, IsTrue, List, [], ◌∷◌, get_or, replicate, arith}
+use Rattle.std.specs.Prelude.{Option, Some, None, IsSome, unwrap_or, ◌==◌, nat_lt, if◌then◌else◌}
+use Rattle.geometry.specs.declared.owner.Owner.{Owner}
+use Rattle.geometry.specs.Summary.{summary_of}
+use Rattle.geometry.specs.declared.shape.Shape.TheVariants.{Tiny}
+use Rattle.image.specs.Node.{node_bytes}
+use Rattle.image.specs.Image.{Image, no_entry, no_node, no_summary, is_marked, summary_at}
+use Rattle.geometry.specs.declared.owner.Owner.TheVariants.{Node, Data}
+use Rattle.image.specs.Rules.{IsLawful, MarkedIsNamed}
+use Rattle.image.specs.Reading.{image_in, number_at}
+use Rattle.image.specs.Pack.{pack_body}
+use Rattle.geometry.specs.declared.state.State.TheVariants.{Free, Open}
+use Rattle.crash.specs.Core.{idle, Core, append, write_body, sync, write_footer, advance, Run, IsFormatted, MayWrite, appended}
+use Rattle.image.proofs.Testing.{lawful_by_tests}
+use Rattle.crash.proofs.Keeping.{by_place}
+use Rattle.image.proofs.Examples.{small, plain_segment, segment_with_first, one_inode, one_file, one_file_is_lawful}
+
+unfoldable pub empty_image : Image
+empty_image = record {
+  version = 1;
+  total = 0;
+  logs = Some (record { segment = 0; next = 0 }) ∷ Some (record { segment = 1; next = 0 }) ∷ Some (record { segment = 2; next = 0 })
+      ∷ Some (record { segment = 3; next = 0 }) ∷ Some (record { segment = 4; next = 0 }) ∷ Some (record { segment = 5; next = 0 }) ∷ [];
+  node_table = replicate 64 no_entry;
+  segments = replicate 32 plain_segment;
+  summaries = replicate 256 no_summary;
+  nodes = replicate 64 no_node;
+}
+
+empty_is_lawful : IsLawful small empty_image
+unfolding small empty_image plain_segment
+empty_is_lawful = lawful_by_tests small empty_image (record {
+  version = refl;
+  logs = refl;
+  places = refl;
+  table = refl;
+  entries = refl;
+  segments = refl;
+  bits = refl;
+  summaries = refl;
+  as_many = refl;
+  nodes = refl;
+  apart = refl;
+  holds = refl;
+  fit = refl;
+  met = refl;
+  distinct = refl;
+  named = refl;
+  marked = refl;
+  owners = refl;
+  unmarked = refl;
+  counts = refl;
+  total = refl;
+  free_places = refl;
+  lengths = refl;
+})
+
+unfoldable pub empty_body : List ℕ
+empty_body = pack_body Tiny empty_image
+
+empty_reads_back : image_in small empty_body (λ address. []) ≡ empty_image
+unfolding small empty_image plain_segment empty_body image_in
+empty_reads_back = refl
+
+unfoldable pub begin : Core
+begin = record {
+  blocks = λ address. [];
+  loose = λ address. false;
+  owners = λ address. None;
+  segments = λ segment. (if nat_lt segment 6 then record { stage = record { state = Open; incarnation = 1; stamp = 0 }; next = 0 }
+      else record { stage = record { state = Free; incarnation = 0; stamp = 0 }; next = 0 });
+  version = 1;
+  slots = λ slot. (if slot == 1 then record { body = empty_body; footer = 1 } else record { body = []; footer = 0 });
+  phase = idle;
+  written = record { body = empty_body; blocks = λ address. [] } ∷ [];
+}
+
+nothing_marked : (a : ℕ) → ¬ IsTrue (is_marked small empty_image a)
+unfolding small empty_image plain_segment
+nothing_marked a marked =
+    let named : MarkedIsNamed small empty_image = empty_is_lawful 8 (omega arith) (omega arith) in
+    let within = (named a marked).1 in omega arith
+
+pub begins : IsFormatted small begin
+unfolding begin empty_body small empty_image plain_segment
+begins = record {
+  phase = refl;
+  version = refl;
+  header = refl;
+  footer = refl;
+  empty_slot = refl;
+  lawful = subst (IsLawful small) (sym empty_reads_back) empty_is_lawful;
+  no_mark = subst (λ (i : Image). (a : ℕ) → ¬ IsTrue (is_marked small i a)) (sym empty_reads_back) nothing_marked;
+  no_owner = λ a. refl;
+  written = refl;
+}
+
+-- the data block, the inode's block, and then the pack
+with_data : Core
+with_data = appended Tiny begin 4 (Data 1 0) []
+
+with_node : Core
+with_node = appended Tiny with_data 1 (Node 1) (node_bytes Tiny one_inode)
+
+unfoldable pub next_body : List ℕ
+next_body = pack_body Tiny one_file
+
+one_file_read : image_in small next_body with_node.blocks ≡ one_file
+unfolding small one_file one_inode plain_segment segment_with_first next_body with_node with_data begin image_in
+one_file_read = refl
+
+owned : (a : ℕ) → IsTrue (is_marked small one_file a) → IsSome (with_node.owners a)
+unfolding small one_file one_inode plain_segment segment_with_first with_node with_data begin
+owned a marked =
+    let named : MarkedIsNamed small one_file = one_file_is_lawful 8 (omega arith) (omega arith) in
+    let found = named a marked in
+    place found.0 found.1 found.2
+  where
+    place : (k : ℕ) → k < 2 → get_or {A = ℕ} (9 ∷ 33 ∷ []) k a ≡ a → IsSome (with_node.owners a)
+    place zero within is = subst (λ (x : ℕ). IsSome (with_node.owners x)) is refl
+    place (suc zero) within is = subst (λ (x : ℕ). IsSome (with_node.owners x)) is refl
+    place (suc (suc k)) within is = absurd (omega arith)
+
+told : (a : ℕ) (owner : Owner) → with_node.owners a ≡ Some owner → IsTrue (is_marked small one_file a) × (summary_at one_file a ≡ summary_of owner)
+unfolding small one_file one_inode plain_segment segment_with_first with_node with_data begin
+told a owner =
+    by_place (λ (o : Option Owner). o ≡ Some owner → IsTrue (is_marked small one_file a) × (summary_at one_file a ≡ summary_of owner)) with_data.owners 9 (Some (Node 1)) a
+    (λ is e. subst (λ (x : ℕ). IsTrue (is_marked small one_file x) × (summary_at one_file x ≡ summary_of owner)) (sym is) (refl, ap (λ (o : Option Owner). summary_of (unwrap_or o owner)) e))
+    (λ isn't. by_place (λ (o : Option Owner). o ≡ Some owner → IsTrue (is_marked small one_file a) × (summary_at one_file a ≡ summary_of owner)) begin.owners 33 (Some (Data 1 0)) a
+    (λ is e. subst (λ (x : ℕ). IsTrue (is_marked small one_file x) × (summary_at one_file x ≡ summary_of owner)) (sym is) (refl, ap (λ (o : Option Owner). summary_of (unwrap_or o owner)) e))
+    (λ isn't e. absurd cc))
+
+version_of_body : number_at next_body 0 ≡ 2
+unfolding next_body one_file
+version_of_body = refl
+
+may_write : MayWrite small with_node next_body
+unfolding small with_node with_data begin
+may_write = record {
+  phase = refl;
+  lawful = subst (IsLawful small) (sym one_file_read) one_file_is_lawful;
+  version = version_of_body;
+  marks = subst (λ (i : Image). (a : ℕ) → IsTrue (is_marked small i a) → IsSome (with_node.owners a)) (sym one_file_read) owned;
+  owners = subst (λ (i : Image). (a : ℕ) (owner : Owner) → with_node.owners a ≡ Some owner → IsTrue (is_marked small i a) × (summary_at i a ≡ summary_of owner)) (sym one_file_read) told;
+}
+
+-- a run that completes version 2
+pub completes : (m : Core) × Run small begin (append 4 (Data 1 0) [] ∷ append 1 (Node 1) (node_bytes Tiny one_inode)
+    ∷ write_body next_body ∷ sync ∷ write_footer ∷ sync ∷ advance ∷ []) m × (m.version ≡ 2)
+unfolding small with_node with_data begin
+completes = (
+  _,
+  (
+    with_data,
+    (record { phase = refl; range = omega arith; state = refl; room = omega arith }, refl),
+    (
+      with_node,
+      (record { phase = refl; range = omega arith; state = refl; room = omega arith }, refl),
+      (_, (may_write, refl), (_, refl, (_, (refl, refl), (_, refl, (_, (refl, refl), refl))))),
+    ),
+  ),
+  refl,
+)

@@ -1,0 +1,324 @@
+-- Each event keeps the invariant.
+use Rattle.geometry.specs.declared.owner.Owner.{Owner}
+use Rattle.std.proofs.Common.{◌≡◌, ◌≢◌, refl, sym, ◌∙◌, ap, subst, ℕ, suc, ◌+◌, ◌<◌, inl, inr, Bool, true, List, ◌∷◌, arith}
+use Rattle.std.specs.Prelude.{Option, Some, None, IsSome, Contains}
+use Rattle.std.proofs.lemmas.Bool.{ne_eqb, eq-eqb}
+use Rattle.std.proofs.lemmas.Bool.Decides.{eqb_tells}
+use Rattle.geometry.specs.declared.shape.Shape.{Shape}
+use Rattle.geometry.specs.declared.geometry.Geometry.{Geometry}
+use Rattle.geometry.specs.Address.{address_of, segment_of, offset_of}
+use Rattle.geometry.specs.File.{Block}
+use Rattle.image.specs.Pack.{Slot}
+use Rattle.geometry.specs.declared.state.State.{State}
+use Rattle.geometry.specs.declared.state.State.TheVariants.{Free, Open, Sealed, Prefree}
+use Rattle.geometry.specs.Life.{Stage, StepFrom, LifeStep}
+use Rattle.crash.specs.Core.{Segment, Written, Phase, idle, body_written, body_synced, footer_written, footer_synced, mending, Core, current, other, changed, next_address, HasRoom, appended, spoiled, released, MayMove, moved, next_after, MayWrite, with_body, with_footer, synced, phase_after_sync, advanced}
+use Rattle.geometry.proofs.Addresses.{segment_of-address_of, offset_of-address_of}
+use Rattle.crash.proofs.Invariant.{marks_are, IsSafeAs, IsSafe, IsLiveAs, IsLive, AllLive, IsNext, Pending, Invariant}
+use Rattle.geometry.specs.Shape.{segment_blocks}
+
+pub changed_elsewhere : {X : Type 0} (f : ℕ → X) (at : ℕ) (value : X) (k : ℕ) → k ≢ at → changed f at value k ≡ f k
+changed_elsewhere f at value k ne = rw (ne_eqb k at ne)
+
+pub changed_there : {X : Type 0} (f : ℕ → X) (at : ℕ) (value : X) (k : ℕ) → k ≡ at → changed f at value k ≡ value
+changed_there f at value k e = rw (eq-eqb k at e)
+
+-- a fact of a changed function, by whether the place is the changed one
+pub by_place : {X : Type 0} (P : X → Type 0) (f : ℕ → X) (at : ℕ) (value : X) (k : ℕ)
+    → (k ≡ at → P value) → (k ≢ at → P (f k)) → P (changed f at value k)
+by_place P f at value k there elsewhere =
+    elim (eqb_tells k at) [
+      | inl (e, is) ↦ subst P (sym (changed_there f at value k is)) (there is)
+      | inr (e, isn't) ↦ subst P (sym (changed_elsewhere f at value k isn't)) (elsewhere isn't)
+    ]
+
+pub live_is_safe : (state : State) (c stamp next offset : ℕ) → IsLiveAs state next offset → IsSafeAs state c stamp next offset
+live_is_safe Open c stamp next offset h = h
+live_is_safe Sealed c stamp next offset h = tt
+live_is_safe Prefree c stamp next offset h = absurd h
+live_is_safe Free c stamp next offset h = absurd h
+
+safe_more : (state : State) (c stamp next offset : ℕ) → IsSafeAs state c stamp next offset → IsSafeAs state c stamp (next + 1) offset
+safe_more Open c stamp next offset h = omega arith
+safe_more Sealed c stamp next offset h = tt
+safe_more Prefree c stamp next offset h = h
+safe_more Free c stamp next offset h = h
+
+live_more : (state : State) (next offset : ℕ) → IsLiveAs state next offset → IsLiveAs state (next + 1) offset
+live_more Open next offset h = omega arith
+live_more Sealed next offset h = tt
+live_more Prefree next offset h = h
+live_more Free next offset h = h
+
+-- an event of an idle machine that leaves safe blocks alone, and keeps safe places safe
+quiet_keeps : (geometry : Geometry) (m : Core) (blocks : ℕ → Block) (loose : ℕ → Bool) (owners : ℕ → Option Owner) (segments : ℕ → Segment)
+    → m.phase ≡ idle → Invariant geometry m
+    → ((a : ℕ) → IsSafe geometry.shape m.version m.segments a → blocks a ≡ m.blocks a)
+    → ((a : ℕ) → IsSafe geometry.shape m.version m.segments a → loose a ≡ m.loose a)
+    → ((a : ℕ) → IsSafe geometry.shape m.version m.segments a → IsSafe geometry.shape m.version segments a)
+    → AllLive geometry owners segments
+    → Invariant geometry (record m { blocks = blocks; loose = loose; owners = owners; segments = segments })
+quiet_keeps geometry m blocks loose owners segments phase inv same_blocks same_loose safe live = record {
+  now = inv.now;
+  stored = inv.stored;
+  positive = inv.positive;
+  footer = inv.footer;
+  same = λ a h. same_blocks a (inv.safe a h) ∙ inv.same a h;
+  settled = λ a h. same_loose a (inv.safe a h) ∙ inv.settled a h;
+  safe = λ a h. safe a (inv.safe a h);
+  pending = subst (Pending geometry (record m { blocks = blocks; loose = loose; owners = owners; segments = segments })) (sym phase)
+      (subst (Pending geometry m) phase inv.pending);
+  live = live;
+}
+
+safe_at : (shape : Shape) (c : ℕ) (segments : ℕ → Segment) (segment offset : ℕ) → offset < segment_blocks shape
+    → IsSafe shape c segments (address_of shape segment offset)
+    → IsSafeAs (segments segment).stage.state c (segments segment).stage.stamp (segments segment).next offset
+safe_at shape c segments segment offset h safe =
+    let in_segment = subst (λ (s : ℕ). IsSafeAs (segments s).stage.state c (segments s).stage.stamp (segments s).next (offset_of shape (address_of shape segment offset)))
+    (segment_of-address_of shape segment offset h) safe in
+    subst (λ (o : ℕ). IsSafeAs (segments segment).stage.state c (segments segment).stage.stamp (segments segment).next o)
+    (offset_of-address_of shape segment offset h) in_segment
+
+-- a safe place is not the next one of a segment
+away : (geometry : Geometry) (m : Core) (segment a : ℕ) → HasRoom geometry m segment
+    → IsSafe geometry.shape m.version m.segments a → a ≢ next_address geometry.shape m segment
+away geometry m segment a room safe e =
+    let there = safe_at geometry.shape m.version m.segments segment (m.segments segment).next room.room
+    (subst (IsSafe geometry.shape m.version m.segments) e safe) in
+    let again : (m.segments segment).next < (m.segments segment).next =
+    subst (λ (st : State). IsSafeAs st m.version (m.segments segment).stage.stamp (m.segments segment).next (m.segments segment).next) room.state there in
+    omega arith
+
+pub spoil_keeps : (geometry : Geometry) (m : Core) (segment : ℕ) (block : Block) → HasRoom geometry m segment
+    → Invariant geometry m → Invariant geometry (spoiled geometry.shape m segment block)
+spoil_keeps geometry m segment block room inv =
+    quiet_keeps geometry m _ _ m.owners m.segments room.phase inv
+    (λ a safe. changed_elsewhere m.blocks (next_address geometry.shape m segment) block a (away geometry m segment a room safe))
+    (λ a safe. changed_elsewhere m.loose (next_address geometry.shape m segment) true a (away geometry m segment a room safe))
+    (λ a safe. safe) inv.live
+
+-- one place further, safe places are safe
+safe_grown : (shape : Shape) (c : ℕ) (segments : ℕ → Segment) (segment a : ℕ) → IsSafe shape c segments a
+    → IsSafe shape c (changed segments segment (record { stage = (segments segment).stage; next = (segments segment).next + 1 })) a
+safe_grown shape c segments segment a safe =
+    by_place (λ (s : Segment). IsSafeAs s.stage.state c s.stage.stamp s.next (offset_of shape a)) segments segment
+    (record { stage = (segments segment).stage; next = (segments segment).next + 1 }) (segment_of shape a)
+    (λ e. safe_more (segments segment).stage.state c (segments segment).stage.stamp (segments segment).next (offset_of shape a)
+    (subst (λ (s : ℕ). IsSafeAs (segments s).stage.state c (segments s).stage.stamp (segments s).next (offset_of shape a)) e safe))
+    (λ isn't. safe)
+
+live_grown : (shape : Shape) (segments : ℕ → Segment) (segment a : ℕ) → IsLive shape segments a
+    → IsLive shape (changed segments segment (record { stage = (segments segment).stage; next = (segments segment).next + 1 })) a
+live_grown shape segments segment a live =
+    by_place (λ (s : Segment). IsLiveAs s.stage.state s.next (offset_of shape a)) segments segment
+    (record { stage = (segments segment).stage; next = (segments segment).next + 1 }) (segment_of shape a)
+    (λ e. live_more (segments segment).stage.state (segments segment).next (offset_of shape a)
+    (subst (λ (s : ℕ). IsLiveAs (segments s).stage.state (segments s).next (offset_of shape a)) e live))
+    (λ isn't. live)
+
+-- the place that was next is live once the next one is behind it
+live_next : (geometry : Geometry) (m : Core) (segment : ℕ) → HasRoom geometry m segment
+    → IsLive geometry.shape (changed m.segments segment (record { stage = (m.segments segment).stage; next = (m.segments segment).next + 1 }))
+    (next_address geometry.shape m segment)
+live_next geometry m segment room =
+    by_place (λ (s : Segment). IsLiveAs s.stage.state s.next (offset_of geometry.shape (next_address geometry.shape m segment))) m.segments segment
+    (record { stage = (m.segments segment).stage; next = (m.segments segment).next + 1 }) (segment_of geometry.shape (next_address geometry.shape m segment))
+    (λ e. subst (λ (st : State). IsLiveAs st ((m.segments segment).next + 1) (offset_of geometry.shape (next_address geometry.shape m segment))) (sym room.state)
+    (let o : offset_of geometry.shape (next_address geometry.shape m segment) ≡ (m.segments segment).next
+    = offset_of-address_of geometry.shape segment (m.segments segment).next room.room in omega arith))
+    (λ isn't. absurd (isn't (segment_of-address_of geometry.shape segment (m.segments segment).next room.room)))
+
+pub append_keeps : (geometry : Geometry) (m : Core) (segment : ℕ) (owner : Owner) (block : Block) → HasRoom geometry m segment
+    → Invariant geometry m → Invariant geometry (appended geometry.shape m segment owner block)
+append_keeps geometry m segment owner block room inv =
+    quiet_keeps geometry m _ _ _ _ room.phase inv
+    (λ a safe. changed_elsewhere m.blocks (next_address geometry.shape m segment) block a (away geometry m segment a room safe))
+    (λ a safe. changed_elsewhere m.loose (next_address geometry.shape m segment) true a (away geometry m segment a room safe))
+    (λ a safe. safe_grown geometry.shape m.version m.segments segment a safe)
+    (λ a. by_place (λ (o : Option Owner). IsSome o → IsLive geometry.shape
+    (changed m.segments segment (record { stage = (m.segments segment).stage; next = (m.segments segment).next + 1 })) a)
+    m.owners (next_address geometry.shape m segment) (Some owner) a
+    (λ e owned. subst (IsLive geometry.shape (changed m.segments segment (record { stage = (m.segments segment).stage; next = (m.segments segment).next + 1 })))
+    (sym e) (live_next geometry m segment room))
+    (λ isn't owned. live_grown geometry.shape m.segments segment a (inv.live a owned)))
+
+nothing_is_none : IsSome {T = Owner} None → ⊥
+nothing_is_none h = cc
+
+pub release_keeps : (geometry : Geometry) (m : Core) (address : ℕ) → m.phase ≡ idle
+    → Invariant geometry m → Invariant geometry (released m address)
+release_keeps geometry m address phase inv =
+    quiet_keeps geometry m m.blocks m.loose _ m.segments phase inv (λ a safe. refl) (λ a safe. refl) (λ a safe. safe)
+    (λ a. by_place (λ (o : Option Owner). IsSome o → IsLive geometry.shape m.segments a) m.owners address None a
+    (λ e owned. absurd (nothing_is_none owned)) (λ isn't owned. inv.live a owned))
+
+move_safe : (c : ℕ) (old new : Stage) (next offset : ℕ) → LifeStep c old new
+    → IsSafeAs old.state c old.stamp next offset → IsSafeAs new.state c new.stamp (next_after new.state next) offset
+move_safe c old new next offset step safe = go old.state step safe
+  where
+    go : (state : State) → StepFrom state c old new → IsSafeAs state c old.stamp next offset → IsSafeAs new.state c new.stamp (next_after new.state next) offset
+    go Free is h = absurd h
+    go Open is h = subst (λ (s : Stage). IsSafeAs s.state c s.stamp (next_after s.state next) offset) (sym is) tt
+    go Sealed is h = subst (λ (s : Stage). IsSafeAs s.state c s.stamp (next_after s.state next) offset) (sym is) (omega arith)
+    go Prefree later h = let earlier = later.0 in absurd (omega arith)
+
+move_live : (c : ℕ) (old new : Stage) (next offset : ℕ) → LifeStep c old new
+    → IsLiveAs old.state next offset → new.state ≢ Prefree → IsLiveAs new.state (next_after new.state next) offset
+move_live c old new next offset step live isn't = go old.state step live
+  where
+    go : (state : State) → StepFrom state c old new → IsLiveAs state next offset → IsLiveAs new.state (next_after new.state next) offset
+    go Free is h = absurd h
+    go Open is h = subst (λ (s : Stage). IsLiveAs s.state (next_after s.state next) offset) (sym is) tt
+    go Sealed is h = absurd (isn't (ap (λ (s : Stage). s.state) is))
+    go Prefree later h = absurd h
+
+pub move_keeps : (geometry : Geometry) (m : Core) (segment : ℕ) (stage : Stage) → MayMove geometry m segment stage
+    → Invariant geometry m → Invariant geometry (moved m segment stage)
+move_keeps geometry m segment stage may inv =
+    quiet_keeps geometry m m.blocks m.loose m.owners _ may.phase inv (λ a safe. refl) (λ a safe. refl)
+    (λ a safe. by_place (λ (s : Segment). IsSafeAs s.stage.state m.version s.stage.stamp s.next (offset_of geometry.shape a)) m.segments segment
+    (record { stage = stage; next = next_after stage.state (m.segments segment).next }) (segment_of geometry.shape a)
+    (λ e. move_safe m.version (m.segments segment).stage stage (m.segments segment).next (offset_of geometry.shape a) may.pair
+    (subst (λ (s : ℕ). IsSafeAs (m.segments s).stage.state m.version (m.segments s).stage.stamp (m.segments s).next (offset_of geometry.shape a)) e safe))
+    (λ isn't. safe))
+    (λ a owned. by_place (λ (s : Segment). IsLiveAs s.stage.state s.next (offset_of geometry.shape a)) m.segments segment
+    (record { stage = stage; next = next_after stage.state (m.segments segment).next }) (segment_of geometry.shape a)
+    (λ e. move_live m.version (m.segments segment).stage stage (m.segments segment).next (offset_of geometry.shape a) may.pair
+    (subst (λ (s : ℕ). IsLiveAs (m.segments s).stage.state (m.segments s).next (offset_of geometry.shape a)) e (inv.live a owned))
+    (λ becomes. may.empty becomes a owned e))
+    (λ isn't. inv.live a owned))
+
+pub current_not_other : (version : ℕ) → current version ≢ other (current version)
+current_not_other version e = omega arith
+
+pub other_of_next : (version : ℕ) → current (version + 1) ≡ other (current version)
+other_of_next version = omega arith
+
+pub other_back : (version : ℕ) → other (current (version + 1)) ≡ current version
+other_back version = omega arith
+
+one_more : (written : List Written) (new w : Written) → Contains written w → Contains (new ∷ written) w
+one_more written new w (k, below, is) = (suc k, omega arith, is)
+
+pub write_keeps : (geometry : Geometry) (m : Core) (body : List ℕ) → MayWrite geometry m body
+    → Invariant geometry m → Invariant geometry (with_body m body)
+write_keeps geometry m body may inv =
+    let there = changed_there m.slots (other (current m.version)) (record { body = body; footer = (m.slots (other (current m.version))).footer })
+    (other (current m.version)) refl in
+    let elsewhere = changed_elsewhere m.slots (other (current m.version)) (record { body = body; footer = (m.slots (other (current m.version))).footer })
+    (current m.version) (current_not_other m.version) in
+    let below : (m.slots (other (current m.version))).footer < m.version = subst (Pending geometry m) may.phase inv.pending in
+    record {
+      now = inv.now;
+      stored = record {
+        was_written = one_more m.written _ inv.now inv.stored.was_written;
+        lawful = inv.stored.lawful;
+        header = inv.stored.header;
+        body = ap (λ (s : Slot). s.body) elsewhere ∙ inv.stored.body;
+      };
+      positive = inv.positive;
+      footer = ap (λ (s : Slot). s.footer) elsewhere ∙ inv.footer;
+      same = inv.same;
+      settled = inv.settled;
+      safe = inv.safe;
+      pending = (
+        let e : ((with_body m body).slots (other (current m.version))).footer ≡ (m.slots (other (current m.version))).footer = ap (λ (s : Slot). s.footer) there in omega arith,
+        (
+          record { body = body; blocks = m.blocks },
+          record {
+            stored = record { was_written = (0, omega arith, refl); lawful = may.lawful; header = may.version; body = ap (λ (s : Slot). s.body) there };
+            same = λ a h. refl;
+          },
+          λ a h. may.marks a (marks_are geometry _ a h),
+        ),
+      );
+      live = inv.live;
+    }
+
+next_synced : (geometry : Geometry) (m : Core) (w : Written) → IsNext geometry m w → IsNext geometry (synced m) w
+next_synced geometry m w next = record { stored = next.stored; same = next.same }
+
+pending_synced : (geometry : Geometry) (m : Core) (phase : Phase) → Pending geometry m phase → Pending geometry (synced m) (phase_after_sync phase)
+pending_synced geometry m idle p = p
+pending_synced geometry m body_written p = (p.0, (p.1.0, next_synced geometry m p.1.0 p.1.1, p.1.2, λ a h. refl))
+pending_synced geometry m body_synced p = (p.0, (p.1.0, next_synced geometry m p.1.0 p.1.1, p.1.2, λ a h. refl))
+pending_synced geometry m footer_written p = (p.0, (p.1.0, next_synced geometry m p.1.0 p.1.1, p.1.2, λ a h. refl))
+pending_synced geometry m footer_synced p = (p.0, (p.1.0, next_synced geometry m p.1.0 p.1.1, p.1.2, λ a h. refl))
+pending_synced geometry m mending p = p.0
+
+pub sync_keeps : (geometry : Geometry) (m : Core) → Invariant geometry m → Invariant geometry (synced m)
+sync_keeps geometry m inv = record {
+  now = inv.now;
+  stored = inv.stored;
+  positive = inv.positive;
+  footer = inv.footer;
+  same = inv.same;
+  settled = λ a h. refl;
+  safe = inv.safe;
+  pending = pending_synced geometry m m.phase inv.pending;
+  live = inv.live;
+}
+
+pub footer_keeps : (geometry : Geometry) (m : Core) → m.phase ≡ body_synced → Invariant geometry m → Invariant geometry (with_footer m)
+footer_keeps geometry m phase inv =
+    let there = changed_there m.slots (other (current m.version)) (record { body = (m.slots (other (current m.version))).body; footer = m.version + 1 })
+    (other (current m.version)) refl in
+    let elsewhere = changed_elsewhere m.slots (other (current m.version)) (record { body = (m.slots (other (current m.version))).body; footer = m.version + 1 })
+    (current m.version) (current_not_other m.version) in
+    let p : Pending geometry m body_synced = subst (Pending geometry m) phase inv.pending in
+    record {
+      now = inv.now;
+      stored = record {
+        was_written = inv.stored.was_written;
+        lawful = inv.stored.lawful;
+        header = inv.stored.header;
+        body = ap (λ (s : Slot). s.body) elsewhere ∙ inv.stored.body;
+      };
+      positive = inv.positive;
+      footer = ap (λ (s : Slot). s.footer) elsewhere ∙ inv.footer;
+      same = inv.same;
+      settled = inv.settled;
+      safe = inv.safe;
+      pending = (
+        ap (λ (s : Slot). s.footer) there,
+        (
+          p.1.0,
+          record {
+            stored = record {
+              was_written = p.1.1.stored.was_written;
+              lawful = p.1.1.stored.lawful;
+              header = p.1.1.stored.header;
+              body = ap (λ (s : Slot). s.body) there ∙ p.1.1.stored.body;
+            };
+            same = p.1.1.same;
+          },
+          p.1.2,
+          p.1.3,
+        ),
+      );
+      live = inv.live;
+    }
+
+pub advance_keeps : (geometry : Geometry) (m : Core) → m.phase ≡ footer_synced → Invariant geometry m → Invariant geometry (advanced m)
+advance_keeps geometry m phase inv =
+    let p : Pending geometry m footer_synced = subst (Pending geometry m) phase inv.pending in
+    let slot = ap m.slots (other_of_next m.version) in
+    record {
+      now = p.1.0;
+      stored = record {
+        was_written = p.1.1.stored.was_written;
+        lawful = p.1.1.stored.lawful;
+        header = p.1.1.stored.header;
+        body = ap (λ (s : Slot). s.body) slot ∙ p.1.1.stored.body;
+      };
+      positive = omega arith;
+      footer = ap (λ (s : Slot). s.footer) slot ∙ p.0;
+      same = p.1.1.same;
+      settled = p.1.3;
+      safe = λ a h. live_is_safe (m.segments (segment_of geometry.shape a)).stage.state (m.version + 1) (m.segments (segment_of geometry.shape a)).stage.stamp
+          (m.segments (segment_of geometry.shape a)).next (offset_of geometry.shape a) (inv.live a (p.1.2 a h));
+      pending = (let e : (m.slots (other (current (m.version + 1)))).footer ≡ m.version
+          = ap (λ k. (m.slots k).footer) (other_back m.version) ∙ inv.footer in omega arith);
+      live = inv.live;
+    }

@@ -1,0 +1,9 @@
+use Rattle.crash.proofs.Between.{pick_law_holds}
+use Rattle.crash.proofs.Law.{crash_law_holds}
+use Rattle.crash.proofs.crash.crash_law.Goals as goal
+
+pub returns-clause-kept : goal.returns-clause-kept
+returns-clause-kept c = crash_law_holds
+
+pub returns-clause-old_or_new : goal.returns-clause-old_or_new
+returns-clause-old_or_new c = pick_law_holds

@@ -1,0 +1,271 @@
+-- The core machine: a volume without threads, over a disk that keeps nothing for certain until it is synced (Rosenblum
+-- and Ousterhout 1991, a log and checkpoints; Lee and others, FAST 2015, two packs in turn).
+use Rattle.geometry.specs.declared.owner.Owner.{Owner}
+use Rattle.geometry.specs.declared.owner.Summary.{Summary}
+use Rattle.geometry.specs.Summary.{summary_of, owner_in}
+use Rattle.image.specs.declared.image.Place.{Place}
+use Rattle.std.specs.Prelude.{◌≡◌, ◌≢◌, ◌<◌, ℕ, zero, suc, ◌+◌, ◌-◌, ◌%◌, Bool, true, false, IsTrue, ◌==◌, nat_lt, if◌then◌else◌, List, [], ◌∷◌, Option, Some, None, IsSome}
+use Rattle.geometry.specs.declared.shape.Shape.{Shape}
+use Rattle.geometry.specs.declared.geometry.Geometry.{Geometry}
+use Rattle.geometry.specs.Address.{address_of, segment_of}
+use Rattle.geometry.specs.File.{Block}
+use Rattle.image.specs.Image.{Image, is_marked, summary_at, info_of}
+use Rattle.image.specs.Rules.{IsLawful}
+use Rattle.image.specs.Reading.{image_in, number_at}
+use Rattle.image.specs.Pack.{Slot, pick}
+use Rattle.geometry.specs.declared.state.State.{State}
+use Rattle.geometry.specs.declared.state.State.TheVariants.{Free, Open, Sealed, Prefree}
+use Rattle.geometry.specs.Life.{Stage, LifeStep}
+use Rattle.geometry.specs.Shape.{segment_blocks}
+
+-- Where a segment is in its life, and the offset of its next place.
+pub record Segment : Type 0 where
+  pub stage : Stage
+  pub next : ℕ
+
+-- A pack body, and the blocks as they were when it was written.
+pub record Written : Type 0 where
+  pub body : List ℕ
+  pub blocks : ℕ → Block
+
+-- How far a pack write has come, or the mending of a torn footer after a crash. Between two of these only a crash
+-- may fall.
+pub data Phase : Type 0 where
+  idle : Phase
+  body_written : Phase
+  body_synced : Phase
+  footer_written : Phase
+  footer_synced : Phase
+  mending : Phase
+
+-- The blocks by their addresses, the segments by their numbers, the packs, and what is known of them.
+pub record Core : Type 0 where
+  pub blocks : ℕ → Block
+  -- the addresses written since the last sync
+  pub loose : ℕ → Bool
+  -- the marked addresses, each with its owner
+  pub owners : ℕ → Option Owner
+  pub segments : ℕ → Segment
+  -- the version of the last completed pack
+  pub version : ℕ
+  -- slot 0 and slot 1
+  pub slots : ℕ → Slot
+  pub phase : Phase
+  -- what has ever been written as a pack's body, the latest first
+  pub written : List Written
+
+-- what a crash leaves on the disk
+pub record Left : Type 0 where
+  pub blocks : ℕ → Block
+  pub slots : ℕ → Slot
+
+-- What may happen: a block is appended at the next place of a segment, or the append fails; a block is released, or
+-- moved by cleaning; a segment goes on in its life; a pack is written, by a body, a sync, a footer, a sync, after which
+-- its version is the completed one; or the machine crashes and is mounted again.
+pub data Event : Type 0 where
+  append : (segment : ℕ) (owner : Owner) (block : Block) → Event
+  spoil : (segment : ℕ) (block : Block) → Event
+  release : (address : ℕ) → Event
+  migrate : (address segment : ℕ) → Event
+  move : (segment : ℕ) (stage : Stage) → Event
+  write_body : (body : List ℕ) → Event
+  sync : Event
+  write_footer : Event
+  advance : Event
+  crash : (left : Left) → Event
+
+-- f with another value at one place
+abbrev pub changed : {X : Type 0} → (ℕ → X) → ℕ → X → ℕ → X
+changed f at value k = if k == at then value else f k
+
+-- the slot of the last completed pack, and the one that the next pack goes into
+abbrev pub current : ℕ → ℕ
+current version = version % 2
+
+abbrev pub other : ℕ → ℕ
+other slot = 1 - slot
+
+-- the address of a segment's next place
+abbrev pub next_address : Shape → Core → ℕ → ℕ
+next_address shape machine segment = address_of shape segment (machine.segments segment).next
+
+-- an open segment has a next place
+pub record HasRoom (geometry : Geometry) (machine : Core) (segment : ℕ) : Type 0 where
+  pub phase : machine.phase ≡ idle
+  pub range : segment < geometry.segments
+  pub state : (machine.segments segment).stage.state ≡ Open
+  pub room : (machine.segments segment).next < segment_blocks geometry.shape
+
+abbrev pub appended : Shape → Core → ℕ → Owner → Block → Core
+appended shape machine segment owner block =
+    let address = next_address shape machine segment in
+    record machine {
+      blocks = changed machine.blocks address block;
+      loose = changed machine.loose address true;
+      owners = changed machine.owners address (Some owner);
+      segments = changed machine.segments segment (record { stage = (machine.segments segment).stage; next = (machine.segments segment).next + 1 });
+    }
+
+-- an append that failed: the block holds any bytes, and nothing is marked
+abbrev pub spoiled : Shape → Core → ℕ → Block → Core
+spoiled shape machine segment block =
+    let address = next_address shape machine segment in
+    record machine { blocks = changed machine.blocks address block; loose = changed machine.loose address true }
+
+abbrev pub released : Core → ℕ → Core
+released machine address = record machine { owners = changed machine.owners address None }
+
+-- opening begins at the first place; nothing is marked in a segment that becomes prefree
+abbrev pub next_after : State → ℕ → ℕ
+next_after Open next = 0
+next_after Free next = next
+next_after Sealed next = next
+next_after Prefree next = next
+
+-- a segment goes on by a step of its life
+pub record MayMove (geometry : Geometry) (machine : Core) (segment : ℕ) (stage : Stage) : Type 0 where
+  pub phase : machine.phase ≡ idle
+  pub range : segment < geometry.segments
+  pub pair : LifeStep machine.version (machine.segments segment).stage stage
+  pub empty : stage.state ≡ Prefree → (address : ℕ) → IsSome (machine.owners address) → segment_of geometry.shape address ≢ segment
+
+abbrev pub moved : Core → ℕ → Stage → Core
+moved machine segment stage =
+    record machine { segments = changed machine.segments segment (record { stage = stage; next = next_after stage.state (machine.segments segment).next }) }
+
+-- a body that holds, over the blocks as they are, a lawful image of the next version whose marks and owners are the
+-- machine's
+pub record MayWrite (geometry : Geometry) (machine : Core) (body : List ℕ) : Type 0 where
+  pub phase : machine.phase ≡ idle
+  pub lawful : IsLawful geometry (image_in geometry body machine.blocks)
+  pub version : number_at body 0 ≡ machine.version + 1
+  pub marks : (address : ℕ) → IsTrue (is_marked geometry (image_in geometry body machine.blocks) address) → IsSome (machine.owners address)
+  pub owners : (address : ℕ) (owner : Owner) → machine.owners address ≡ Some owner
+      → IsTrue (is_marked geometry (image_in geometry body machine.blocks) address) × (summary_at (image_in geometry body machine.blocks) address ≡ summary_of owner)
+
+-- a part of the slot that is not the current one is written
+abbrev pub with_body : Core → List ℕ → Core
+with_body machine body =
+    let slot = other (current machine.version) in
+    record machine {
+      slots = changed machine.slots slot (record { body = body; footer = (machine.slots slot).footer });
+      phase = body_written;
+      written = record { body = body; blocks = machine.blocks } ∷ machine.written;
+    }
+
+abbrev pub footed : (ℕ → Slot) → ℕ → ℕ → (ℕ → Slot)
+footed slots slot footer = changed slots slot (record { body = (slots slot).body; footer = footer })
+
+-- the footer that makes the body count
+abbrev pub with_footer : Core → Core
+with_footer machine = record machine { slots = footed machine.slots (other (current machine.version)) (machine.version + 1); phase = footer_written }
+
+-- one sync settles the blocks and the packs
+abbrev pub phase_after_sync : Phase → Phase
+phase_after_sync idle = idle
+phase_after_sync body_written = body_synced
+phase_after_sync body_synced = body_synced
+phase_after_sync footer_written = footer_synced
+phase_after_sync footer_synced = footer_synced
+phase_after_sync mending = idle
+
+abbrev pub synced : Core → Core
+synced machine = record machine { loose = λ address. false; phase = phase_after_sync machine.phase }
+
+abbrev pub advanced : Core → Core
+advanced machine = record machine { version = machine.version + 1; phase = idle }
+
+-- what a crash leaves of the slot that is being written
+abbrev pub LeavesSlot : Phase → Slot → Slot → Type 0
+LeavesSlot body_written now left = left.footer ≡ now.footer
+LeavesSlot footer_written now left = left.body ≡ now.body
+LeavesSlot mending now left = left.body ≡ now.body
+LeavesSlot idle now left = left ≡ now
+LeavesSlot body_synced now left = left ≡ now
+LeavesSlot footer_synced now left = left ≡ now
+
+-- what is settled stays; what was written since the last sync may be anything
+pub record MayLeave (machine : Core) (left : Left) : Type 0 where
+  pub blocks : (address : ℕ) → machine.loose address ≡ false → left.blocks address ≡ machine.blocks address
+  pub current_slot : left.slots (current machine.version) ≡ machine.slots (current machine.version)
+  pub other_slot : LeavesSlot machine.phase (machine.slots (other (current machine.version))) (left.slots (other (current machine.version)))
+
+-- the sound slot of the higher version
+abbrev pub IsPicked : (ℕ → Slot) → ℕ → Type 0
+IsPicked slots slot = pick (slots 0) (slots 1) ≡ Some slot
+
+-- the image in a slot, over the blocks
+abbrev pub image_of : Geometry → Left → ℕ → Image
+image_of geometry left slot = image_in geometry (left.slots slot).body left.blocks
+
+-- the next offset of the log that has this segment, if one has
+abbrev pub log_in : List (Option Place) → ℕ → Option ℕ
+log_in [] segment = None
+log_in (None ∷ rest) segment = log_in rest segment
+log_in (Some place ∷ rest) segment = if place.segment == segment then Some place.next else log_in rest segment
+
+-- how a mount finds a segment: a log's is open; one with nothing marked is free; any other is sealed
+abbrev pub mounted_segment : Option ℕ → ℕ → Segment
+mounted_segment (Some next) count = record { stage = record { state = Open; incarnation = 1; stamp = 0 }; next = next }
+mounted_segment None zero = record { stage = record { state = Free; incarnation = 0; stamp = 0 }; next = 0 }
+mounted_segment None (suc count) = record { stage = record { state = Sealed; incarnation = 1; stamp = 0 }; next = 0 }
+
+-- who owns a block that the image marks, by its summary
+abbrev pub mounted_owner : Bool → Summary → Option Owner
+mounted_owner true summary = owner_in summary
+mounted_owner false summary = None
+
+-- A mount goes on from a slot's image. A footer in the other slot that is not below its version was torn: it is
+-- written to 0 before anything else.
+abbrev pub mounted_when : Bool → Geometry → Core → Left → ℕ → Core
+mounted_when is_below geometry machine left slot =
+    let image = image_of geometry left slot in
+    record {
+      blocks = left.blocks;
+      loose = λ address. false;
+      owners = λ address. mounted_owner (is_marked geometry image address) (summary_at image address);
+      segments = λ segment. mounted_segment (log_in image.logs segment) (info_of image segment).count;
+      version = (left.slots slot).footer;
+      slots = if is_below then left.slots else footed left.slots (other slot) 0;
+      phase = if is_below then idle else mending;
+      written = machine.written;
+    }
+
+abbrev pub mounted : Geometry → Core → Left → ℕ → Core
+mounted geometry machine left slot =
+    mounted_when (nat_lt (left.slots (other slot)).footer (left.slots slot).footer) geometry machine left slot
+
+-- one event, and what it makes of the machine
+abbrev pub CoreStep : Geometry → Core → Event → Core → Type 0
+CoreStep geometry machine (append segment owner block) after =
+    HasRoom geometry machine segment × (after ≡ appended geometry.shape machine segment owner block)
+CoreStep geometry machine (spoil segment block) after =
+    HasRoom geometry machine segment × (after ≡ spoiled geometry.shape machine segment block)
+CoreStep geometry machine (release address) after = (machine.phase ≡ idle) × IsSome (machine.owners address) × (after ≡ released machine address)
+CoreStep geometry machine (migrate address segment) after =
+    HasRoom geometry machine segment × (owner : Owner) × (machine.owners address ≡ Some owner)
+    × (after ≡ released (appended geometry.shape machine segment owner (machine.blocks address)) address)
+CoreStep geometry machine (move segment stage) after = MayMove geometry machine segment stage × (after ≡ moved machine segment stage)
+CoreStep geometry machine (write_body body) after = MayWrite geometry machine body × (after ≡ with_body machine body)
+CoreStep geometry machine sync after = after ≡ synced machine
+CoreStep geometry machine write_footer after = (machine.phase ≡ body_synced) × (after ≡ with_footer machine)
+CoreStep geometry machine advance after = (machine.phase ≡ footer_synced) × (after ≡ advanced machine)
+CoreStep geometry machine (crash left) after =
+    MayLeave machine left × (slot : ℕ) × IsPicked left.slots slot × (after ≡ mounted geometry machine left slot)
+
+-- a list of events leads from one machine to another
+abbrev pub Run : Geometry → Core → List Event → Core → Type 0
+Run geometry machine [] after = after ≡ machine
+Run geometry machine (event ∷ events) after = (mid : Core) × CoreStep geometry machine event mid × Run geometry mid events after
+
+-- how a format ends: version 1 in slot 1, nothing marked, nothing loose
+pub record IsFormatted (geometry : Geometry) (machine : Core) : Type 0 where
+  pub phase : machine.phase ≡ idle
+  pub version : machine.version ≡ 1
+  pub header : number_at (machine.slots 1).body 0 ≡ 1
+  pub footer : (machine.slots 1).footer ≡ 1
+  pub empty_slot : (machine.slots 0).footer ≡ 0
+  pub lawful : IsLawful geometry (image_in geometry (machine.slots 1).body machine.blocks)
+  pub no_mark : (address : ℕ) → ¬ IsTrue (is_marked geometry (image_in geometry (machine.slots 1).body machine.blocks) address)
+  pub no_owner : (address : ℕ) → machine.owners address ≡ None
+  pub written : machine.written ≡ record { body = (machine.slots 1).body; blocks = machine.blocks } ∷ []

@@ -1,0 +1,4 @@
+pub mod Core
+pub mod Disk
+pub mod Crash
+pub mod Threaded

@@ -1,0 +1,13 @@
+//! The crash law of a volume.
+ghost use Rattle.crash.specs.Crash.{CrashLaw};
+ghost use Rattle.crash.specs.Disk.{PickLaw};
+
+/// After any events of the core machine, whatever a crash leaves, a pack is picked, of the completed version or a later
+/// one, and its image and its files are whole: those of the time when its body was written. Between two packs one of
+/// the two is picked.
+///
+/// It runs nothing: its contract is the law.
+pub fn crash_law()
+    ensures kept { CrashLaw }
+    ensures old_or_new { PickLaw }
+{}

@@ -1,0 +1,9 @@
+pub mod Shapes
+pub mod Marking
+pub mod Frame
+pub mod RoundTrip
+pub mod NodeRoundTrip
+pub mod NameLemmas
+pub mod Testing
+pub mod Examples
+pub mod FaultExamples

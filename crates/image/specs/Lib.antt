@@ -1,0 +1,9 @@
+pub mod Node
+pub mod Image
+pub mod Walk
+pub mod Files
+pub mod Rules
+pub mod Faults
+pub mod Pack
+pub mod Reading
+pub mod View

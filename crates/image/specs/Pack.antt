@@ -1,0 +1,93 @@
+-- The bytes of the superblock and of a checkpoint pack, and which of two packs holds (Linux filesystems/f2fs, checkpoint area; how the bytes lie is this project's own).
+use Rattle.std.specs.Prelude.{ℕ, zero, suc, ◌+◌, ◌-◌, ◌*◌, ◌/◌, ◌%◌, ◌^◌, Bool, true, false, ◌&&◌, ◌==◌, nat_lt, if◌then◌else◌, List, [], ◌∷◌, ◌++◌, take, drop, replicate, Option, Some, None, codes}
+use Rattle.std.specs.List.{flat_map}
+use Rattle.byteorder.specs.Endian.{little_bytes, little_number}
+use Rattle.geometry.specs.declared.shape.Shape.{Shape}
+use Rattle.geometry.specs.declared.shape.Shape.TheVariants.{Tiny, Kernel}
+use Rattle.geometry.specs.declared.geometry.Geometry.{Geometry}
+use Rattle.geometry.specs.declared.owner.Summary.{Summary}
+use Rattle.geometry.specs.Shape.{segment_blocks}
+use Rattle.geometry.specs.Area.{pack_bytes}
+use Rattle.image.specs.declared.image.NodeEntry.{NodeEntry}
+use Rattle.image.specs.declared.image.Place.{Place}
+use Rattle.image.specs.Node.{numbers}
+use Rattle.image.specs.Image.{Image, SegmentInfo}
+
+abbrev pub shape_code : Shape → ℕ
+shape_code Tiny = 0
+shape_code Kernel = 1
+
+-- 64 bytes: a name, the format's number, the volume's numbers, and zeros
+abbrev pub superblock : Geometry → List ℕ
+superblock geometry =
+    codes "F2SEG001"
+    ++ numbers (1 ∷ shape_code geometry.shape ∷ geometry.segments ∷ geometry.per_section ∷ geometry.files ∷ geometry.nodes ∷ [])
+    ++ replicate 32 0
+
+abbrev pub log_bytes : Option Place → List ℕ
+log_bytes None = numbers ((2 ^ 32 - 1) ∷ 0 ∷ [])
+log_bytes (Some place) = numbers (place.segment ∷ place.next ∷ [])
+
+abbrev pub entry_bytes : NodeEntry → List ℕ
+entry_bytes entry = numbers (entry.inode ∷ entry.address ∷ [])
+
+-- the number of eight bits, the lowest first
+abbrev pub bits_number : List Bool → ℕ
+bits_number [] = 0
+bits_number (true ∷ rest) = 1 + 2 * bits_number rest
+bits_number (false ∷ rest) = 2 * bits_number rest
+
+-- n bytes of eight bits each
+abbrev pub bitmap : ℕ → List Bool → List ℕ
+bitmap zero bits = []
+bitmap (suc n) bits = bits_number (take 8 bits) ∷ bitmap n (drop 8 bits)
+
+abbrev pub segment_bytes : Shape → SegmentInfo → List ℕ
+segment_bytes shape info =
+    little_bytes 4 info.count ++ little_bytes 8 info.mtime ++ bitmap (segment_blocks shape / 8) info.bits
+
+abbrev pub summary_bytes : Summary → List ℕ
+summary_bytes summary = numbers (summary.nid ∷ summary.slot ∷ [])
+
+-- all of a pack but its last number: version and total, logs, node address table, segments, summaries
+abbrev pub pack_body : Shape → Image → List ℕ
+pack_body shape image =
+    numbers (image.version ∷ image.total ∷ [])
+    ++ flat_map log_bytes image.logs
+    ++ flat_map entry_bytes image.node_table
+    ++ flat_map (segment_bytes shape) image.segments
+    ++ flat_map summary_bytes image.summaries
+
+-- the footer, the version once more, takes the last four bytes
+abbrev pub body_bytes : Geometry → ℕ
+body_bytes geometry = pack_bytes geometry - 4
+
+-- the two slots of the meta area follow the superblock
+abbrev pub slot_start : Geometry → ℕ → ℕ
+slot_start geometry slot = 64 + slot * pack_bytes geometry
+
+-- A slot's bytes, cut where the footer begins.
+pub record Slot : Type 0 where
+  pub body : List ℕ
+  pub footer : ℕ
+
+abbrev pub slot_of : Geometry → List ℕ → Slot
+slot_of geometry bytes = record {
+  body = take (body_bytes geometry) bytes;
+  footer = little_number 4 (drop (body_bytes geometry) bytes);
+}
+
+abbrev pub header_version : Slot → ℕ
+header_version slot = little_number 4 slot.body
+
+-- header and footer hold one version that is at least 1 and belongs into this slot
+abbrev pub is_sound : ℕ → Slot → Bool
+is_sound number slot =
+    (header_version slot == slot.footer) && nat_lt 0 slot.footer && (slot.footer % 2 == number)
+
+-- the number of the sound slot of the higher version
+abbrev pub pick : Slot → Slot → Option ℕ
+pick zeroth first =
+    if is_sound 0 zeroth
+    then (if is_sound 1 first && nat_lt zeroth.footer first.footer then Some 1 else Some 0)
+    else (if is_sound 1 first then Some 1 else None)

@@ -1,0 +1,9 @@
+//! What a checkpoint records: an image of the tables and of the nodes that they name, with the rules that it keeps, the
+//! bytes that spell it and the files that it holds (Linux `filesystems/f2fs`, on-disk layout).
+#![tactic(auto)]
+
+pub mod class;
+pub mod image;
+pub mod lookup;
+
+pub use image::{Image, Node, NodeEntry, Place, SegmentInfo};
