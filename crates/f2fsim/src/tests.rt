@@ -1,7 +1,9 @@
 ghost use Rattle.std.specs.Prelude.{◌≡◌, [], IfOk};
 ghost use Rattle.geometry.specs.Shape.{block_bytes};
 
-use super::{MemVolume, first_run};
+mod images;
+
+use crate::first::{MemVolume, first_run};
 use device::MemDevice;
 use geometry::{Error, Geometry, Kind, Shape};
 use std::alloc::Global;

@@ -7,3 +7,4 @@ pub mod Faults
 pub mod Pack
 pub mod Reading
 pub mod View
+pub mod Free

@@ -3,6 +3,7 @@
 #![tactic(auto)]
 
 pub mod class;
+pub mod free;
 pub mod image;
 pub mod lookup;
 

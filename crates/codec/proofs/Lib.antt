@@ -1,0 +1,5 @@
+pub mod NumberLemmas
+pub mod PartLemmas
+pub mod SpellingLemmas
+pub mod ReadingLemmas
+pub mod WritingLemmas

@@ -1,0 +1,3 @@
+pub mod Numeral
+pub mod Grammar
+pub mod Call

@@ -1,0 +1,19 @@
+//! The tables of a checkpoint pack and the superblock as bytes, and an image file as an image (Linux `filesystems/f2fs`,
+//! on-disk layout; how the bytes lie is this project's own).
+#![tactic(auto)]
+
+mod decoding;
+mod encoding;
+mod file;
+mod law;
+mod rows;
+mod superblock;
+
+pub use decoding::decode;
+pub use encoding::encode;
+pub use file::{ReadImage, file_bytes};
+pub use law::reading_law;
+pub use superblock::{read_super, write_super};
+
+#[cfg(test)]
+mod tests;
