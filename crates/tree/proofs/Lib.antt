@@ -1,6 +1,0 @@
-pub mod Same
-pub mod Changes
-pub mod Below
-pub mod Naming
-pub mod Results
-pub mod Balance

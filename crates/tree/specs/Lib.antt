@@ -1,4 +1,0 @@
-pub mod Tree
-pub mod Change
-pub mod Laws
-pub mod Pruned
