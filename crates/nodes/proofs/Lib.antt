@@ -1,0 +1,9 @@
+pub mod Joined
+pub mod Four
+pub mod Bounds
+pub mod Paths
+pub mod Bare
+pub mod Ranges
+pub mod Results
+pub mod Shown
+pub mod Held

@@ -1,0 +1,43 @@
+use Rattle.std.proofs.Common.{◌≡◌, ap, ◌∙◌, arith}
+use Rattle.nodes.specs.File.{below_weight}
+use Rattle.nodes.proofs.Shown.{written_shows}
+use Rattle.nodes.proofs.file.FileState.put.Goals as goal
+
+pub put_ticket-requires-clause-file : goal.put_ticket-requires-clause-file
+put_ticket-requires-clause-file g c =
+    let ok = c.requires.file in
+    rw c.lengthen.ensures.state (record {
+      tickets = ok.tickets;
+      direct = ok.direct;
+      indirect = ok.indirect;
+      double = ok.double;
+      within = λ j h. ok.within j (omega arith);
+    })
+
+pub returns-clause-sets : goal.returns-clause-sets
+returns-clause-sets g c = rw c.lengthen.ensures.state at c.put_ticket.ensures.sets
+
+pub returns-clause-written : goal.returns-clause-written
+returns-clause-written g c file shows =
+    let state = c.lengthen.ensures.state in
+    let kind = c.put_ticket.ensures.kind ∙ ap (λ f. f.kind) state in
+    let length = c.put_ticket.ensures.length ∙ ap (λ f. f.length) state in
+    written_shows c.args.self.now c.put_ticket.new.self file shows kind c.args.index c.args.ticket length (rw state at c.put_ticket.ensures.sets)
+
+pub returns-clause-change : goal.returns-clause-change
+returns-clause-change g c =
+    let state = c.lengthen.ensures.state in
+    let done = c.put_ticket.ensures.change in
+    record {
+      own = done.own;
+      trades = (
+        done.trades.0,
+        done.trades.1,
+        λ w. (let all = done.trades.2 w in
+            let same : below_weight c.lengthen.new.self w ≡ below_weight c.args.self.now w = ap (λ f. below_weight f w) state in
+            omega arith),
+      );
+      kept = λ e. done.kept e ∙ c.lengthen.ensures.inode;
+      marked = done.marked;
+      token = done.token ∙ ap (λ f. f.token) state;
+    }

@@ -1,0 +1,221 @@
+//! How a file's tickets and nodes come and go.
+ghost use Rattle.std.specs.Prelude.{◌≡◌, ℕ, ◌+◌, ◌-◌, ◌^◌, ◌<◌, max, min, Some, None, MatchOption, OnOk, OnErr, IfErr};
+ghost use Rattle.geometry.specs.Path.{inode_entries, node_entries, largest_length};
+ghost use Rattle.geometry.specs.File.{File, written, cut_to};
+ghost use Rattle.tickets.specs.Placed.{Placed};
+ghost use Rattle.tree.specs.Tree.{SetsAt, Same, EmptyFrom, HandsOut};
+ghost use Rattle.tree.specs.Change.{TreeNode, Weighing, ticket_weight, WeighsAs, IsNewNode, nothing};
+ghost use Rattle.nodes.specs.Marks.{unchanged, lengthened, shortened};
+
+use crate::file::FileState;
+use device::Block;
+use std::alloc::Global;
+use tickets::{NidToken, Ticket};
+use tree::{Pruned, Spare};
+
+impl<B: Block> FileState<B> {
+    ghost use Rattle.nodes.specs.File.{IsFile, IsBare, Shows, FullTo, ticket_at, missing_to, count_of, inode_of, below_weight};
+    ghost use Rattle.nodes.specs.Marks.{MarksNode};
+
+    /// Adds the first node that is missing on the way to the index, and marks it and the node that names it. Where memory
+    /// is missing the token is handed back, and nothing has changed.
+    pub fn grow(&mut self, alloc: Global, index: u32, token: NidToken) -> Result<(), NidToken>
+        requires inside { index < largest_length self.old.shape }
+        requires file { IsFile self.old }
+        requires path { 0 < missing_to self.old index }
+        ensures same { Same (ticket_at self.old) (ticket_at self.new) }
+        ensures grown { OnOk result (missing_to self.new index + 1 ≡ missing_to self.old index) }
+        ensures change { OnOk result ((n : TreeNode) × IsNewNode token n × MarksNode unchanged self.old self.new nothing (λ w. w.node n)) }
+        ensures refused { OnErr result (self.new ≡ self.old) }
+        ensures token { IfErr result (λ back. back ≡ token) }
+        ensures length { self.new.length ≡ self.old.length }
+        ensures shape { self.new.shape ≡ self.old.shape }
+        ensures kind { self.new.kind ≡ self.old.kind }
+        ensures file { IsFile self.new }
+    {
+        let slots = self.shape.inode_entries() as usize;
+        let entries = self.shape.node_entries() as usize;
+        let index = index as usize;
+        if index < slots {
+            unreachable!();
+        }
+        let index = index - slots;
+        let width = 2 * entries;
+        if index < width {
+            return self.direct.grow(2, alloc, entries, index, token);
+        }
+        let index = index - width;
+        let width = 2 * (entries * entries);
+        if index < width {
+            return self.indirect.grow(2, alloc, entries, index, token);
+        }
+        self.double.grow(1, alloc, entries, index - width, token)
+    }
+
+    /// Puts a ticket at the index, and hands out the one that stood there: the file is the written file. Marks the node that
+    /// holds the slot, and the inode where the file becomes longer.
+    pub fn put(&mut self, index: u32, ticket: Ticket<B>) -> Option<Ticket<B>>
+        requires inside { index < largest_length self.old.shape }
+        requires file { IsFile self.old }
+        requires path { missing_to self.old index ≡ 0 }
+        ensures old { result ≡ ticket_at self.old index }
+        ensures sets { SetsAt (ticket_at self.old) (ticket_at self.new) index (Some ticket) }
+        ensures written { (file : File) → Shows self.old file → Shows self.new (written file index ticket.content) }
+        ensures change { MarksNode (lengthened index) self.old self.new (λ w. ticket_weight w result) (λ w. w.ticket ticket) }
+        ensures length { self.new.length ≡ max self.old.length (index + 1) }
+        ensures shape { self.new.shape ≡ self.old.shape }
+        ensures kind { self.new.kind ≡ self.old.kind }
+        ensures file { IsFile self.new }
+    {
+        self.lengthen(index);
+        self.put_ticket(index, ticket)
+    }
+
+    fn lengthen(&mut self, index: u32)
+        requires { index < 2 ^ 32 - 1 }
+        ensures state { self.new ≡ record self.old { length = max self.old.length (index + 1); resized = self.new.resized } }
+        ensures inode { inode_of self.new ≡ lengthened index (inode_of self.old) }
+    {
+        if self.length <= index {
+            self.length = index + 1;
+            self.resized = true;
+        }
+    }
+
+    fn put_ticket(&mut self, index: u32, ticket: Ticket<B>) -> Option<Ticket<B>>
+        requires inside { index < largest_length self.old.shape }
+        requires within { index < self.old.length }
+        requires file { IsFile self.old }
+        requires path { missing_to self.old index ≡ 0 }
+        ensures old { result ≡ ticket_at self.old index }
+        ensures sets { SetsAt (ticket_at self.old) (ticket_at self.new) index (Some ticket) }
+        ensures change { MarksNode unchanged self.old self.new (λ w. ticket_weight w result) (λ w. w.ticket ticket) }
+        ensures length { self.new.length ≡ self.old.length }
+        ensures shape { self.new.shape ≡ self.old.shape }
+        ensures kind { self.new.kind ≡ self.old.kind }
+        ensures file { IsFile self.new }
+    {
+        let slots = self.shape.inode_entries() as usize;
+        let entries = self.shape.node_entries() as usize;
+        let index = index as usize;
+        if index < slots {
+            return self.tickets.put(slots, entries, index, ticket);
+        }
+        let index = index - slots;
+        let width = 2 * entries;
+        if index < width {
+            return self.direct.put(2, entries, index, ticket);
+        }
+        let index = index - width;
+        let width = 2 * (entries * entries);
+        if index < width {
+            return self.indirect.put(2, entries, index, ticket);
+        }
+        self.double.put(1, entries, index - width, ticket)
+    }
+
+    /// Hands out one ticket at or past the length, or the token of a node that names nothing, and marks the node that named
+    /// it. None: the file is cut to the length, which marks the inode where that is less than it was.
+    pub fn cut(&mut self, length: u32) -> Option<Spare<Ticket<B>>>
+        requires file { IsFile self.old }
+        ensures none { MatchOption result
+            (Same (ticket_at self.old) (ticket_at self.new) × EmptyFrom (ticket_at self.new) length × (length ≡ 0 → IsBare self.new))
+            (λ _. Unit {0}) }
+        ensures cut { MatchOption result ((file : File) → Shows self.old file → Shows self.new (cut_to file length)) (λ _. Unit {0}) }
+        ensures kept { MatchOption result
+            (((w : Weighing Placed) → below_weight self.new w ≡ below_weight self.old w) × (inode_of self.new ≡ shortened length (inode_of self.old)) × (self.new.token ≡ self.old.token))
+            (λ _. Unit {0}) }
+        ensures out { MatchOption result (Unit {0}) (λ spare. HandsOut (ticket_at self.old) (ticket_at self.new) length spare) }
+        ensures change { MatchOption result (Unit {0})
+            (λ spare. (out : Weighing Placed → ℕ) × WeighsAs spare out × MarksNode unchanged self.old self.new out nothing) }
+        ensures fewer { MatchOption result (Unit {0}) (λ _. count_of self.new + 1 ≡ count_of self.old) }
+        ensures length { MatchOption result (self.new.length ≡ min self.old.length length) (λ _. self.new.length ≡ self.old.length) }
+        ensures shape { self.new.shape ≡ self.old.shape }
+        ensures kind { self.new.kind ≡ self.old.kind }
+        ensures file { IsFile self.new }
+    {
+        if let Some(spare) = self.cut_entries(length) {
+            return Some(spare);
+        }
+        self.shorten(length);
+        None
+    }
+
+    fn shorten(&mut self, length: u32)
+        ensures state { self.new ≡ record self.old { length = min self.old.length length; resized = self.new.resized } }
+        ensures inode { inode_of self.new ≡ shortened length (inode_of self.old) }
+    {
+        if length < self.length {
+            self.length = length;
+            self.resized = true;
+        }
+    }
+
+    fn cut_entries(&mut self, length: u32) -> Option<Spare<Ticket<B>>>
+        requires file { IsFile self.old }
+        ensures none { MatchOption result
+            ((self.new ≡ self.old) × EmptyFrom (ticket_at self.old) length × (length ≡ 0 → IsBare self.old))
+            (λ _. Unit {0}) }
+        ensures out { MatchOption result (Unit {0}) (λ spare. HandsOut (ticket_at self.old) (ticket_at self.new) length spare) }
+        ensures change { MatchOption result (Unit {0})
+            (λ spare. (out : Weighing Placed → ℕ) × WeighsAs spare out × MarksNode unchanged self.old self.new out nothing) }
+        ensures length { self.new.length ≡ self.old.length }
+        ensures shape { self.new.shape ≡ self.old.shape }
+        ensures kind { self.new.kind ≡ self.old.kind }
+        ensures file { IsFile self.new }
+    {
+        let slots = self.shape.inode_entries() as usize;
+        let entries = self.shape.node_entries() as usize;
+        let from = length as usize;
+        let past_tickets = from.saturating_sub(slots);
+        let past_direct = past_tickets.saturating_sub(2 * entries);
+        let past_indirect = past_direct.saturating_sub(2 * (entries * entries));
+        if let Some(spare) = self.double.cut(1, entries, past_indirect) {
+            return Some(spare);
+        }
+        if let Some(spare) = self.indirect.cut(2, entries, past_direct) {
+            return Some(spare);
+        }
+        if let Some(spare) = self.direct.cut(2, entries, past_tickets) {
+            return Some(spare);
+        }
+        if let Some(spare) = self.tickets.cut(slots, entries, from) {
+            return Some(spare);
+        }
+        None
+    }
+
+    /// Hands out the token of a node on the way to the index that names nothing, and marks the node that named it. The file
+    /// is as it was. None: each node on the way, but the inode, names something.
+    pub fn trim(&mut self, index: u32) -> Option<NidToken>
+        requires inside { index < largest_length self.old.shape }
+        requires file { IsFile self.old }
+        ensures same { Same (ticket_at self.old) (ticket_at self.new) }
+        ensures none { MatchOption result ((self.new ≡ self.old) × FullTo self.old index) (λ _. Unit {0}) }
+        ensures change { MatchOption result (Unit {0})
+            (λ token. (n : TreeNode) × (n.token ≡ token) × MarksNode unchanged self.old self.new (λ w. w.node n) nothing) }
+        ensures fewer { MatchOption result (Unit {0}) (λ _. count_of self.new + 1 ≡ count_of self.old) }
+        ensures length { self.new.length ≡ self.old.length }
+        ensures shape { self.new.shape ≡ self.old.shape }
+        ensures kind { self.new.kind ≡ self.old.kind }
+        ensures file { IsFile self.new }
+    {
+        let slots = self.shape.inode_entries() as usize;
+        let entries = self.shape.node_entries() as usize;
+        let index = index as usize;
+        if index < slots {
+            return None;
+        }
+        let index = index - slots;
+        let width = 2 * entries;
+        if index < width {
+            return self.direct.trim(2, entries, index);
+        }
+        let index = index - width;
+        let width = 2 * (entries * entries);
+        if index < width {
+            return self.indirect.trim(2, entries, index);
+        }
+        self.double.trim(1, entries, index - width)
+    }
+}

@@ -1,0 +1,13 @@
+//! A file's index tree in memory: its inode, and below it the nodes and the tickets of its blocks.
+#![tactic(auto)]
+
+mod change;
+mod file;
+mod look;
+mod migrate;
+
+pub use file::FileState;
+pub use tree::Spare;
+
+#[cfg(test)]
+mod tests;

@@ -1,0 +1,6 @@
+pub mod Same
+pub mod Changes
+pub mod Below
+pub mod Naming
+pub mod Results
+pub mod Balance

@@ -1,0 +1,14 @@
+use Rattle.std.proofs.Common.{false, refl}
+use Rattle.tree.proofs.Changes.{slot_change}
+use Rattle.tree.proofs.Same.{with_item-same}
+use Rattle.tree.proofs.entries.Entries.migrate_at.Goals as goal
+
+pub returns-in-Ok-clause-change : goal.returns-in-Ok-clause-change
+returns-in-Ok-clause-change g c =
+    slot_change g.C.Subtree.number g.C.Subtree.weight c.args.self.now.slots.items c.args.place c.index_mut.result.now c.migrate.new.slot c.requires.at c.index_mut.ensures.value
+    false false c.args.self.now.dirty refl (λ w. w.ticket c.in-Ok.before) (λ w. w.ticket c.args.ticket) c.in-Ok.ensures.change
+
+pub returns-in-Err-clause-refused : goal.returns-in-Err-clause-refused
+returns-in-Err-clause-refused g c =
+    let same = with_item-same c.args.self.now.slots c.args.place _ _ c.in-Err.ensures.refused c.index_mut.ensures.value in
+    λ k. record { dirty = c.args.self.now.dirty; slots = same k }

@@ -1,0 +1,37 @@
+use Rattle.std.proofs.Common.{◌≡◌, ℕ, ◌-◌, ◌<◌, ◌≤◌, ◌/◌, ◌%◌, None, arith, ap}
+use Rattle.std.proofs.lemmas.Nat.{div-add-mod', le-div}
+use Rattle.std.proofs.Math.Nat.{div-mul-le_self, div-le_self}
+use Rattle.tree.specs.Tree.{entry_at}
+use Rattle.tree.proofs.Below.{hands_below}
+use Rattle.tree.proofs.entries.Entries.prune.Goals as goal
+
+pub returns-in-Some-clause-cases : goal.returns-in-Some-clause-cases
+returns-in-Some-clause-cases g c =
+    let C = g.C.Subtree in
+    let laws = g.met.C.Subtree in
+    let e = c.args.entries in
+    let span = C.span_of e in
+    let at = c.loop-at.at - 1 in
+    let xs = c.args.self.now.slots.items in
+    let same : c.loop-at.self.slots.items ≡ xs = ap (λ b. b.slots.items) c.loop-at.invariant.same in
+    let bound : (i : ℕ) → span ≤ i → C.find e (entry_at xs at) i ≡ None = λ i h. laws.find_past e (entry_at xs at) i c.requires.some (c.requires.shaped.1 at) h in
+    let entry = rw same at c.prune_at.ensures.entry in
+    let handed = rw (same, c.saturating_sub.ensures, c.span-span.ensures) at c.in-Some.ensures.out in
+    hands_below (C.find e) span xs c.prune_at.new.self.slots.items at entry bound c.args.from c.in-Some.spare handed
+
+pub returns-else-names_nothing-clause-cases : goal.returns-else-names_nothing-clause-cases
+returns-else-names_nothing-clause-cases g c =
+    let span = g.C.Subtree.span_of c.args.entries in
+    let is : c.span-span.result ≡ span = c.span-span.ensures in
+    let positive : 0 < span = g.met.C.Subtree.span_positive c.args.entries c.requires.some in
+    let same : c.loop-at.self.slots.items ≡ c.args.self.now.slots.items = ap (λ b. b.slots.items) c.loop-at.invariant.same in
+    let start : c.loop-at.at ≤ c.args.from / span = rw is at c.loop-at-test.false in
+    let nothing : c.args.from ≡ 0 → (k : ℕ) → entry_at c.args.self.now.slots.items k ≡ None =
+    λ z k. (let r = div-le_self c.args.from span in c.loop-at.invariant.nothing k (omega arith) (omega arith)) in (
+      c.loop-at.invariant.same,
+      λ j h. (let q = div-add-mod' j span in
+          let r = div-mul-le_self c.args.from span in
+          let m : c.args.from / span ≤ j / span = le-div (c.args.from / span) j span positive (omega arith) in
+          c.loop-at.invariant.empty (j / span) (omega arith) (j % span) (rw is (omega arith))),
+      λ z. (let no = c.if-names_nothing.ensures.1 (λ k. rw (c.deref.ensures.value, same) (nothing z k)) in cc),
+    )

@@ -1,0 +1,4 @@
+pub mod Tree
+pub mod Change
+pub mod Laws
+pub mod Pruned

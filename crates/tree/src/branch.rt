@@ -1,0 +1,240 @@
+//! A node other than an inode.
+ghost use Rattle.std.specs.Prelude.{◌≡◌, ◌*◌, ◌<◌, None, true, false, map, replicate, IfOk, IfErr};
+ghost use Rattle.tree.specs.Tree.{find_below, missing_below, ShapedBelow, FullBelow, AreNone, number_of};
+ghost use Rattle.tree.specs.Change.{tree_node, weight_below};
+
+use crate::entries::{Entries, Pruned};
+use crate::spare::Spare;
+use crate::subtree::Subtree;
+use device::DeviceError;
+use std::alloc::Global;
+use std::mem;
+use tickets::NidToken;
+
+/// A node other than an inode: the token of its number, and its entries.
+pub struct Branch<C> {
+    pub token: NidToken,
+    pub entries: Entries<C>,
+}
+
+impl<C> Branch<C> {
+    // A node that names nothing, still to be written.
+    fn empty(alloc: Global, entries: usize, token: NidToken) -> Result<Branch<C>, NidToken>
+        ensures entries { IfOk result (λ node. node.entries.slots.items ≡ replicate entries None) }
+        ensures nothing { IfOk result (λ node. AreNone node.entries.slots.items) }
+        ensures marked { IfOk result (λ node. node.entries.dirty ≡ true) }
+        ensures token { IfOk result (λ node. node.token ≡ token) }
+        ensures refused { IfErr result (λ back. back ≡ token) }
+    {
+        match Entries::empty(alloc, entries) {
+            Ok(entries) => Ok(Branch { token, entries }),
+            Err(_) => Err(token),
+        }
+    }
+
+    fn into_token(self) -> NidToken
+        requires { AreNone self.entries.slots.items }
+        ensures { result ≡ self.token }
+    {
+        let Branch { token, entries } = self;
+        entries.destroy();
+        token
+    }
+}
+
+impl<C: Subtree> Subtree for Branch<C> {
+    type Leaf = C::Leaf;
+
+    type Lease = C::Lease;
+
+    ghost lent = { C.lent };
+
+    ghost address_of = { C.address_of };
+
+    ghost content_of = { C.content_of };
+
+    ghost is_leaf = { false };
+
+    ghost span_of = { λ e. e * C.span_of e };
+
+    ghost find = { λ e slot i. find_below (λ b. b.entries.slots.items) (C.find e) (C.span_of e) slot i };
+
+    ghost missing = { λ e slot i. missing_below (λ b. b.entries.slots.items) (C.missing e) (C.span_of e) slot i };
+
+    ghost shaped = { λ e slot. ShapedBelow (λ b. b.entries.slots.items) (C.shaped e) e slot };
+
+    ghost full = { λ e slot i. FullBelow (λ b. b.entries.slots.items) (C.full e) (C.span_of e) slot i };
+
+    ghost number = { number_of (λ b. b.token.number) };
+
+    ghost weight = { weight_below (λ b. tree_node C.is_leaf b.token (map C.number b.entries.slots.items) b.entries.dirty) (λ b. b.entries.slots.items) C.weight };
+
+    ghost use Rattle.std.specs.Prelude.{refl};
+    ghost use Rattle.tree.specs.Laws.{times_positive, nothing_past, no_leaf};
+
+    ghost span_positive = { λ e h. times_positive e (C.span_of e) h (C.span_positive e h) };
+
+    ghost find_none = { λ _ _. refl };
+
+    ghost find_past = { λ e s i h w p. nothing_past (λ b. b.entries.slots.items) (C.find e) (C.shaped e) (C.span_of e) (C.span_positive e h) (C.find_none e) e s i w p };
+
+    ghost shaped_none = { λ _. tt };
+
+    ghost weight_none = { λ _. refl };
+
+    ghost number_none = { refl };
+
+    ghost leaf_span = { λ _ no. absurd (no_leaf no) };
+
+    ghost leaf_path = { λ _ _ _ no. absurd (no_leaf no) };
+
+    ghost leaf_number = { λ _ _ no. absurd (no_leaf no) };
+
+    ghost leaf_weight = { λ _ _ no _. absurd (no_leaf no) };
+
+    fn is_leaf() -> bool {
+        false
+    }
+
+    fn span(entries: usize) -> usize {
+        entries * C::span(entries)
+    }
+
+    fn entry(slot: &Option<Branch<C>>) -> u32 {
+        match slot {
+            Some(branch) => branch.token.number(),
+            None => 0,
+        }
+    }
+
+    fn address(slot: &Option<Branch<C>>, entries: usize, index: usize) -> u32 {
+        match slot {
+            Some(branch) => branch.entries.address(entries, entries, index),
+            None => 0,
+        }
+    }
+
+    fn has_path(slot: &Option<Branch<C>>, entries: usize, index: usize) -> bool {
+        match slot {
+            Some(branch) => branch.entries.has_path(entries, entries, index),
+            None => false,
+        }
+    }
+
+    fn is_clean(slot: &Option<Branch<C>>) -> bool {
+        match slot {
+            Some(branch) => branch.entries.is_clean(),
+            None => true,
+        }
+    }
+
+    fn grow(
+        slot: &mut Option<Branch<C>>,
+        alloc: Global,
+        entries: usize,
+        index: usize,
+        token: NidToken,
+    ) -> Result<(), NidToken> {
+        if let Some(branch) = slot {
+            return branch.entries.grow(entries, alloc, entries, index, token);
+        }
+        let branch = Branch::empty(alloc, entries, token)?;
+        match mem::replace(slot, Some(branch)) {
+            None => Ok(()),
+            Some(_) => unreachable!(),
+        }
+    }
+
+    fn put(
+        slot: &mut Option<Branch<C>>,
+        entries: usize,
+        index: usize,
+        ticket: C::Leaf,
+    ) -> Option<C::Leaf> {
+        match slot {
+            Some(branch) => branch.entries.put(entries, entries, index, ticket),
+            None => unreachable!(),
+        }
+    }
+
+    fn prune(slot: &mut Option<Branch<C>>, entries: usize, from: usize) -> Option<Spare<C::Leaf>> {
+        let pruned = match slot {
+            Some(branch) => branch.entries.prune(entries, entries, from),
+            None => return None,
+        };
+        match pruned {
+            Pruned::Found(spare) => Some(spare),
+            Pruned::Kept => None,
+            Pruned::Empty => match slot.take() {
+                Some(branch) => Some(Spare::Token(branch.into_token())),
+                None => unreachable!(),
+            },
+        }
+    }
+
+    fn trim(slot: &mut Option<Branch<C>>, entries: usize, index: usize) -> Option<NidToken> {
+        let pruned = match slot {
+            Some(branch) => branch.entries.prune_path(entries, entries, index),
+            None => return None,
+        };
+        match pruned {
+            Pruned::Found(token) => Some(token),
+            Pruned::Kept => None,
+            Pruned::Empty => match slot.take() {
+                Some(branch) => Some(branch.into_token()),
+                None => unreachable!(),
+            },
+        }
+    }
+
+    fn migrate(
+        slot: &mut Option<Branch<C>>,
+        entries: usize,
+        nid: u32,
+        at: usize,
+        from: u32,
+        ticket: C::Leaf,
+    ) -> Result<C::Leaf, C::Leaf> {
+        if !C::is_leaf() {
+            return match slot {
+                Some(branch) => branch
+                    .entries
+                    .migrate(entries, entries, nid, at, from, ticket),
+                None => Err(ticket),
+            };
+        }
+        if Self::entry(slot) != nid {
+            return Err(ticket);
+        }
+        match slot {
+            Some(branch) => branch.entries.swap(entries, entries, at, from, ticket),
+            None => Err(ticket),
+        }
+    }
+
+    fn read(
+        slot: &mut Option<Branch<C>>,
+        entries: usize,
+        index: usize,
+        out: &mut [u8],
+    ) -> Result<(), DeviceError> {
+        match slot {
+            Some(branch) => branch.entries.read(entries, entries, index, out),
+            None => {
+                out.fill(0);
+                Ok(())
+            }
+        }
+    }
+
+    fn lend(
+        slot: &mut Option<Branch<C>>,
+        entries: usize,
+        index: usize,
+    ) -> Result<Option<C::Lease>, DeviceError> {
+        match slot {
+            Some(branch) => branch.entries.lend(entries, entries, index),
+            None => Ok(None),
+        }
+    }
+}

@@ -1,0 +1,154 @@
+//! Tickets and nodes go from the entries.
+ghost use Rattle.std.specs.Prelude.{◌≡◌, ◌≢◌, ℕ, ◌*◌, ◌-◌, ◌^◌, ◌<◌, ◌/◌, ◌%◌, Option, Some, None, is_none, length, slice_set, MatchOption};
+ghost use Rattle.tree.specs.Tree.{find_in, ShapedIn, FullIn, Same, EmptyFrom, HandsOut, AreNone, entry_at};
+ghost use Rattle.tree.specs.Change.{Weighing, TreeNode, ChangesEntries, WeighsAs, nothing};
+ghost use Rattle.tree.specs.Pruned.{MatchPruned};
+
+use super::{Entries, Pruned, names_nothing};
+use crate::spare::Spare;
+use crate::subtree::Subtree;
+use tickets::NidToken;
+
+impl<C: Subtree> Entries<C> {
+    /// Hands out one ticket at or past the index, or the token of a node that names nothing.
+    pub fn prune(&mut self, count: usize, entries: usize, from: usize) -> Pruned<Spare<C::Leaf>>
+        requires some { 0 < entries }
+        requires fits { C.span_of entries < 2 ^ 64 }
+        requires fits_all { count * C.span_of entries < 2 ^ 64 }
+        requires shaped { ShapedIn (C.shaped entries) count self.old.slots.items }
+        ensures shaped { ShapedIn (C.shaped entries) count self.new.slots.items }
+        ensures cases { MatchPruned result
+            (λ spare. HandsOut (find_in (C.find entries) (C.span_of entries) self.old.slots.items) (find_in (C.find entries) (C.span_of entries) self.new.slots.items) from spare)
+            ((self.new ≡ self.old) × EmptyFrom (find_in (C.find entries) (C.span_of entries) self.old.slots.items) from × (from ≢ 0))
+            ((self.new ≡ self.old) × AreNone self.old.slots.items) }
+        ensures change { MatchPruned result
+            (λ spare. (out : Weighing C.Leaf → ℕ) × WeighsAs spare out × ChangesEntries C.number C.weight self.old.slots.items self.new.slots.items self.old.dirty self.new.dirty out nothing)
+            (Unit {0}) (Unit {0}) }
+    {
+        let span = C::span(entries);
+        let first = from / span;
+        let mut at = count;
+        while at > first {
+            at -= 1;
+            if let Some(spare) = self.prune_at(at, entries, from.saturating_sub(at * span)) {
+                return Pruned::Found(spare);
+            }
+        }
+        if names_nothing(&self.slots) {
+            Pruned::Empty
+        } else {
+            Pruned::Kept
+        }
+    }
+
+    /// The same, where entries that name nothing stay.
+    pub fn cut(&mut self, count: usize, entries: usize, from: usize) -> Option<Spare<C::Leaf>>
+        requires some { 0 < entries }
+        requires fits { C.span_of entries < 2 ^ 64 }
+        requires fits_all { count * C.span_of entries < 2 ^ 64 }
+        requires shaped { ShapedIn (C.shaped entries) count self.old.slots.items }
+        ensures shaped { ShapedIn (C.shaped entries) count self.new.slots.items }
+        ensures none { MatchOption result
+            ((self.new ≡ self.old) × EmptyFrom (find_in (C.find entries) (C.span_of entries) self.old.slots.items) from × (from ≡ 0 → AreNone self.old.slots.items))
+            (λ _. Unit {0}) }
+        ensures out { MatchOption result (Unit {0})
+            (λ spare. HandsOut (find_in (C.find entries) (C.span_of entries) self.old.slots.items) (find_in (C.find entries) (C.span_of entries) self.new.slots.items) from spare) }
+        ensures change { MatchOption result (Unit {0})
+            (λ spare. (out : Weighing C.Leaf → ℕ) × WeighsAs spare out × ChangesEntries C.number C.weight self.old.slots.items self.new.slots.items self.old.dirty self.new.dirty out nothing) }
+    {
+        match self.prune(count, entries, from) {
+            Pruned::Found(spare) => Some(spare),
+            Pruned::Kept => None,
+            Pruned::Empty => None,
+        }
+    }
+
+    /// Hands out the token of a node on the way to the index that names nothing.
+    pub fn prune_path(&mut self, count: usize, entries: usize, index: usize) -> Pruned<NidToken>
+        requires some { 0 < entries }
+        requires fits { C.span_of entries < 2 ^ 64 }
+        requires inside { index < count * C.span_of entries }
+        requires shaped { ShapedIn (C.shaped entries) count self.old.slots.items }
+        ensures same { Same (find_in (C.find entries) (C.span_of entries) self.old.slots.items) (find_in (C.find entries) (C.span_of entries) self.new.slots.items) }
+        ensures shaped { ShapedIn (C.shaped entries) count self.new.slots.items }
+        ensures none { MatchPruned result (λ _. Unit {0})
+            ((self.new ≡ self.old) × FullIn (C.full entries) (C.span_of entries) self.old.slots.items index × (AreNone self.old.slots.items → ⊥))
+            ((self.new ≡ self.old) × FullIn (C.full entries) (C.span_of entries) self.old.slots.items index × AreNone self.old.slots.items) }
+        ensures change { MatchPruned result
+            (λ token. (n : TreeNode) × (n.token ≡ token) × ChangesEntries C.number C.weight self.old.slots.items self.new.slots.items self.old.dirty self.new.dirty (λ w. w.node n) nothing)
+            (Unit {0}) (Unit {0}) }
+    {
+        let span = C::span(entries);
+        if let Some(token) = self.trim_at(index / span, entries, index % span) {
+            return Pruned::Found(token);
+        }
+        if names_nothing(&self.slots) {
+            Pruned::Empty
+        } else {
+            Pruned::Kept
+        }
+    }
+
+    /// The same, where entries that name nothing stay.
+    pub fn trim(&mut self, count: usize, entries: usize, index: usize) -> Option<NidToken>
+        requires some { 0 < entries }
+        requires fits { C.span_of entries < 2 ^ 64 }
+        requires inside { index < count * C.span_of entries }
+        requires shaped { ShapedIn (C.shaped entries) count self.old.slots.items }
+        ensures same { Same (find_in (C.find entries) (C.span_of entries) self.old.slots.items) (find_in (C.find entries) (C.span_of entries) self.new.slots.items) }
+        ensures shaped { ShapedIn (C.shaped entries) count self.new.slots.items }
+        ensures none { MatchOption result ((self.new ≡ self.old) × FullIn (C.full entries) (C.span_of entries) self.old.slots.items index) (λ _. Unit {0}) }
+        ensures change { MatchOption result (Unit {0})
+            (λ token. (n : TreeNode) × (n.token ≡ token) × ChangesEntries C.number C.weight self.old.slots.items self.new.slots.items self.old.dirty self.new.dirty (λ w. w.node n) nothing) }
+    {
+        match self.prune_path(count, entries, index) {
+            Pruned::Found(token) => Some(token),
+            Pruned::Kept => None,
+            Pruned::Empty => None,
+        }
+    }
+
+    fn prune_at(&mut self, at: usize, entries: usize, from: usize) -> Option<Spare<C::Leaf>>
+        requires at { at < length self.old.slots.items }
+        requires some { 0 < entries }
+        requires fits { C.span_of entries < 2 ^ 64 }
+        requires shaped { C.shaped entries (entry_at self.old.slots.items at) }
+        ensures entry { self.new.slots.items ≡ slice_set self.old.slots.items at (entry_at self.new.slots.items at) }
+        ensures shaped { C.shaped entries (entry_at self.new.slots.items at) }
+        ensures none { MatchOption result
+            ((self.new ≡ self.old) × EmptyFrom (C.find entries (entry_at self.old.slots.items at)) from × (from ≡ 0 → entry_at self.old.slots.items at ≡ None))
+            (λ _. Unit {0}) }
+        ensures out { MatchOption result (Unit {0})
+            (λ spare. HandsOut (C.find entries (entry_at self.old.slots.items at)) (C.find entries (entry_at self.new.slots.items at)) from spare) }
+        ensures change { MatchOption result (Unit {0})
+            (λ spare. (out : Weighing C.Leaf → ℕ) × WeighsAs spare out × ChangesEntries C.number C.weight self.old.slots.items self.new.slots.items self.old.dirty self.new.dirty out nothing) }
+    {
+        let Some(spare) = C::prune(&mut self.slots[at], entries, from) else {
+            return None;
+        };
+        let emptied = self.slots[at].is_none();
+        self.mark(emptied);
+        Some(spare)
+    }
+
+    fn trim_at(&mut self, at: usize, entries: usize, index: usize) -> Option<NidToken>
+        requires at { at < length self.old.slots.items }
+        requires some { 0 < entries }
+        requires fits { C.span_of entries < 2 ^ 64 }
+        requires inside { index < C.span_of entries }
+        requires shaped { C.shaped entries (entry_at self.old.slots.items at) }
+        ensures entry { self.new.slots.items ≡ slice_set self.old.slots.items at (entry_at self.new.slots.items at) }
+        ensures same { Same (C.find entries (entry_at self.old.slots.items at)) (C.find entries (entry_at self.new.slots.items at)) }
+        ensures shaped { C.shaped entries (entry_at self.new.slots.items at) }
+        ensures none { MatchOption result ((self.new ≡ self.old) × C.full entries (entry_at self.old.slots.items at) index) (λ _. Unit {0}) }
+        ensures change { MatchOption result (Unit {0})
+            (λ token. (n : TreeNode) × (n.token ≡ token) × ChangesEntries C.number C.weight self.old.slots.items self.new.slots.items self.old.dirty self.new.dirty (λ w. w.node n) nothing) }
+    {
+        let Some(token) = C::trim(&mut self.slots[at], entries, index) else {
+            return None;
+        };
+        let emptied = self.slots[at].is_none();
+        self.mark(emptied);
+        Some(token)
+    }
+}

@@ -1,0 +1,13 @@
+//! The tree of nodes below an inode, of any depth: what stands at each index, and which nodes a call changes and marks.
+//! All of it is written, and proved, once for all depths.
+#![tactic(auto)]
+
+mod branch;
+mod entries;
+mod spare;
+mod subtree;
+
+pub use branch::Branch;
+pub use entries::{Entries, Pruned};
+pub use spare::Spare;
+pub use subtree::Subtree;
