@@ -1,6 +1,9 @@
 -- The premises of the crash law can be met: a format, a file of one block, and a pack of version 2.
-use Rattle.std.proofs.Common.{◌≡◌, refl, sym, ap, subst, ℕ, zero, suc, ◌<◌, false, IsTrue, List, [], ◌∷◌, get_or, replicate, arith}
-use Rattle.std.specs.Prelude.{Option, Some, None, IsSome, unwrap_or, ◌==◌, nat_lt, if◌then◌else◌}
+use Rattle.std.proofs.Common.{◌≡◌, refl, sym, ◌∙◌, ap, subst, ℕ, zero, suc, ◌<◌, inl, inr, Bool, true, false, IsTrue, List, [], ◌∷◌, get_or, replicate, arith}
+use Rattle.std.proofs.lemmas.Bool.{eqb-false}
+use Rattle.std.proofs.lemmas.Bool.Decides.{leb_tells}
+use Rattle.std.proofs.lemmas.List.{get_or-replicate, get_or_past}
+use Rattle.std.specs.Prelude.{Option, Some, None, IsSome, is_some, unwrap_or, ◌==◌, nat_lt, if◌then◌else◌}
 use Rattle.geometry.specs.declared.owner.Owner.{Owner}
 use Rattle.geometry.specs.Summary.{summary_of}
 use Rattle.geometry.specs.declared.shape.Shape.TheVariants.{Tiny}
@@ -11,7 +14,9 @@ use Rattle.image.specs.Rules.{IsLawful, MarkedIsNamed}
 use Rattle.image.specs.Reading.{image_in, number_at}
 use Rattle.image.specs.Pack.{pack_body}
 use Rattle.geometry.specs.declared.state.State.TheVariants.{Free, Open}
-use Rattle.crash.specs.Core.{idle, Core, append, write_body, sync, write_footer, advance, Run, IsFormatted, MayWrite, appended}
+use Rattle.geometry.specs.Address.{segment_of, offset_of}
+use Rattle.geometry.specs.Segment.{unfilled, filled, IsVacant}
+use Rattle.crash.specs.Core.{idle, Segment, Core, owner_at, append, write_body, sync, write_footer, advance, Run, IsFormatted, MayWrite, appended}
 use Rattle.image.proofs.Testing.{lawful_by_tests}
 use Rattle.crash.proofs.Keeping.{by_place}
 use Rattle.image.proofs.Examples.{small, plain_segment, segment_with_first, one_inode, one_file, one_file_is_lawful}
@@ -67,9 +72,10 @@ unfoldable pub begin : Core
 begin = record {
   blocks = λ address. [];
   loose = λ address. false;
-  owners = λ address. None;
-  segments = λ segment. (if nat_lt segment 6 then record { stage = record { state = Open; incarnation = 1; stamp = 0 }; next = 0 }
-      else record { stage = record { state = Free; incarnation = 0; stamp = 0 }; next = 0 });
+  segments = λ segment. record {
+    stage = if nat_lt segment 6 then record { state = Open; incarnation = 1; stamp = 0 } else record { state = Free; incarnation = 0; stamp = 0 };
+    fill = unfilled 8;
+  };
   version = 1;
   slots = λ slot. (if slot == 1 then record { body = empty_body; footer = 1 } else record { body = []; footer = 0 });
   phase = idle;
@@ -82,6 +88,14 @@ nothing_marked a marked =
     let named : MarkedIsNamed small empty_image = empty_is_lawful 8 (omega arith) (omega arith) in
     let within = (named a marked).1 in omega arith
 
+-- of eight blocks nobody names one
+none_named : IsVacant (unfilled 8)
+none_named offset =
+    elim (leb_tells 8 offset) [
+      | inl (e, past) ↦ get_or_past (replicate {A = Option Owner} 8 None) offset None past
+      | inr (e, within) ↦ get_or-replicate {A = Option Owner} 8 offset None None within
+    ]
+
 pub begins : IsFormatted small begin
 unfolding begin empty_body small empty_image plain_segment
 begins = record {
@@ -92,7 +106,7 @@ begins = record {
   empty_slot = refl;
   lawful = subst (IsLawful small) (sym empty_reads_back) empty_is_lawful;
   no_mark = subst (λ (i : Image). (a : ℕ) → ¬ IsTrue (is_marked small i a)) (sym empty_reads_back) nothing_marked;
-  no_owner = λ a. refl;
+  no_owner = λ segment. none_named;
   written = refl;
 }
 
@@ -110,26 +124,53 @@ one_file_read : image_in small next_body with_node.blocks ≡ one_file
 unfolding small one_file one_inode plain_segment segment_with_first next_body with_node with_data begin image_in
 one_file_read = refl
 
-owned : (a : ℕ) → IsTrue (is_marked small one_file a) → IsSome (with_node.owners a)
+owned : (a : ℕ) → IsTrue (is_marked small one_file a) → IsSome (owner_at Tiny with_node.segments a)
 unfolding small one_file one_inode plain_segment segment_with_first with_node with_data begin
 owned a marked =
     let named : MarkedIsNamed small one_file = one_file_is_lawful 8 (omega arith) (omega arith) in
     let found = named a marked in
     place found.0 found.1 found.2
   where
-    place : (k : ℕ) → k < 2 → get_or {A = ℕ} (9 ∷ 33 ∷ []) k a ≡ a → IsSome (with_node.owners a)
-    place zero within is = subst (λ (x : ℕ). IsSome (with_node.owners x)) is refl
-    place (suc zero) within is = subst (λ (x : ℕ). IsSome (with_node.owners x)) is refl
+    place : (k : ℕ) → k < 2 → get_or {A = ℕ} (9 ∷ 33 ∷ []) k a ≡ a → IsSome (owner_at Tiny with_node.segments a)
+    place zero within is = subst (λ (x : ℕ). IsSome (owner_at Tiny with_node.segments x)) is refl
+    place (suc zero) within is = subst (λ (x : ℕ). IsSome (owner_at Tiny with_node.segments x)) is refl
     place (suc (suc k)) within is = absurd (omega arith)
 
-told : (a : ℕ) (owner : Owner) → with_node.owners a ≡ Some owner → IsTrue (is_marked small one_file a) × (summary_at one_file a ≡ summary_of owner)
+none_some : (o : Option Owner) (owner : Owner) → o ≡ None → o ≡ Some owner → ⊥
+none_some o owner none some = let no = ap is_some (sym none ∙ some) in cc
+
+-- where the first block alone is named, a named block is the first
+only_first : (first owner : Owner) (offset : ℕ) → get_or (filled first (unfilled 8)).owners offset None ≡ Some owner → (offset ≡ 0) × (Some first ≡ Some owner)
+only_first first owner zero e = (refl, e)
+only_first first owner (suc offset) e = absurd (none_some _ owner (none_named (suc offset)) e)
+
+not_zero : (zero : Bool) (o : Option Owner) (owner : Owner) → (if zero then None else o) ≡ Some owner → (zero ≡ false) × (o ≡ Some owner)
+not_zero true o owner e = absurd cc
+not_zero false o owner e = (refl, e)
+
+abbrev Told : ℕ → Owner → Type 0
+Told a owner = IsTrue (is_marked small one_file a) × (summary_at one_file a ≡ summary_of owner)
+
+told : (a : ℕ) (owner : Owner) → owner_at Tiny with_node.segments a ≡ Some owner → Told a owner
 unfolding small one_file one_inode plain_segment segment_with_first with_node with_data begin
-told a owner =
-    by_place (λ (o : Option Owner). o ≡ Some owner → IsTrue (is_marked small one_file a) × (summary_at one_file a ≡ summary_of owner)) with_data.owners 9 (Some (Node 1)) a
-    (λ is e. subst (λ (x : ℕ). IsTrue (is_marked small one_file x) × (summary_at one_file x ≡ summary_of owner)) (sym is) (refl, ap (λ (o : Option Owner). summary_of (unwrap_or o owner)) e))
-    (λ isn't. by_place (λ (o : Option Owner). o ≡ Some owner → IsTrue (is_marked small one_file a) × (summary_at one_file a ≡ summary_of owner)) begin.owners 33 (Some (Data 1 0)) a
-    (λ is e. subst (λ (x : ℕ). IsTrue (is_marked small one_file x) × (summary_at one_file x ≡ summary_of owner)) (sym is) (refl, ap (λ (o : Option Owner). summary_of (unwrap_or o owner)) e))
-    (λ isn't e. absurd cc))
+told a owner e =
+    let named = not_zero (a == 0) _ owner e in
+    let some = eqb-false a 0 named.0 in
+    by_place (λ (s : Segment). get_or s.fill.owners (offset_of Tiny a) None ≡ Some owner → Told a owner) with_data.segments 1
+    (record { stage = (begin.segments 1).stage; fill = filled (Node 1) (unfilled 8) }) (segment_of Tiny a)
+    (λ is has.
+    let first = only_first (Node 1) owner (offset_of Tiny a) has in
+    let place = first.0 in
+    let at : 9 ≡ a = omega arith in
+    subst (λ (x : ℕ). Told x owner) at (refl, ap (λ (o : Option Owner). summary_of (unwrap_or o owner)) first.1))
+    (λ isn't. by_place (λ (s : Segment). get_or s.fill.owners (offset_of Tiny a) None ≡ Some owner → Told a owner) begin.segments 4
+    (record { stage = (begin.segments 4).stage; fill = filled (Data 1 0) (unfilled 8) }) (segment_of Tiny a)
+    (λ is has.
+    let first = only_first (Data 1 0) owner (offset_of Tiny a) has in
+    let place = first.0 in
+    let at : 33 ≡ a = omega arith in
+    subst (λ (x : ℕ). Told x owner) at (refl, ap (λ (o : Option Owner). summary_of (unwrap_or o owner)) first.1))
+    (λ isn't has. absurd (none_some _ owner (none_named (offset_of Tiny a)) has))) named.1
 
 version_of_body : number_at next_body 0 ≡ 2
 unfolding next_body one_file
@@ -141,8 +182,8 @@ may_write = record {
   phase = refl;
   lawful = subst (IsLawful small) (sym one_file_read) one_file_is_lawful;
   version = version_of_body;
-  marks = subst (λ (i : Image). (a : ℕ) → IsTrue (is_marked small i a) → IsSome (with_node.owners a)) (sym one_file_read) owned;
-  owners = subst (λ (i : Image). (a : ℕ) (owner : Owner) → with_node.owners a ≡ Some owner → IsTrue (is_marked small i a) × (summary_at i a ≡ summary_of owner)) (sym one_file_read) told;
+  marks = subst (λ (i : Image). (a : ℕ) → IsTrue (is_marked small i a) → IsSome (owner_at Tiny with_node.segments a)) (sym one_file_read) owned;
+  owners = subst (λ (i : Image). (a : ℕ) (owner : Owner) → owner_at Tiny with_node.segments a ≡ Some owner → IsTrue (is_marked small i a) × (summary_at i a ≡ summary_of owner)) (sym one_file_read) told;
 }
 
 -- a run that completes version 2

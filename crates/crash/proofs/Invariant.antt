@@ -1,7 +1,6 @@
 -- What holds of the core machine after any events.
-use Rattle.geometry.specs.declared.owner.Owner.{Owner}
-use Rattle.std.proofs.Common.{◌≡◌, ℕ, ◌+◌, ◌<◌, ◌≤◌, Bool, false, IsTrue, List}
-use Rattle.std.specs.Prelude.{Option, IsSome, Contains}
+use Rattle.std.proofs.Common.{◌≡◌, ℕ, ◌+◌, ◌<◌, ◌≤◌, Bool, false, IsTrue, List, None, get_or}
+use Rattle.std.specs.Prelude.{IsSome, Contains}
 use Rattle.geometry.specs.declared.shape.Shape.{Shape}
 use Rattle.geometry.specs.declared.geometry.Geometry.{Geometry}
 use Rattle.geometry.specs.Address.{segment_of, offset_of}
@@ -12,7 +11,7 @@ use Rattle.image.specs.Reading.{image_in, number_at}
 use Rattle.image.specs.Pack.{Slot}
 use Rattle.geometry.specs.declared.state.State.{State}
 use Rattle.geometry.specs.declared.state.State.TheVariants.{Free, Open, Sealed, Prefree}
-use Rattle.crash.specs.Core.{Segment, Written, Phase, idle, body_written, body_synced, footer_written, footer_synced, mending, Core, current, other}
+use Rattle.crash.specs.Core.{Segment, Written, Phase, idle, body_written, body_synced, footer_written, footer_synced, mending, Core, current, other, owner_at}
 
 -- an address that the image of a written body marks
 pub Marks : Geometry → Written → ℕ → Type 0
@@ -37,7 +36,7 @@ IsSafeAs Free c stamp next offset = ⊥
 
 abbrev pub IsSafe : Shape → ℕ → (ℕ → Segment) → ℕ → Type 0
 IsSafe shape c segments address =
-    let s = segments (segment_of shape address) in IsSafeAs s.stage.state c s.stage.stamp s.next (offset_of shape address)
+    let s = segments (segment_of shape address) in IsSafeAs s.stage.state c s.stage.stamp s.fill.next (offset_of shape address)
 
 -- a place of a segment that may hold a marked block
 abbrev pub IsLiveAs : State → ℕ → ℕ → Type 0
@@ -48,7 +47,7 @@ IsLiveAs Free next offset = ⊥
 
 abbrev pub IsLive : Shape → (ℕ → Segment) → ℕ → Type 0
 IsLive shape segments address =
-    let s = segments (segment_of shape address) in IsLiveAs s.stage.state s.next (offset_of shape address)
+    let s = segments (segment_of shape address) in IsLiveAs s.stage.state s.fill.next (offset_of shape address)
 
 -- a body of this version that stands in this slot
 pub record IsStored (geometry : Geometry) (written : List Written) (slot : Slot) (version : ℕ) (w : Written) : Type 0 where
@@ -67,11 +66,15 @@ Settled geometry loose w = (address : ℕ) → Marks geometry w address → loos
 abbrev pub AllSafe : Geometry → ℕ → (ℕ → Segment) → Written → Type 0
 AllSafe geometry c segments w = (address : ℕ) → Marks geometry w address → IsSafe geometry.shape c segments address
 
-abbrev pub AllOwned : Geometry → (ℕ → Option Owner) → Written → Type 0
-AllOwned geometry owners w = (address : ℕ) → Marks geometry w address → IsSome (owners address)
+abbrev pub AllOwned : Geometry → (ℕ → Segment) → Written → Type 0
+AllOwned geometry segments w = (address : ℕ) → Marks geometry w address → IsSome (owner_at geometry.shape segments address)
 
-abbrev pub AllLive : Geometry → (ℕ → Option Owner) → (ℕ → Segment) → Type 0
-AllLive geometry owners segments = (address : ℕ) → IsSome (owners address) → IsLive geometry.shape segments address
+-- only places that may hold a marked block are named
+abbrev pub NamesLive : Segment → Type 0
+NamesLive s = (offset : ℕ) → IsSome (get_or s.fill.owners offset None) → IsLiveAs s.stage.state s.fill.next offset
+
+abbrev pub AllLive : (ℕ → Segment) → Type 0
+AllLive segments = (segment : ℕ) → NamesLive (segments segment)
 
 -- the next pack in the slot that is written
 pub record IsNext (geometry : Geometry) (m : Core) (w : Written) : Type 0 where
@@ -83,16 +86,16 @@ abbrev pub Pending : Geometry → Core → Phase → Type 0
 Pending geometry m idle = (m.slots (other (current m.version))).footer < m.version
 Pending geometry m body_written =
     ((m.slots (other (current m.version))).footer < m.version)
-    × ((w : Written) × IsNext geometry m w × AllOwned geometry m.owners w)
+    × ((w : Written) × IsNext geometry m w × AllOwned geometry m.segments w)
 Pending geometry m body_synced =
     ((m.slots (other (current m.version))).footer < m.version)
-    × ((w : Written) × IsNext geometry m w × AllOwned geometry m.owners w × Settled geometry m.loose w)
+    × ((w : Written) × IsNext geometry m w × AllOwned geometry m.segments w × Settled geometry m.loose w)
 Pending geometry m footer_written =
     ((m.slots (other (current m.version))).footer ≡ m.version + 1)
-    × ((w : Written) × IsNext geometry m w × AllOwned geometry m.owners w × Settled geometry m.loose w)
+    × ((w : Written) × IsNext geometry m w × AllOwned geometry m.segments w × Settled geometry m.loose w)
 Pending geometry m footer_synced =
     ((m.slots (other (current m.version))).footer ≡ m.version + 1)
-    × ((w : Written) × IsNext geometry m w × AllOwned geometry m.owners w × Settled geometry m.loose w)
+    × ((w : Written) × IsNext geometry m w × AllOwned geometry m.segments w × Settled geometry m.loose w)
 Pending geometry m mending =
     ((m.slots (other (current m.version))).footer < m.version)
     × ((w : Written) × IsNext geometry m w × Settled geometry m.loose w)
@@ -106,4 +109,4 @@ pub record Invariant (geometry : Geometry) (m : Core) : Type 0 where
   pub settled : Settled geometry m.loose now
   pub safe : AllSafe geometry m.version m.segments now
   pub pending : Pending geometry m m.phase
-  pub live : AllLive geometry m.owners m.segments
+  pub live : AllLive m.segments

@@ -1,7 +1,8 @@
 -- Each event keeps the invariant.
 use Rattle.geometry.specs.declared.owner.Owner.{Owner}
-use Rattle.std.proofs.Common.{◌≡◌, ◌≢◌, refl, sym, ◌∙◌, ap, subst, ℕ, suc, ◌+◌, ◌<◌, inl, inr, Bool, true, List, ◌∷◌, arith}
-use Rattle.std.specs.Prelude.{Option, Some, None, IsSome, Contains}
+use Rattle.std.proofs.Common.{◌≡◌, ◌≢◌, refl, sym, ◌∙◌, ap, subst, ℕ, zero, suc, ◌+◌, ◌<◌, ◌≤◌, inl, inr, Bool, true, false, List, [], ◌∷◌, get_or, set, arith}
+use Rattle.std.specs.Prelude.{Option, Some, None, IsSome, is_some, Contains, ◌==◌, if◌then◌else◌}
+use Rattle.std.proofs.lemmas.List.{get_or-set_other}
 use Rattle.std.proofs.lemmas.Bool.{ne_eqb, eq-eqb}
 use Rattle.std.proofs.lemmas.Bool.Decides.{eqb_tells}
 use Rattle.geometry.specs.declared.shape.Shape.{Shape}
@@ -12,9 +13,10 @@ use Rattle.image.specs.Pack.{Slot}
 use Rattle.geometry.specs.declared.state.State.{State}
 use Rattle.geometry.specs.declared.state.State.TheVariants.{Free, Open, Sealed, Prefree}
 use Rattle.geometry.specs.Life.{Stage, StepFrom, LifeStep}
-use Rattle.crash.specs.Core.{Segment, Written, Phase, idle, body_written, body_synced, footer_written, footer_synced, mending, Core, current, other, changed, next_address, HasRoom, appended, spoiled, released, MayMove, moved, next_after, MayWrite, with_body, with_footer, synced, phase_after_sync, advanced}
+use Rattle.geometry.specs.Segment.{Fill, filled, vacated, next_after, fill_after}
+use Rattle.crash.specs.Core.{Segment, Written, Phase, idle, body_written, body_synced, footer_written, footer_synced, mending, Core, current, other, changed, owner_at, next_address, refilled, HasRoom, appended, spoiled, released, MayMove, moved, MayWrite, with_body, with_footer, synced, phase_after_sync, advanced}
 use Rattle.geometry.proofs.Addresses.{segment_of-address_of, offset_of-address_of}
-use Rattle.crash.proofs.Invariant.{marks_are, IsSafeAs, IsSafe, IsLiveAs, IsLive, AllLive, IsNext, Pending, Invariant}
+use Rattle.crash.proofs.Invariant.{marks_are, IsSafeAs, IsSafe, IsLiveAs, IsLive, NamesLive, AllLive, IsNext, Pending, Invariant}
 use Rattle.geometry.specs.Shape.{segment_blocks}
 
 pub changed_elsewhere : {X : Type 0} (f : ℕ → X) (at : ℕ) (value : X) (k : ℕ) → k ≢ at → changed f at value k ≡ f k
@@ -38,11 +40,11 @@ live_is_safe Sealed c stamp next offset h = tt
 live_is_safe Prefree c stamp next offset h = absurd h
 live_is_safe Free c stamp next offset h = absurd h
 
-safe_more : (state : State) (c stamp next offset : ℕ) → IsSafeAs state c stamp next offset → IsSafeAs state c stamp (next + 1) offset
-safe_more Open c stamp next offset h = omega arith
-safe_more Sealed c stamp next offset h = tt
-safe_more Prefree c stamp next offset h = h
-safe_more Free c stamp next offset h = h
+safe_more : (state : State) (c stamp next next' offset : ℕ) → next ≤ next' → IsSafeAs state c stamp next offset → IsSafeAs state c stamp next' offset
+safe_more Open c stamp next next' offset le h = omega arith
+safe_more Sealed c stamp next next' offset le h = tt
+safe_more Prefree c stamp next next' offset le h = h
+safe_more Free c stamp next next' offset le h = h
 
 live_more : (state : State) (next offset : ℕ) → IsLiveAs state next offset → IsLiveAs state (next + 1) offset
 live_more Open next offset h = omega arith
@@ -50,15 +52,27 @@ live_more Sealed next offset h = tt
 live_more Prefree next offset h = h
 live_more Free next offset h = h
 
+pub none_owned : (o : Option Owner) → o ≡ None → IsSome o → ⊥
+none_owned o e h = let f = ap is_some e in cc
+
+not_zero : (zero : Bool) (o : Option Owner) → IsSome (if zero then None else o) → IsSome o
+not_zero true o h = absurd (none_owned None refl h)
+not_zero false o h = h
+
+-- a place whose block has an owner is named in its segment
+named_there : (shape : Shape) (segments : ℕ → Segment) (a : ℕ) → IsSome (owner_at shape segments a)
+    → IsSome (get_or (segments (segment_of shape a)).fill.owners (offset_of shape a) None)
+named_there shape segments a h = not_zero (a == 0) _ h
+
 -- an event of an idle machine that leaves safe blocks alone, and keeps safe places safe
-quiet_keeps : (geometry : Geometry) (m : Core) (blocks : ℕ → Block) (loose : ℕ → Bool) (owners : ℕ → Option Owner) (segments : ℕ → Segment)
+quiet_keeps : (geometry : Geometry) (m : Core) (blocks : ℕ → Block) (loose : ℕ → Bool) (segments : ℕ → Segment)
     → m.phase ≡ idle → Invariant geometry m
     → ((a : ℕ) → IsSafe geometry.shape m.version m.segments a → blocks a ≡ m.blocks a)
     → ((a : ℕ) → IsSafe geometry.shape m.version m.segments a → loose a ≡ m.loose a)
     → ((a : ℕ) → IsSafe geometry.shape m.version m.segments a → IsSafe geometry.shape m.version segments a)
-    → AllLive geometry owners segments
-    → Invariant geometry (record m { blocks = blocks; loose = loose; owners = owners; segments = segments })
-quiet_keeps geometry m blocks loose owners segments phase inv same_blocks same_loose safe live = record {
+    → AllLive segments
+    → Invariant geometry (record m { blocks = blocks; loose = loose; segments = segments })
+quiet_keeps geometry m blocks loose segments phase inv same_blocks same_loose safe live = record {
   now = inv.now;
   stored = inv.stored;
   positive = inv.positive;
@@ -66,92 +80,95 @@ quiet_keeps geometry m blocks loose owners segments phase inv same_blocks same_l
   same = λ a h. same_blocks a (inv.safe a h) ∙ inv.same a h;
   settled = λ a h. same_loose a (inv.safe a h) ∙ inv.settled a h;
   safe = λ a h. safe a (inv.safe a h);
-  pending = subst (Pending geometry (record m { blocks = blocks; loose = loose; owners = owners; segments = segments })) (sym phase)
+  pending = subst (Pending geometry (record m { blocks = blocks; loose = loose; segments = segments })) (sym phase)
       (subst (Pending geometry m) phase inv.pending);
   live = live;
 }
 
 safe_at : (shape : Shape) (c : ℕ) (segments : ℕ → Segment) (segment offset : ℕ) → offset < segment_blocks shape
     → IsSafe shape c segments (address_of shape segment offset)
-    → IsSafeAs (segments segment).stage.state c (segments segment).stage.stamp (segments segment).next offset
+    → IsSafeAs (segments segment).stage.state c (segments segment).stage.stamp (segments segment).fill.next offset
 safe_at shape c segments segment offset h safe =
-    let in_segment = subst (λ (s : ℕ). IsSafeAs (segments s).stage.state c (segments s).stage.stamp (segments s).next (offset_of shape (address_of shape segment offset)))
+    let in_segment = subst (λ (s : ℕ). IsSafeAs (segments s).stage.state c (segments s).stage.stamp (segments s).fill.next (offset_of shape (address_of shape segment offset)))
     (segment_of-address_of shape segment offset h) safe in
-    subst (λ (o : ℕ). IsSafeAs (segments segment).stage.state c (segments segment).stage.stamp (segments segment).next o)
+    subst (λ (o : ℕ). IsSafeAs (segments segment).stage.state c (segments segment).stage.stamp (segments segment).fill.next o)
     (offset_of-address_of shape segment offset h) in_segment
+
+pub live_at : (shape : Shape) (segments : ℕ → Segment) (segment offset : ℕ) → offset < segment_blocks shape → IsLive shape segments (address_of shape segment offset)
+    → IsLiveAs (segments segment).stage.state (segments segment).fill.next offset
+live_at shape segments segment offset h live =
+    let in_segment = subst (λ (s : ℕ). IsLiveAs (segments s).stage.state (segments s).fill.next (offset_of shape (address_of shape segment offset)))
+    (segment_of-address_of shape segment offset h) live in
+    subst (λ (o : ℕ). IsLiveAs (segments segment).stage.state (segments segment).fill.next o) (offset_of-address_of shape segment offset h) in_segment
 
 -- a safe place is not the next one of a segment
 away : (geometry : Geometry) (m : Core) (segment a : ℕ) → HasRoom geometry m segment
     → IsSafe geometry.shape m.version m.segments a → a ≢ next_address geometry.shape m segment
 away geometry m segment a room safe e =
-    let there = safe_at geometry.shape m.version m.segments segment (m.segments segment).next room.room
+    let there = safe_at geometry.shape m.version m.segments segment (m.segments segment).fill.next room.room
     (subst (IsSafe geometry.shape m.version m.segments) e safe) in
-    let again : (m.segments segment).next < (m.segments segment).next =
-    subst (λ (st : State). IsSafeAs st m.version (m.segments segment).stage.stamp (m.segments segment).next (m.segments segment).next) room.state there in
+    let again : (m.segments segment).fill.next < (m.segments segment).fill.next =
+    subst (λ (st : State). IsSafeAs st m.version (m.segments segment).stage.stamp (m.segments segment).fill.next (m.segments segment).fill.next) room.state there in
     omega arith
 
 pub spoil_keeps : (geometry : Geometry) (m : Core) (segment : ℕ) (block : Block) → HasRoom geometry m segment
     → Invariant geometry m → Invariant geometry (spoiled geometry.shape m segment block)
 spoil_keeps geometry m segment block room inv =
-    quiet_keeps geometry m _ _ m.owners m.segments room.phase inv
+    quiet_keeps geometry m _ _ m.segments room.phase inv
     (λ a safe. changed_elsewhere m.blocks (next_address geometry.shape m segment) block a (away geometry m segment a room safe))
     (λ a safe. changed_elsewhere m.loose (next_address geometry.shape m segment) true a (away geometry m segment a room safe))
     (λ a safe. safe) inv.live
 
--- one place further, safe places are safe
-safe_grown : (shape : Shape) (c : ℕ) (segments : ℕ → Segment) (segment a : ℕ) → IsSafe shape c segments a
-    → IsSafe shape c (changed segments segment (record { stage = (segments segment).stage; next = (segments segment).next + 1 })) a
-safe_grown shape c segments segment a safe =
-    by_place (λ (s : Segment). IsSafeAs s.stage.state c s.stage.stamp s.next (offset_of shape a)) segments segment
-    (record { stage = (segments segment).stage; next = (segments segment).next + 1 }) (segment_of shape a)
-    (λ e. safe_more (segments segment).stage.state c (segments segment).stage.stamp (segments segment).next (offset_of shape a)
-    (subst (λ (s : ℕ). IsSafeAs (segments s).stage.state c (segments s).stage.stamp (segments s).next (offset_of shape a)) e safe))
+-- where the next place of a segment is no earlier, safe places are safe
+pub safe_refilled : (shape : Shape) (c : ℕ) (segments : ℕ → Segment) (segment : ℕ) (fill : Fill) (a : ℕ) → (segments segment).fill.next ≤ fill.next
+    → IsSafe shape c segments a → IsSafe shape c (refilled segments segment fill) a
+safe_refilled shape c segments segment fill a later safe =
+    by_place (λ (s : Segment). IsSafeAs s.stage.state c s.stage.stamp s.fill.next (offset_of shape a)) segments segment
+    (record { stage = (segments segment).stage; fill = fill }) (segment_of shape a)
+    (λ e. safe_more (segments segment).stage.state c (segments segment).stage.stamp (segments segment).fill.next fill.next (offset_of shape a) later
+    (subst (λ (s : ℕ). IsSafeAs (segments s).stage.state c (segments s).stage.stamp (segments s).fill.next (offset_of shape a)) e safe))
     (λ isn't. safe)
 
-live_grown : (shape : Shape) (segments : ℕ → Segment) (segment a : ℕ) → IsLive shape segments a
-    → IsLive shape (changed segments segment (record { stage = (segments segment).stage; next = (segments segment).next + 1 })) a
-live_grown shape segments segment a live =
-    by_place (λ (s : Segment). IsLiveAs s.stage.state s.next (offset_of shape a)) segments segment
-    (record { stage = (segments segment).stage; next = (segments segment).next + 1 }) (segment_of shape a)
-    (λ e. live_more (segments segment).stage.state (segments segment).next (offset_of shape a)
-    (subst (λ (s : ℕ). IsLiveAs (segments s).stage.state (segments s).next (offset_of shape a)) e live))
-    (λ isn't. live)
+-- one segment is filled so that it names live places only
+pub live_refilled : (segments : ℕ → Segment) (segment : ℕ) (fill : Fill) → AllLive segments → NamesLive (record { stage = (segments segment).stage; fill = fill })
+    → AllLive (refilled segments segment fill)
+live_refilled segments segment fill live there k =
+    by_place NamesLive segments segment (record { stage = (segments segment).stage; fill = fill }) k (λ is. there) (λ isn't. live k)
 
--- the place that was next is live once the next one is behind it
-live_next : (geometry : Geometry) (m : Core) (segment : ℕ) → HasRoom geometry m segment
-    → IsLive geometry.shape (changed m.segments segment (record { stage = (m.segments segment).stage; next = (m.segments segment).next + 1 }))
-    (next_address geometry.shape m segment)
-live_next geometry m segment room =
-    by_place (λ (s : Segment). IsLiveAs s.stage.state s.next (offset_of geometry.shape (next_address geometry.shape m segment))) m.segments segment
-    (record { stage = (m.segments segment).stage; next = (m.segments segment).next + 1 }) (segment_of geometry.shape (next_address geometry.shape m segment))
-    (λ e. subst (λ (st : State). IsLiveAs st ((m.segments segment).next + 1) (offset_of geometry.shape (next_address geometry.shape m segment))) (sym room.state)
-    (let o : offset_of geometry.shape (next_address geometry.shape m segment) ≡ (m.segments segment).next
-    = offset_of-address_of geometry.shape segment (m.segments segment).next room.room in omega arith))
-    (λ isn't. absurd (isn't (segment_of-address_of geometry.shape segment (m.segments segment).next room.room)))
+filled_live : (s : Segment) (owner : Owner) → s.stage.state ≡ Open → NamesLive s → NamesLive (record { stage = s.stage; fill = filled owner s.fill })
+filled_live s owner opn live offset has =
+    elim (eqb_tells offset s.fill.next) [
+      | inl (e, is) ↦ subst (λ (st : State). IsLiveAs st (s.fill.next + 1) offset) (sym opn) (omega arith)
+      | inr (e, isn't) ↦ live_more s.stage.state s.fill.next offset
+          (live offset (subst (λ (o : Option Owner). IsSome o) (get_or-set_other s.fill.owners s.fill.next offset (Some owner) None isn't) has))
+    ]
 
 pub append_keeps : (geometry : Geometry) (m : Core) (segment : ℕ) (owner : Owner) (block : Block) → HasRoom geometry m segment
     → Invariant geometry m → Invariant geometry (appended geometry.shape m segment owner block)
 append_keeps geometry m segment owner block room inv =
-    quiet_keeps geometry m _ _ _ _ room.phase inv
+    quiet_keeps geometry m _ _ _ room.phase inv
     (λ a safe. changed_elsewhere m.blocks (next_address geometry.shape m segment) block a (away geometry m segment a room safe))
     (λ a safe. changed_elsewhere m.loose (next_address geometry.shape m segment) true a (away geometry m segment a room safe))
-    (λ a safe. safe_grown geometry.shape m.version m.segments segment a safe)
-    (λ a. by_place (λ (o : Option Owner). IsSome o → IsLive geometry.shape
-    (changed m.segments segment (record { stage = (m.segments segment).stage; next = (m.segments segment).next + 1 })) a)
-    m.owners (next_address geometry.shape m segment) (Some owner) a
-    (λ e owned. subst (IsLive geometry.shape (changed m.segments segment (record { stage = (m.segments segment).stage; next = (m.segments segment).next + 1 })))
-    (sym e) (live_next geometry m segment room))
-    (λ isn't owned. live_grown geometry.shape m.segments segment a (inv.live a owned)))
+    (λ a safe. safe_refilled geometry.shape m.version m.segments segment (filled owner (m.segments segment).fill) a (omega arith) safe)
+    (live_refilled m.segments segment (filled owner (m.segments segment).fill) inv.live (filled_live (m.segments segment) owner room.state (inv.live segment)))
 
-nothing_is_none : IsSome {T = Owner} None → ⊥
-nothing_is_none h = cc
+-- what is named once a place was vacated was named before
+named_before : (owners : List (Option Owner)) (o i : ℕ) → IsSome (get_or (set owners o None) i None) → IsSome (get_or owners i None)
+named_before [] o i h = h
+named_before (x ∷ xs) zero zero h = absurd (none_owned None refl h)
+named_before (x ∷ xs) zero (suc i) h = h
+named_before (x ∷ xs) (suc o) zero h = h
+named_before (x ∷ xs) (suc o) (suc i) h = named_before xs o i h
 
 pub release_keeps : (geometry : Geometry) (m : Core) (address : ℕ) → m.phase ≡ idle
-    → Invariant geometry m → Invariant geometry (released m address)
+    → Invariant geometry m → Invariant geometry (released geometry.shape m address)
 release_keeps geometry m address phase inv =
-    quiet_keeps geometry m m.blocks m.loose _ m.segments phase inv (λ a safe. refl) (λ a safe. refl) (λ a safe. safe)
-    (λ a. by_place (λ (o : Option Owner). IsSome o → IsLive geometry.shape m.segments a) m.owners address None a
-    (λ e owned. absurd (nothing_is_none owned)) (λ isn't owned. inv.live a owned))
+    let segment = segment_of geometry.shape address in
+    let fill = vacated (offset_of geometry.shape address) (m.segments segment).fill in
+    quiet_keeps geometry m m.blocks m.loose _ phase inv (λ a safe. refl) (λ a safe. refl)
+    (λ a safe. safe_refilled geometry.shape m.version m.segments segment fill a (omega arith) safe)
+    (live_refilled m.segments segment fill inv.live
+    (λ offset has. inv.live segment offset (named_before (m.segments segment).fill.owners (offset_of geometry.shape address) offset has)))
 
 move_safe : (c : ℕ) (old new : Stage) (next offset : ℕ) → LifeStep c old new
     → IsSafeAs old.state c old.stamp next offset → IsSafeAs new.state c new.stamp (next_after new.state next) offset
@@ -176,18 +193,17 @@ move_live c old new next offset step live isn't = go old.state step live
 pub move_keeps : (geometry : Geometry) (m : Core) (segment : ℕ) (stage : Stage) → MayMove geometry m segment stage
     → Invariant geometry m → Invariant geometry (moved m segment stage)
 move_keeps geometry m segment stage may inv =
-    quiet_keeps geometry m m.blocks m.loose m.owners _ may.phase inv (λ a safe. refl) (λ a safe. refl)
-    (λ a safe. by_place (λ (s : Segment). IsSafeAs s.stage.state m.version s.stage.stamp s.next (offset_of geometry.shape a)) m.segments segment
-    (record { stage = stage; next = next_after stage.state (m.segments segment).next }) (segment_of geometry.shape a)
-    (λ e. move_safe m.version (m.segments segment).stage stage (m.segments segment).next (offset_of geometry.shape a) may.pair
-    (subst (λ (s : ℕ). IsSafeAs (m.segments s).stage.state m.version (m.segments s).stage.stamp (m.segments s).next (offset_of geometry.shape a)) e safe))
+    let old = m.segments segment in
+    let new : Segment = record { stage = stage; fill = fill_after stage.state old.fill } in
+    quiet_keeps geometry m m.blocks m.loose _ may.phase inv (λ a safe. refl) (λ a safe. refl)
+    (λ a safe. by_place (λ (s : Segment). IsSafeAs s.stage.state m.version s.stage.stamp s.fill.next (offset_of geometry.shape a)) m.segments segment new (segment_of geometry.shape a)
+    (λ e. move_safe m.version old.stage stage old.fill.next (offset_of geometry.shape a) may.pair
+    (subst (λ (s : ℕ). IsSafeAs (m.segments s).stage.state m.version (m.segments s).stage.stamp (m.segments s).fill.next (offset_of geometry.shape a)) e safe))
     (λ isn't. safe))
-    (λ a owned. by_place (λ (s : Segment). IsLiveAs s.stage.state s.next (offset_of geometry.shape a)) m.segments segment
-    (record { stage = stage; next = next_after stage.state (m.segments segment).next }) (segment_of geometry.shape a)
-    (λ e. move_live m.version (m.segments segment).stage stage (m.segments segment).next (offset_of geometry.shape a) may.pair
-    (subst (λ (s : ℕ). IsLiveAs (m.segments s).stage.state (m.segments s).next (offset_of geometry.shape a)) e (inv.live a owned))
-    (λ becomes. may.empty becomes a owned e))
-    (λ isn't. inv.live a owned))
+    (λ k. by_place NamesLive m.segments segment new k
+    (λ is offset has. move_live m.version old.stage stage old.fill.next offset may.pair (inv.live segment offset has)
+    (λ becomes. none_owned _ (may.empty becomes offset) has))
+    (λ isn't. inv.live k))
 
 pub current_not_other : (version : ℕ) → current version ≢ other (current version)
 current_not_other version e = omega arith
@@ -317,7 +333,8 @@ advance_keeps geometry m phase inv =
       same = p.1.1.same;
       settled = p.1.3;
       safe = λ a h. live_is_safe (m.segments (segment_of geometry.shape a)).stage.state (m.version + 1) (m.segments (segment_of geometry.shape a)).stage.stamp
-          (m.segments (segment_of geometry.shape a)).next (offset_of geometry.shape a) (inv.live a (p.1.2 a h));
+          (m.segments (segment_of geometry.shape a)).fill.next (offset_of geometry.shape a)
+          (inv.live (segment_of geometry.shape a) (offset_of geometry.shape a) (named_there geometry.shape m.segments a (p.1.2 a h)));
       pending = (let e : (m.slots (other (current (m.version + 1)))).footer ≡ m.version
           = ap (λ k. (m.slots k).footer) (other_back m.version) ∙ inv.footer in omega arith);
       live = inv.live;

@@ -1,7 +1,6 @@
 -- The crash law: the invariant holds after any events, and it says what a crash leaves.
-use Rattle.geometry.specs.declared.owner.Owner.{Owner}
 use Rattle.std.proofs.Common.{◌≡◌, refl, sym, ◌∙◌, ap, subst, ℕ, ◌<◌, List, [], ◌∷◌, arith}
-use Rattle.std.specs.Prelude.{Option, None, IsSome, is_some, Contains}
+use Rattle.std.specs.Prelude.{Contains}
 use Rattle.geometry.specs.declared.geometry.Geometry.{Geometry}
 use Rattle.image.specs.Reading.{image_in, number_at}
 use Rattle.image.specs.Pack.{Slot}
@@ -9,7 +8,7 @@ use Rattle.image.specs.Files.{files}
 use Rattle.crash.specs.Core.{Written, Core, Left, Event, append, spoil, release, migrate, move, write_body, sync, write_footer, advance, crash, CoreStep, Run, IsFormatted, image_of, current, other, appended}
 use Rattle.crash.specs.Crash.{CrashLaw, IsKept}
 use Rattle.crash.proofs.Invariant.{marks_are, are_marks, Pending, Invariant}
-use Rattle.crash.proofs.Keeping.{append_keeps, spoil_keeps, release_keeps, move_keeps, write_keeps, sync_keeps, footer_keeps, advance_keeps}
+use Rattle.crash.proofs.Keeping.{none_owned, append_keeps, spoil_keeps, release_keeps, move_keeps, write_keeps, sync_keeps, footer_keeps, advance_keeps}
 use Rattle.image.proofs.Frame.{same_files}
 use Rattle.crash.proofs.Mounting.{IsFound, mount_keeps, picked_found, some_picked, found_image, picks}
 
@@ -39,9 +38,6 @@ run_keeps geometry m [] n is inv = subst (Invariant geometry) (sym is) inv
 run_keeps geometry m (event ∷ events) n (mid, step, rest) inv =
     run_keeps geometry mid events n rest (step_keeps geometry m event mid step inv)
 
-none_owned : (o : Option Owner) → o ≡ None → IsSome o → ⊥
-none_owned o e h = let f = ap is_some e in cc
-
 format_begins : (geometry : Geometry) (m : Core) → IsFormatted geometry m → Invariant geometry m
 format_begins geometry m is =
     let slot : m.slots (current m.version) ≡ m.slots 1 = ap (λ v. m.slots (current v)) is.version in
@@ -63,7 +59,7 @@ format_begins geometry m is =
       pending = subst (Pending geometry m) (sym is.phase)
           (let e = ap (λ (s : Slot). s.footer) before ∙ is.empty_slot in
           let low : (m.slots (other (current m.version))).footer < m.version = omega arith in low);
-      live = λ a h. absurd (none_owned (m.owners a) (is.no_owner a) h);
+      live = λ segment offset h. absurd (none_owned _ (is.no_owner segment offset) h);
     }
 
 version_of_image : (geometry : Geometry) (body : List ℕ) (blocks : ℕ → List ℕ) → (image_in geometry body blocks).version ≡ number_at body 0

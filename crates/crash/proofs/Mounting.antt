@@ -1,20 +1,23 @@
 -- What a mount finds after a crash.
+use Rattle.geometry.specs.declared.owner.Owner.{Owner}
 use Rattle.geometry.specs.declared.owner.Summary.{Summary}
 use Rattle.image.specs.declared.image.Place.{Place}
 use Rattle.std.proofs.Common.{◌≡◌, ◌≢◌, refl, sym, ◌∙◌, ap, subst, ℕ, zero, suc, ◌+◌, ◌%◌, ◌<◌, ◌≤◌, ◌⊎◌, inl, inr, Bool, true, false, ◌&&◌, IsTrue, List, [], ◌∷◌, length, get_or, arith}
+use Rattle.std.proofs.lemmas.List.{get_or_past}
+use Rattle.std.proofs.lemmas.List.FromFn.{length-map-range_with_len, get_or-map-range_with_len}
 use Rattle.std.proofs.lemmas.List.Sums.{length-filter}
-use Rattle.std.specs.Prelude.{Option, Some, None, IsSome, IfSome, filter, All, count_by, ◌==◌, nat_lt, if◌then◌else◌}
+use Rattle.std.specs.Prelude.{Option, Some, None, IsSome, unwrap_or, IfSome, filter, All, count_by, ◌==◌, nat_lt, if◌then◌else◌}
 use Rattle.std.proofs.lemmas.Bool.{ltb-true, ltb-false, eqb-true, eqb-false, eq-eqb, lt-ltb, le-ltb}
 use Rattle.std.proofs.lemmas.Bool.Decides.{eqb_tells, leb_tells}
 use Rattle.geometry.specs.declared.geometry.Geometry.{Geometry}
 use Rattle.geometry.specs.Address.{address_of, segment_of, offset_of}
-use Rattle.image.specs.Image.{Image, SegmentInfo, no_segment, is_marked, info_of}
+use Rattle.image.specs.Image.{Image, SegmentInfo, no_segment, is_marked, summary_at}
 use Rattle.image.specs.Rules.{IsLawful, Rule}
 use Rattle.image.specs.Reading.{image_in, number_at}
 use Rattle.image.specs.Pack.{Slot, is_sound, pick}
-use Rattle.crash.specs.Core.{Written, Phase, idle, body_written, body_synced, footer_written, footer_synced, mending, Core, Left, current, other, footed, LeavesSlot, MayLeave, IsPicked as IsPick, image_of, log_in, mounted_segment, mounted_owner, mounted_when, mounted}
-use Rattle.crash.proofs.Invariant.{marks_are, are_marks, IsLiveAs, IsLive, IsStored, Same, Settled, Pending, Invariant}
-use Rattle.crash.proofs.Keeping.{changed_elsewhere, changed_there, live_is_safe, current_not_other}
+use Rattle.crash.specs.Core.{Written, Phase, idle, body_written, body_synced, footer_written, footer_synced, mending, Core, Left, current, other, footed, LeavesSlot, MayLeave, IsPicked as IsPick, image_of, log_in, mounted_stage, mounted_owner, mounted_owners, mounted_segment, mounted_when, mounted}
+use Rattle.crash.proofs.Invariant.{marks_are, are_marks, IsLiveAs, IsLive, NamesLive, IsStored, Same, Settled, Pending, Invariant}
+use Rattle.crash.proofs.Keeping.{changed_elsewhere, changed_there, live_is_safe, live_at, none_owned, current_not_other}
 use Rattle.geometry.proofs.Addresses.{address_of-parts}
 use Rattle.image.proofs.Frame.{same_image}
 use Rattle.image.proofs.Marking.{true_or_false, segment_within, bit_of_mark}
@@ -266,7 +269,7 @@ some_picked geometry m left inv may =
 
 -- a marked block lies below its log's next offset, and in a segment whose count isn't 0
 live_of : (log : Option ℕ) (count offset : ℕ) → IfSome log (λ next. offset < next) → 1 ≤ count
-    → IsLiveAs (mounted_segment log count).stage.state (mounted_segment log count).next offset
+    → IsLiveAs (mounted_stage log count).state (unwrap_or log 0) offset
 live_of (Some next) count offset below counted = below
 live_of None zero offset below counted = absurd (omega arith)
 live_of None (suc count) offset below counted = tt
@@ -310,7 +313,7 @@ segment_counted (i ∷ segments) (suc s) o all set = segment_counted segments s 
 
 -- a marked block of a lawful image is live in the segments that a mount finds
 mounted_live : (geometry : Geometry) (image : Image) (a : ℕ) → IsLawful geometry image → IsTrue (is_marked geometry image a)
-    → IsLive geometry.shape (λ segment. mounted_segment (log_in image.logs segment) (info_of image segment).count) a
+    → IsLive geometry.shape (λ segment. mounted_segment geometry image segment) a
 mounted_live geometry image a lawful marked =
     let sized : Rule geometry image 1 = lawful 1 (omega arith) (omega arith) in
     let agree : Rule geometry image 10 = lawful 10 (omega arith) (omega arith) in
@@ -326,6 +329,22 @@ mounted_live geometry image a lawful marked =
 owned_marked : (b : Bool) (summary : Summary) → IsSome (mounted_owner b summary) → b ≡ true
 owned_marked true summary h = refl
 owned_marked false summary h = absurd cc
+
+-- a mount names live places only
+mounted_names : (geometry : Geometry) (image : Image) (segment : ℕ) → IsLawful geometry image → NamesLive (mounted_segment geometry image segment)
+mounted_names geometry image segment lawful offset has =
+    elim (leb_tells (segment_blocks geometry.shape) offset) [
+      | inl (e, past) ↦ absurd (none_owned _ (get_or_past (mounted_owners geometry image segment) offset None
+          (let l = length-map-range_with_len owner_of 0 (segment_blocks geometry.shape) in omega arith)) has)
+      | inr (e, within) ↦
+          let there = get_or-map-range_with_len owner_of 0 (segment_blocks geometry.shape) offset offset None within (omega arith) in
+          live_at geometry.shape (λ segment. mounted_segment geometry image segment) segment offset within
+          (mounted_live geometry image (address_of geometry.shape segment offset) lawful
+          (owned_marked _ _ (subst (λ (o : Option Owner). IsSome o) there has)))
+    ]
+  where
+    owner_of : ℕ → Option Owner
+    owner_of o = mounted_owner (is_marked geometry image (address_of geometry.shape segment o)) (summary_at image (address_of geometry.shape segment o))
 
 -- the image that is found is the one that was written
 pub found_image : (geometry : Geometry) (m : Core) (left : Left) (slot : ℕ) (w : Written) → IsFound geometry m left slot w
@@ -393,7 +412,7 @@ mounted_keeps_when geometry m left slot w is_below found below above =
           (subst (λ (i : Image). IsTrue (is_marked geometry i a)) (sym image) (marks_are geometry w a h)) in
           live_is_safe _ _ _ _ _ live;
       pending = mounted_pending geometry m left slot w is_below found below above;
-      live = λ a owned. mounted_live geometry (image_of geometry left slot) a lawful (owned_marked _ _ owned);
+      live = λ segment. mounted_names geometry (image_of geometry left slot) segment lawful;
     }
 
 pub mount_keeps : (geometry : Geometry) (m : Core) (left : Left) (slot : ℕ) → MayLeave m left → IsPick left.slots slot

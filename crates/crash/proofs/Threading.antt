@@ -1,18 +1,17 @@
 -- An append into a hole keeps the invariant of the core machine.
-use Rattle.std.proofs.Common.{◌≡◌, ◌≢◌, sym, ◌∙◌, ap, subst, ℕ, true, IsTrue}
-use Rattle.std.specs.Prelude.{Option, Some, IsSome}
+use Rattle.std.proofs.Common.{◌≢◌, sym, ◌∙◌, ap, subst, ℕ, true, IsTrue, arith}
 use Rattle.geometry.specs.declared.owner.Owner.{Owner}
 use Rattle.geometry.specs.declared.geometry.Geometry.{Geometry}
-use Rattle.geometry.specs.Address.{address_of, segment_of, offset_of}
+use Rattle.geometry.specs.Address.{address_of}
+use Rattle.geometry.specs.Segment.{named}
 use Rattle.geometry.specs.File.{Block}
 use Rattle.image.specs.Image.{Image, is_marked}
 use Rattle.image.specs.Reading.{image_in}
 use Rattle.geometry.specs.declared.state.State.{State}
 use Rattle.crash.specs.Core.{Core}
 use Rattle.crash.specs.Threaded.{HasHole, threaded}
-use Rattle.crash.proofs.Invariant.{Marks, marks_are, are_marks, IsLiveAs, IsLive, Pending, Invariant}
-use Rattle.geometry.proofs.Addresses.{segment_of-address_of}
-use Rattle.crash.proofs.Keeping.{changed_elsewhere, by_place}
+use Rattle.crash.proofs.Invariant.{Marks, marks_are, are_marks, IsLiveAs, Pending, Invariant}
+use Rattle.crash.proofs.Keeping.{changed_elsewhere, safe_refilled, live_refilled}
 use Rattle.image.proofs.Frame.{same_image}
 
 -- a hole is no block of the completed image
@@ -25,7 +24,7 @@ not_of_image geometry m segment offset a inv hole marks is =
     (subst (λ (k : ℕ). IsTrue (is_marked geometry (image_in geometry inv.now.body inv.now.blocks) k)) is (marks_are geometry inv.now a marks)))
 
 pub thread_keeps : (geometry : Geometry) (m : Core) (segment offset : ℕ) (owner : Owner) (block : Block) → HasHole geometry m segment offset
-    → Invariant geometry m → Invariant geometry (threaded m (address_of geometry.shape segment offset) owner block)
+    → Invariant geometry m → Invariant geometry (threaded geometry.shape m segment offset owner block)
 thread_keeps geometry m segment offset owner block hole inv = record {
   now = inv.now;
   stored = inv.stored;
@@ -33,14 +32,9 @@ thread_keeps geometry m segment offset owner block hole inv = record {
   footer = inv.footer;
   same = λ a h. changed_elsewhere m.blocks _ block a (not_of_image geometry m segment offset a inv hole h) ∙ inv.same a h;
   settled = λ a h. changed_elsewhere m.loose _ true a (not_of_image geometry m segment offset a inv hole h) ∙ inv.settled a h;
-  safe = inv.safe;
-  pending = subst (Pending geometry (threaded m (address_of geometry.shape segment offset) owner block)) (sym hole.phase)
+  safe = λ a h. safe_refilled geometry.shape m.version m.segments segment (named offset owner (m.segments segment).fill) a (omega arith) (inv.safe a h);
+  pending = subst (Pending geometry (threaded geometry.shape m segment offset owner block)) (sym hole.phase)
       (subst (Pending geometry m) hole.phase inv.pending);
-  live = λ a. by_place (λ (o : Option Owner). IsSome o → IsLive geometry.shape m.segments a) m.owners (address_of geometry.shape segment offset) (Some owner) a
-      (λ is owned.
-      let there : segment ≡ segment_of geometry.shape a
-      = sym (ap (segment_of geometry.shape) is ∙ segment_of-address_of geometry.shape segment offset hole.room) in
-      subst (λ (s : ℕ). IsLiveAs (m.segments s).stage.state (m.segments s).next (offset_of geometry.shape a)) there
-      (subst (λ (st : State). IsLiveAs st (m.segments segment).next (offset_of geometry.shape a)) (sym hole.state) tt))
-      (λ isn't owned. inv.live a owned);
+  live = live_refilled m.segments segment (named offset owner (m.segments segment).fill) inv.live
+      (λ o has. subst (λ (st : State). IsLiveAs st (m.segments segment).fill.next o) (sym hole.state) tt);
 }

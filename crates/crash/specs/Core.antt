@@ -4,24 +4,25 @@ use Rattle.geometry.specs.declared.owner.Owner.{Owner}
 use Rattle.geometry.specs.declared.owner.Summary.{Summary}
 use Rattle.geometry.specs.Summary.{summary_of, owner_in}
 use Rattle.image.specs.declared.image.Place.{Place}
-use Rattle.std.specs.Prelude.{◌≡◌, ◌≢◌, ◌<◌, ℕ, zero, suc, ◌+◌, ◌-◌, ◌%◌, Bool, true, false, IsTrue, ◌==◌, nat_lt, if◌then◌else◌, List, [], ◌∷◌, Option, Some, None, IsSome}
+use Rattle.std.specs.Prelude.{◌≡◌, ◌<◌, ℕ, zero, suc, ◌+◌, ◌-◌, ◌%◌, Bool, true, false, IsTrue, ◌==◌, nat_lt, if◌then◌else◌, List, [], ◌∷◌, Option, Some, None, IsSome, map, slice_index_or, unwrap_or}
 use Rattle.geometry.specs.declared.shape.Shape.{Shape}
 use Rattle.geometry.specs.declared.geometry.Geometry.{Geometry}
-use Rattle.geometry.specs.Address.{address_of, segment_of}
+use Rattle.std.specs.List.{range_with_len}
+use Rattle.geometry.specs.Address.{address_of, segment_of, offset_of}
 use Rattle.geometry.specs.File.{Block}
 use Rattle.image.specs.Image.{Image, is_marked, summary_at, info_of}
 use Rattle.image.specs.Rules.{IsLawful}
 use Rattle.image.specs.Reading.{image_in, number_at}
 use Rattle.image.specs.Pack.{Slot, pick}
-use Rattle.geometry.specs.declared.state.State.{State}
 use Rattle.geometry.specs.declared.state.State.TheVariants.{Free, Open, Sealed, Prefree}
 use Rattle.geometry.specs.Life.{Stage, LifeStep}
+use Rattle.geometry.specs.Segment.{Fill, filled, vacated, fill_after, IsVacant}
 use Rattle.geometry.specs.Shape.{segment_blocks}
 
--- Where a segment is in its life, and the offset of its next place.
+-- Where a segment is in its life, and how it is filled.
 pub record Segment : Type 0 where
   pub stage : Stage
-  pub next : ℕ
+  pub fill : Fill
 
 -- A pack body, and the blocks as they were when it was written.
 pub record Written : Type 0 where
@@ -43,8 +44,6 @@ pub record Core : Type 0 where
   pub blocks : ℕ → Block
   -- the addresses written since the last sync
   pub loose : ℕ → Bool
-  -- the marked addresses, each with its owner
-  pub owners : ℕ → Option Owner
   pub segments : ℕ → Segment
   -- the version of the last completed pack
   pub version : ℕ
@@ -85,16 +84,26 @@ current version = version % 2
 abbrev pub other : ℕ → ℕ
 other slot = 1 - slot
 
+-- who names the block at an address: nobody, where it is not marked
+abbrev pub owner_at : Shape → (ℕ → Segment) → ℕ → Option Owner
+owner_at shape segments address =
+    if address == 0 then None
+    else slice_index_or (segments (segment_of shape address)).fill.owners (offset_of shape address) None
+
 -- the address of a segment's next place
 abbrev pub next_address : Shape → Core → ℕ → ℕ
-next_address shape machine segment = address_of shape segment (machine.segments segment).next
+next_address shape machine segment = address_of shape segment (machine.segments segment).fill.next
+
+-- one segment is filled in another way
+abbrev pub refilled : (ℕ → Segment) → ℕ → Fill → (ℕ → Segment)
+refilled segments segment fill = changed segments segment (record { stage = (segments segment).stage; fill = fill })
 
 -- an open segment has a next place
 pub record HasRoom (geometry : Geometry) (machine : Core) (segment : ℕ) : Type 0 where
   pub phase : machine.phase ≡ idle
   pub range : segment < geometry.segments
   pub state : (machine.segments segment).stage.state ≡ Open
-  pub room : (machine.segments segment).next < segment_blocks geometry.shape
+  pub room : (machine.segments segment).fill.next < segment_blocks geometry.shape
 
 abbrev pub appended : Shape → Core → ℕ → Owner → Block → Core
 appended shape machine segment owner block =
@@ -102,8 +111,7 @@ appended shape machine segment owner block =
     record machine {
       blocks = changed machine.blocks address block;
       loose = changed machine.loose address true;
-      owners = changed machine.owners address (Some owner);
-      segments = changed machine.segments segment (record { stage = (machine.segments segment).stage; next = (machine.segments segment).next + 1 });
+      segments = refilled machine.segments segment (filled owner (machine.segments segment).fill);
     }
 
 -- an append that failed: the block holds any bytes, and nothing is marked
@@ -112,26 +120,21 @@ spoiled shape machine segment block =
     let address = next_address shape machine segment in
     record machine { blocks = changed machine.blocks address block; loose = changed machine.loose address true }
 
-abbrev pub released : Core → ℕ → Core
-released machine address = record machine { owners = changed machine.owners address None }
+abbrev pub released : Shape → Core → ℕ → Core
+released shape machine address =
+    let segment = segment_of shape address in
+    record machine { segments = refilled machine.segments segment (vacated (offset_of shape address) (machine.segments segment).fill) }
 
--- opening begins at the first place; nothing is marked in a segment that becomes prefree
-abbrev pub next_after : State → ℕ → ℕ
-next_after Open next = 0
-next_after Free next = next
-next_after Sealed next = next
-next_after Prefree next = next
-
--- a segment goes on by a step of its life
+-- a segment goes on by a step of its life; nothing is marked in one that becomes prefree
 pub record MayMove (geometry : Geometry) (machine : Core) (segment : ℕ) (stage : Stage) : Type 0 where
   pub phase : machine.phase ≡ idle
   pub range : segment < geometry.segments
   pub pair : LifeStep machine.version (machine.segments segment).stage stage
-  pub empty : stage.state ≡ Prefree → (address : ℕ) → IsSome (machine.owners address) → segment_of geometry.shape address ≢ segment
+  pub empty : stage.state ≡ Prefree → IsVacant (machine.segments segment).fill
 
 abbrev pub moved : Core → ℕ → Stage → Core
 moved machine segment stage =
-    record machine { segments = changed machine.segments segment (record { stage = stage; next = next_after stage.state (machine.segments segment).next }) }
+    record machine { segments = changed machine.segments segment (record { stage = stage; fill = fill_after stage.state (machine.segments segment).fill }) }
 
 -- a body that holds, over the blocks as they are, a lawful image of the next version whose marks and owners are the
 -- machine's
@@ -139,8 +142,8 @@ pub record MayWrite (geometry : Geometry) (machine : Core) (body : List ℕ) : T
   pub phase : machine.phase ≡ idle
   pub lawful : IsLawful geometry (image_in geometry body machine.blocks)
   pub version : number_at body 0 ≡ machine.version + 1
-  pub marks : (address : ℕ) → IsTrue (is_marked geometry (image_in geometry body machine.blocks) address) → IsSome (machine.owners address)
-  pub owners : (address : ℕ) (owner : Owner) → machine.owners address ≡ Some owner
+  pub marks : (address : ℕ) → IsTrue (is_marked geometry (image_in geometry body machine.blocks) address) → IsSome (owner_at geometry.shape machine.segments address)
+  pub owners : (address : ℕ) (owner : Owner) → owner_at geometry.shape machine.segments address ≡ Some owner
       → IsTrue (is_marked geometry (image_in geometry body machine.blocks) address) × (summary_at (image_in geometry body machine.blocks) address ≡ summary_of owner)
 
 -- a part of the slot that is not the current one is written
@@ -204,16 +207,32 @@ log_in [] segment = None
 log_in (None ∷ rest) segment = log_in rest segment
 log_in (Some place ∷ rest) segment = if place.segment == segment then Some place.next else log_in rest segment
 
--- how a mount finds a segment: a log's is open; one with nothing marked is free; any other is sealed
-abbrev pub mounted_segment : Option ℕ → ℕ → Segment
-mounted_segment (Some next) count = record { stage = record { state = Open; incarnation = 1; stamp = 0 }; next = next }
-mounted_segment None zero = record { stage = record { state = Free; incarnation = 0; stamp = 0 }; next = 0 }
-mounted_segment None (suc count) = record { stage = record { state = Sealed; incarnation = 1; stamp = 0 }; next = 0 }
+-- where a mount finds a segment in its life: a log's is open; one with nothing marked is free; any other is sealed
+abbrev pub mounted_stage : Option ℕ → ℕ → Stage
+mounted_stage (Some next) count = record { state = Open; incarnation = 1; stamp = 0 }
+mounted_stage None zero = record { state = Free; incarnation = 0; stamp = 0 }
+mounted_stage None (suc count) = record { state = Sealed; incarnation = 1; stamp = 0 }
 
 -- who owns a block that the image marks, by its summary
 abbrev pub mounted_owner : Bool → Summary → Option Owner
 mounted_owner true summary = owner_in summary
 mounted_owner false summary = None
+
+-- who names the blocks of a segment
+abbrev pub mounted_owners : Geometry → Image → ℕ → List (Option Owner)
+mounted_owners geometry image segment =
+    map (λ offset.
+    let address = address_of geometry.shape segment offset in
+    mounted_owner (is_marked geometry image address) (summary_at image address)) (range_with_len 0 (segment_blocks geometry.shape))
+
+-- a log goes on at its next place
+abbrev pub mounted_segment : Geometry → Image → ℕ → Segment
+mounted_segment geometry image segment =
+    let log = log_in image.logs segment in
+    record {
+      stage = mounted_stage log (info_of image segment).count;
+      fill = record { owners = mounted_owners geometry image segment; next = unwrap_or log 0 };
+    }
 
 -- A mount goes on from a slot's image. A footer in the other slot that is not below its version was torn: it is
 -- written to 0 before anything else.
@@ -223,8 +242,7 @@ mounted_when is_below geometry machine left slot =
     record {
       blocks = left.blocks;
       loose = λ address. false;
-      owners = λ address. mounted_owner (is_marked geometry image address) (summary_at image address);
-      segments = λ segment. mounted_segment (log_in image.logs segment) (info_of image segment).count;
+      segments = λ segment. mounted_segment geometry image segment;
       version = (left.slots slot).footer;
       slots = if is_below then left.slots else footed left.slots (other slot) 0;
       phase = if is_below then idle else mending;
@@ -241,10 +259,11 @@ CoreStep geometry machine (append segment owner block) after =
     HasRoom geometry machine segment × (after ≡ appended geometry.shape machine segment owner block)
 CoreStep geometry machine (spoil segment block) after =
     HasRoom geometry machine segment × (after ≡ spoiled geometry.shape machine segment block)
-CoreStep geometry machine (release address) after = (machine.phase ≡ idle) × IsSome (machine.owners address) × (after ≡ released machine address)
+CoreStep geometry machine (release address) after =
+    (machine.phase ≡ idle) × IsSome (owner_at geometry.shape machine.segments address) × (after ≡ released geometry.shape machine address)
 CoreStep geometry machine (migrate address segment) after =
-    HasRoom geometry machine segment × (owner : Owner) × (machine.owners address ≡ Some owner)
-    × (after ≡ released (appended geometry.shape machine segment owner (machine.blocks address)) address)
+    HasRoom geometry machine segment × (owner : Owner) × (owner_at geometry.shape machine.segments address ≡ Some owner)
+    × (after ≡ released geometry.shape (appended geometry.shape machine segment owner (machine.blocks address)) address)
 CoreStep geometry machine (move segment stage) after = MayMove geometry machine segment stage × (after ≡ moved machine segment stage)
 CoreStep geometry machine (write_body body) after = MayWrite geometry machine body × (after ≡ with_body machine body)
 CoreStep geometry machine sync after = after ≡ synced machine
@@ -267,5 +286,5 @@ pub record IsFormatted (geometry : Geometry) (machine : Core) : Type 0 where
   pub empty_slot : (machine.slots 0).footer ≡ 0
   pub lawful : IsLawful geometry (image_in geometry (machine.slots 1).body machine.blocks)
   pub no_mark : (address : ℕ) → ¬ IsTrue (is_marked geometry (image_in geometry (machine.slots 1).body machine.blocks) address)
-  pub no_owner : (address : ℕ) → machine.owners address ≡ None
+  pub no_owner : (segment : ℕ) → IsVacant (machine.segments segment).fill
   pub written : machine.written ≡ record { body = (machine.slots 1).body; blocks = machine.blocks } ∷ []

@@ -8,4 +8,5 @@ pub mod Mark
 pub mod Summary
 pub mod File
 pub mod Life
+pub mod Segment
 pub mod Path

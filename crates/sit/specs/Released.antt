@@ -5,12 +5,12 @@ use Rattle.geometry.specs.declared.state.State.TheVariants.{Sealed, Prefree}
 use Rattle.sit.specs.declared.segment.Released.{Released}
 use Rattle.sit.specs.declared.segment.Released.TheVariants.{Kept, Retired}
 use Rattle.sit.specs.Summaries.{count_of}
-use Rattle.sit.specs.Segment.{Segment, in_state}
+use Rattle.sit.specs.Segment.{Segment, entered}
 
 -- a sealed segment is retired exactly where none of its blocks is valid (Linux filesystems/f2fs, prefree segments)
 abbrev pub HasReleased : Segment → Released → Segment → Type 0
 HasReleased old Kept new = (new ≡ old) × (old.state ≡ Sealed → 0 < count_of old.summaries)
-HasReleased old Retired new = (new ≡ in_state old Prefree) × (old.state ≡ Sealed) × (count_of old.summaries ≡ 0)
+HasReleased old Retired new = (new ≡ entered old Prefree) × (old.state ≡ Sealed) × (count_of old.summaries ≡ 0)
 
 -- the state in which a segment is left that was in a state and has so many valid blocks
 abbrev pub IsFate : State → ℕ → State → Released → Type 0

@@ -1,5 +1,5 @@
 -- What contracts see of a segment, and its law.
-use Rattle.std.specs.Prelude.{◌≡◌, ℕ, ◌+◌, ◌<◌, ◌≤◌, ◌⊎◌, max, List, Option, Some, None, map, length, replicate, slice_set, slice_index_or}
+use Rattle.std.specs.Prelude.{◌≡◌, ℕ, ◌<◌, ◌≤◌, ◌⊎◌, max, List, Option, None, map, length, slice_index_or}
 use Rattle.geometry.specs.declared.shape.Shape.{Shape}
 use Rattle.geometry.specs.declared.state.State.{State}
 use Rattle.geometry.specs.declared.state.State.TheVariants.{Free, Open, Sealed, Prefree}
@@ -7,6 +7,7 @@ use Rattle.geometry.specs.declared.owner.Owner.{Owner}
 use Rattle.geometry.specs.declared.owner.Mark.{Mark}
 use Rattle.geometry.specs.Shape.{segment_blocks, block_bytes}
 use Rattle.geometry.specs.Address.{address_of}
+use Rattle.geometry.specs.Segment.{Fill, unfilled, filled, vacated, fill_after}
 use Rattle.sit.specs.Home.{Home}
 use Rattle.sit.specs.Summaries.{is_clear, count_of, marks_from}
 
@@ -37,26 +38,36 @@ pub record SegmentLaw (segment : Segment) (home : Home) : Type 0 where
 abbrev pub marks_of : Segment → List Mark
 marks_of segment = marks_from (address_of segment.shape segment.number 0) segment.summaries
 
--- What each call makes of a segment.
+-- What each call makes of a segment. Its fill changes as that of a segment of the core machine does.
 
--- as a format leaves it
-abbrev pub fresh : Shape → ℕ → ℕ → Segment
-fresh shape number failed = record { shape = shape; number = number; state = Free; summaries = replicate (segment_blocks shape) None; mtime = 0; next = 0; failed = failed }
+-- how it is filled
+abbrev pub fill_of : Segment → Fill
+fill_of segment = record { owners = segment.summaries; next = segment.next }
 
--- the next block is valid, and named by this owner; the blocks that stay at home have failed so often
-abbrev pub placed : Segment → Owner → ℕ → ℕ → Segment
-placed segment owner now failed =
-    record segment { summaries = slice_set segment.summaries segment.next (Some owner); mtime = max segment.mtime now; next = segment.next + 1; failed = failed }
-
--- the block at this place is not valid any more; it comes home, and the blocks that are there then have failed so often
-abbrev pub cleared : Segment → ℕ → ℕ → Segment
-cleared segment offset failed = record segment { summaries = slice_set segment.summaries offset None; failed = failed }
+abbrev pub with_fill : Segment → Fill → Segment
+with_fill segment fill = record segment { summaries = fill.owners; next = fill.next }
 
 abbrev pub in_state : Segment → State → Segment
 in_state segment state = record segment { state = state }
 
-abbrev pub opened : Segment → Segment
-opened segment = record segment { state = Open; next = 0 }
+-- as a format leaves it
+abbrev pub fresh : Shape → ℕ → ℕ → Segment
+fresh shape number failed =
+    let fill = unfilled (segment_blocks shape) in
+    record { shape = shape; number = number; state = Free; summaries = fill.owners; mtime = 0; next = fill.next; failed = failed }
+
+-- the next block is valid, and named by this owner; the blocks that stay at home have failed so often
+abbrev pub placed : Segment → Owner → ℕ → ℕ → Segment
+placed segment owner now failed =
+    record (with_fill segment (filled owner (fill_of segment))) { mtime = max segment.mtime now; failed = failed }
+
+-- the block at this place is not valid any more; it comes home, and the blocks that are there then have failed so often
+abbrev pub cleared : Segment → ℕ → ℕ → Segment
+cleared segment offset failed = record (with_fill segment (vacated offset (fill_of segment))) { failed = failed }
+
+-- it comes into a state of its life
+abbrev pub entered : Segment → State → Segment
+entered segment state = in_state (with_fill segment (fill_after state (fill_of segment))) state
 
 -- a segment is open as long as it has a next place, and then sealed (Linux filesystems/f2fs)
 abbrev pub IsStateAt : ℕ → ℕ → State → Type 0

@@ -41,7 +41,7 @@ impl<B: Block + Drop> Model for Body<B> {
 }
 
 impl<B: Block + Drop> Body<B> {
-    ghost use Rattle.sit.specs.Segment.{placed, cleared, in_state, opened, HasPlaced};
+    ghost use Rattle.sit.specs.Segment.{placed, cleared, entered, HasPlaced};
     ghost use Rattle.sit.specs.Released.{HasReleased};
     ghost use Rattle.sit.specs.Row.{row_of};
 
@@ -155,7 +155,7 @@ impl<B: Block + Drop> Body<B> {
     pub(crate) fn seal(&mut self)
         requires open { self.old.state ≡ Open }
         requires some { 0 < count_of self.old.summaries }
-        ensures { self.new ≡ in_state self.old Sealed }
+        ensures { self.new ≡ entered self.old Sealed }
     {
         self.state = State::Sealed;
     }
@@ -163,7 +163,7 @@ impl<B: Block + Drop> Body<B> {
     /// Opens a free segment; its next place is its first.
     pub(crate) fn open(&mut self)
         requires { self.old.state ≡ Free }
-        ensures { self.new ≡ opened self.old }
+        ensures { self.new ≡ entered self.old Open }
     {
         self.state = State::Open;
         self.next = 0;
@@ -172,7 +172,7 @@ impl<B: Block + Drop> Body<B> {
     /// Frees a retired segment.
     pub(crate) fn free(&mut self)
         requires { self.old.state ≡ Prefree }
-        ensures { self.new ≡ in_state self.old Free }
+        ensures { self.new ≡ entered self.old Free }
     {
         self.state = State::Free;
     }

@@ -66,7 +66,7 @@ pub struct SegmentRow {
 
 impl<B: Block + Drop> SegmentState<B> {
     ghost use Rattle.sums.specs.Weights.{SameItems};
-    ghost use Rattle.sit.specs.Segment.{placed, cleared, in_state, opened, marks_of, HasPlaced};
+    ghost use Rattle.sit.specs.Segment.{placed, cleared, entered, marks_of, HasPlaced};
     ghost use Rattle.sit.specs.Registered.{AreItsBooks, IsSameBook, HasLivedOn, HasStood, post_of, slip_of, slip_after};
     ghost use Rattle.sit.specs.Released.{HasReleased};
     ghost use Rattle.sit.specs.Row.{row_of};
@@ -196,7 +196,7 @@ impl<B: Block + Drop> SegmentState<B> {
         requires words { words.now.table ≡ self.old.table }
         requires slip { slip ≡ slip_of self.old }
         requires some { 0 < count_of self.old.segment.summaries }
-        ensures segment { self.new.segment ≡ in_state self.old.segment Sealed }
+        ensures segment { self.new.segment ≡ entered self.old.segment Sealed }
         ensures life { IsSealed (post_of self.old) (post_of self.new) }
         ensures book { IsSameBook self.old self.new }
     {
@@ -222,7 +222,7 @@ impl<B: Block + Drop> SegmentState<B> {
     pub fn free(&mut self, words: &Words) -> Option<FreeSlip>
         requires words { words.now.table ≡ self.old.table }
         requires retired { self.old.segment.state ≡ Prefree }
-        ensures segment { MatchOption result (self.new.segment ≡ self.old.segment) (λ slip. self.new.segment ≡ in_state self.old.segment Free) }
+        ensures segment { MatchOption result (self.new.segment ≡ self.old.segment) (λ slip. self.new.segment ≡ entered self.old.segment Free) }
         ensures life { MatchOption result (IsKept (post_of self.old) (post_of self.new)) (λ slip. IsFreed (post_of self.old) slip (post_of self.new)) }
         ensures book { IsSameBook self.old self.new }
     {
@@ -241,7 +241,7 @@ impl<B: Block + Drop> SegmentState<B> {
         requires words { words.now.table ≡ self.old.table }
         requires slip { (slip.table ≡ self.old.table) × (slip.segment ≡ self.old.segment.number) }
         ensures free { self.old.segment.state ≡ Free }
-        ensures segment { self.new.segment ≡ opened self.old.segment }
+        ensures segment { self.new.segment ≡ entered self.old.segment Open }
         ensures slip { result ≡ slip_of self.old }
         ensures life { IsOpened (post_of self.old) result (post_of self.new) }
         ensures book { IsSameBook self.old self.new }

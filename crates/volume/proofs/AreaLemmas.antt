@@ -29,7 +29,7 @@ use Rattle.words.specs.Tokens.{FreeSegment, OpenSegment}
 use Rattle.words.specs.Claims.{fresh_life}
 use Rattle.sit.specs.Summaries.{count_of}
 use Rattle.sit.specs.Registered.{Registered, IsSameBook, slip_after}
-use Rattle.sit.specs.Segment.{Segment, marks_of, fresh, placed, cleared, opened, HasPlaced}
+use Rattle.sit.specs.Segment.{Segment, marks_of, fresh, placed, cleared, entered, HasPlaced}
 use Rattle.sit.proofs.Marks.{StandsIn, found, marks_count}
 use Rattle.volume.specs.Area.{Area, AreaLaw, IsSegmentOf, LogStands, AreLogs, IsFreeOf, marks_in}
 
@@ -200,7 +200,7 @@ module _ (geometry : Geometry) (book table : TableId) (k : ℕ) (r new : Registe
   released_is o failed Retired has = kept (ap (λ (x : Segment). x.shape) has.0) (ap (λ (x : Segment). x.number) has.0)
       (ap (λ (x : Segment). length x.summaries) has.0 ∙ length-set r.segment.summaries o None)
 
-  pub opened_is : new.segment ≡ opened r.segment → IsSegmentOf geometry book table k new
+  pub opened_is : new.segment ≡ entered r.segment Open → IsSegmentOf geometry book table k new
   opened_is has = kept (ap (λ (x : Segment). x.shape) has) (ap (λ (x : Segment). x.number) has) (ap (λ (x : Segment). length x.summaries) has)
 
   pub failed_is : (failed : ℕ) → new.segment ≡ record r.segment { failed = failed } → IsSegmentOf geometry book table k new
