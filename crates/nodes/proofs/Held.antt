@@ -17,7 +17,7 @@ use Rattle.nodes.specs.declared.file.FileState.{FileState}
 use Rattle.tree.proofs.Changes.{weigh_nothing}
 use Rattle.nodes.specs.File.{IsBare, below_weight, weight_of, weight_direct, weight_indirect, weight_double}
 use Rattle.nodes.specs.Marks.{MarksNode}
-use Rattle.nodes.specs.Held.{AreHeld}
+use Rattle.nodes.specs.Held.{Others, no_others, AreHeldBeside}
 
 module _ {B L : Type 0} (resized : TreeNode → TreeNode) (old new : FileState B L) (out into : Weighing Placed → ℕ) (change : MarksNode resized old new out into) where
   pub weigh_tickets : (h : Mark → ℕ)
@@ -33,73 +33,73 @@ module _ {B L : Type 0} (resized : TreeNode → TreeNode) (old new : FileState B
       omega arith
 
 -- a ticket is in hand beside the file's
-pub record HasTicket {B L : Type 0} (f : FileState B L) (m : Mark) (marks : List Mark) (entries : List Entry) : Type 0 where
-  pub tickets : (h : Mark → ℕ) → weigh h marks ≡ weight_of f (of_tickets (λ t. h t.mark)) + h m
-  pub tokens : (h : Entry → ℕ) → weigh h entries ≡ weight_of f (of_tokens h)
+pub record HasTicket {B L : Type 0} (others : Others) (f : FileState B L) (m : Mark) (marks : List Mark) (entries : List Entry) : Type 0 where
+  pub tickets : (h : Mark → ℕ) → weigh h marks ≡ weight_of f (of_tickets (λ t. h t.mark)) + others.tickets h + h m
+  pub tokens : (h : Entry → ℕ) → weigh h entries ≡ weight_of f (of_tokens h) + others.tokens h
 
 -- a token is
-pub record HasToken {B L : Type 0} (f : FileState B L) (k : Entry) (marks : List Mark) (entries : List Entry) : Type 0 where
-  pub tickets : (h : Mark → ℕ) → weigh h marks ≡ weight_of f (of_tickets (λ t. h t.mark))
-  pub tokens : (h : Entry → ℕ) → weigh h entries ≡ weight_of f (of_tokens h) + h k
+pub record HasToken {B L : Type 0} (others : Others) (f : FileState B L) (k : Entry) (marks : List Mark) (entries : List Entry) : Type 0 where
+  pub tickets : (h : Mark → ℕ) → weigh h marks ≡ weight_of f (of_tickets (λ t. h t.mark)) + others.tickets h
+  pub tokens : (h : Entry → ℕ) → weigh h entries ≡ weight_of f (of_tokens h) + others.tokens h + h k
 
-module _ {B L : Type 0} (f : FileState B L) (m : Mark) (marks : List Mark) (entries : List Entry) (has : HasTicket f m marks entries) where
+module _ {B L : Type 0} {others : Others} (f : FileState B L) (m : Mark) (marks : List Mark) (entries : List Entry) (has : HasTicket others f m marks entries) where
   pub ticket_there : 0 < times same_mark m marks
   ticket_there =
       let all = has.tickets (λ y. if same_mark m y then 1 else 0) in
       let one : ◌≡◌ {A = ℕ} (if same_mark m m then 1 else 0) 1 = ap (λ b. if b then 1 else 0) (mark_self m) in
       omega arith
 
-  pub ticket_spent : AreHeld f (without same_mark m marks) entries
+  pub ticket_spent : AreHeldBeside others f (without same_mark m marks) entries
   ticket_spent = record {
     tickets = λ h. (let all = has.tickets h in let less = without_mark h m marks ticket_there in omega arith);
     tokens = has.tokens;
   }
 
-module _ {B L : Type 0} (f : FileState B L) (k : Entry) (marks : List Mark) (entries : List Entry) (has : HasToken f k marks entries) where
+module _ {B L : Type 0} {others : Others} (f : FileState B L) (k : Entry) (marks : List Mark) (entries : List Entry) (has : HasToken others f k marks entries) where
   pub token_there : 0 < times same_entry k entries
   token_there =
       let all = has.tokens (λ y. if same_entry k y then 1 else 0) in
       let one : ◌≡◌ {A = ℕ} (if same_entry k k then 1 else 0) 1 = ap (λ b. if b then 1 else 0) (entry_self k) in
       omega arith
 
-  pub token_spent : AreHeld f marks (without same_entry k entries)
+  pub token_spent : AreHeldBeside others f marks (without same_entry k entries)
   token_spent = record {
     tickets = has.tickets;
     tokens = λ h. (let all = has.tokens h in let less = without_entry h k entries token_there in omega arith);
   }
 
-module _ {B L : Type 0} (old new : FileState B L) (marks : List Mark) (entries : List Entry) (held : AreHeld old marks entries) where
-  pub held_grown : (resized : TreeNode → TreeNode) (n : TreeNode) (k : Entry) → n.token ≡ k → MarksNode resized old new nothing (λ w. w.node n) → AreHeld new marks (k ∷ entries)
+module _ {B L : Type 0} {others : Others} (old new : FileState B L) (marks : List Mark) (entries : List Entry) (held : AreHeldBeside others old marks entries) where
+  pub held_grown : (resized : TreeNode → TreeNode) (n : TreeNode) (k : Entry) → n.token ≡ k → MarksNode resized old new nothing (λ w. w.node n) → AreHeldBeside others new marks (k ∷ entries)
   held_grown resized n k is change = record {
     tickets = λ h. (let all = weigh_tickets resized old new nothing (λ w. w.node n) change h in let was = held.tickets h in omega arith);
     tokens = λ h. (let all = weigh_tokens resized old new nothing (λ w. w.node n) change h in let was = held.tokens h in let same = ap h is in omega arith);
   }
 
-  pub held_put : (resized : TreeNode → TreeNode) (t : Placed) → MarksNode resized old new (λ w. ticket_weight w None) (λ w. w.ticket t) → AreHeld new (t.mark ∷ marks) entries
+  pub held_put : (resized : TreeNode → TreeNode) (t : Placed) → MarksNode resized old new (λ w. ticket_weight w None) (λ w. w.ticket t) → AreHeldBeside others new (t.mark ∷ marks) entries
   held_put resized t change = record {
     tickets = λ h. (let all = weigh_tickets resized old new (λ w. ticket_weight w None) (λ w. w.ticket t) change h in let was = held.tickets h in omega arith);
     tokens = λ h. (let all = weigh_tokens resized old new (λ w. ticket_weight w None) (λ w. w.ticket t) change h in let was = held.tokens h in omega arith);
   }
 
-  pub held_over : (resized : TreeNode → TreeNode) (t b : Placed) → MarksNode resized old new (λ w. ticket_weight w (Some b)) (λ w. w.ticket t) → HasTicket new b.mark (t.mark ∷ marks) entries
+  pub held_over : (resized : TreeNode → TreeNode) (t b : Placed) → MarksNode resized old new (λ w. ticket_weight w (Some b)) (λ w. w.ticket t) → HasTicket others new b.mark (t.mark ∷ marks) entries
   held_over resized t b change = record {
     tickets = λ h. (let all = weigh_tickets resized old new (λ w. ticket_weight w (Some b)) (λ w. w.ticket t) change h in let was = held.tickets h in omega arith);
     tokens = λ h. (let all = weigh_tokens resized old new (λ w. ticket_weight w (Some b)) (λ w. w.ticket t) change h in let was = held.tokens h in omega arith);
   }
 
-  pub held_ticket : (resized : TreeNode → TreeNode) (t : Placed) (out : Weighing Placed → ℕ) → WeighsAs (Ticket t) out → MarksNode resized old new out nothing → HasTicket new t.mark marks entries
+  pub held_ticket : (resized : TreeNode → TreeNode) (t : Placed) (out : Weighing Placed → ℕ) → WeighsAs (Ticket t) out → MarksNode resized old new out nothing → HasTicket others new t.mark marks entries
   held_ticket resized t out is change = record {
     tickets = λ h. (let all = weigh_tickets resized old new out nothing change h in let was = held.tickets h in let one = is (of_tickets (λ t. h t.mark)) in omega arith);
     tokens = λ h. (let all = weigh_tokens resized old new out nothing change h in let was = held.tokens h in let one = is (of_tokens h) in omega arith);
   }
 
-  pub held_token : (resized : TreeNode → TreeNode) (k : Entry) (out : Weighing Placed → ℕ) → WeighsAs (Token k) out → MarksNode resized old new out nothing → HasToken new k marks entries
+  pub held_token : (resized : TreeNode → TreeNode) (k : Entry) (out : Weighing Placed → ℕ) → WeighsAs (Token k) out → MarksNode resized old new out nothing → HasToken others new k marks entries
   held_token resized k out is change = record {
     tickets = λ h. (let all = weigh_tickets resized old new out nothing change h in let was = held.tickets h in let one = is.2 (of_tickets (λ t. h t.mark)) in omega arith);
     tokens = λ h. (let all = weigh_tokens resized old new out nothing change h in let was = held.tokens h in let one = is.2 (of_tokens h) in let same = ap h is.1 in omega arith);
   }
 
-  pub held_same : ((w : Weighing Placed) → below_weight new w ≡ below_weight old w) → new.token ≡ old.token → AreHeld new marks entries
+  pub held_same : ((w : Weighing Placed) → below_weight new w ≡ below_weight old w) → new.token ≡ old.token → AreHeldBeside others new marks entries
   held_same below token = record {
     tickets = λ h. (let was = held.tickets h in let same = below (of_tickets (λ t. h t.mark)) in omega arith);
     tokens = λ h. (let was = held.tokens h in let same = below (of_tokens h) in let root = ap h token in omega arith);
@@ -107,7 +107,7 @@ module _ {B L : Type 0} (old new : FileState B L) (marks : List Mark) (entries :
 
 -- an inode that names nothing
 module _ {B L : Type 0} (f : FileState B L) (bare : IsBare f) where
-  bare_weighs : (w : Weighing Placed) → below_weight f w ≡ 0
+  pub bare_weighs : (w : Weighing Placed) → below_weight f w ≡ 0
   bare_weighs w =
       let a = weigh_nothing (ticket_weight w) refl f.tickets.slots.items bare.tickets in
       let b = weigh_nothing (weight_direct w) refl f.direct.slots.items bare.direct in
@@ -115,13 +115,13 @@ module _ {B L : Type 0} (f : FileState B L) (bare : IsBare f) where
       let d = weigh_nothing (weight_double w) refl f.double.slots.items bare.double in
       omega arith
 
-  pub held_new : (k : Entry) → f.token ≡ k → AreHeld f [] (k ∷ [])
+  pub held_new : (k : Entry) → f.token ≡ k → AreHeldBeside no_others f [] (k ∷ [])
   held_new k is = record {
     tickets = λ h. (let none = bare_weighs (of_tickets (λ t. h t.mark)) in omega arith);
     tokens = λ h. (let none = bare_weighs (of_tokens h) in let same = ap h is in omega arith);
   }
 
-  pub root_there : (marks : List Mark) (entries : List Entry) → AreHeld f marks entries → 0 < times same_entry f.token entries
+  pub root_there : {others : Others} (marks : List Mark) (entries : List Entry) → AreHeldBeside others f marks entries → 0 < times same_entry f.token entries
   root_there marks entries held =
       let all = held.tokens (λ y. if same_entry f.token y then 1 else 0) in
       let one : ◌≡◌ {A = ℕ} (if same_entry f.token f.token then 1 else 0) 1 = ap (λ b. if b then 1 else 0) (entry_self f.token) in

@@ -7,3 +7,6 @@ pub mod Ranges
 pub mod Results
 pub mod Shown
 pub mod Held
+pub mod Files
+pub mod Owners
+pub mod Numbered

@@ -15,7 +15,7 @@ use Rattle.nodes.specs.File.{joined, below, at_path, ends_at, ticket_at, in_tick
 use Rattle.nodes.proofs.Joined.{at_first, at_rest}
 use Rattle.nodes.proofs.Bounds.{entries_positive}
 
-times_one : (e : ℕ) → e * 1 ≡ e
+pub times_one : (e : ℕ) → e * 1 ≡ e
 times_one e = omega arith
 
 -- the last two digits of a number
@@ -35,7 +35,7 @@ module _ (k e : ℕ) (p : 0 < e) where
       let bound : ((k / e) % e) * e + k % e < e * e = omega arith in
       ap (λ z. z % (e * e)) whole ∙ mod-mul-add (k / e / e) (e * e) (((k / e) % e) * e + k % e) bound
 
-  second : (k % (e * e)) / e ≡ (k / e) % e
+  pub second : (k % (e * e)) / e ≡ (k / e) % e
   second = ap (λ z. z / e) last_two ∙ div-mul-add ((k / e) % e) e (k % e) (mod_below k e p)
 
   first : (k % (e * e)) % e ≡ k % e
@@ -75,21 +75,25 @@ path_of d e index =
     else None
 
 module _ (d e i : ℕ) where
-  path_1 : i < d → path_of d e i ≡ Some (Inode i)
+  pub path_1 : i < d → path_of d e i ≡ Some (Inode i)
   path_1 h = rw (lt-ltb i d h)
 
-  path_2 : d ≤ i → i < d + 2 * e → path_of d e i ≡ Some (Direct ((i - d) / e) ((i - d) % e))
+  pub path_2 : d ≤ i → i < d + 2 * e → path_of d e i ≡ Some (Direct ((i - d) / e) ((i - d) % e))
   path_2 h k = rw (le-ltb i d h, lt-ltb i (d + 2 * e) k)
 
-  path_3 : d + 2 * e ≤ i → i < d + 2 * e + 2 * (e * e)
+  pub path_3 : d + 2 * e ≤ i → i < d + 2 * e + 2 * (e * e)
       → path_of d e i ≡ Some (Indirect (2 + (i - (d + 2 * e)) / (e * e)) (((i - (d + 2 * e)) / e) % e) ((i - (d + 2 * e)) % e))
   path_3 h k = rw (le-ltb i d (omega arith), le-ltb i (d + 2 * e) h, lt-ltb i (d + 2 * e + 2 * (e * e)) k)
 
-  path_4 : d + 2 * e + 2 * (e * e) ≤ i → i < largest d e
+  pub path_4 : d + 2 * e + 2 * (e * e) ≤ i → i < largest d e
       → path_of d e i
       ≡ Some (Double ((i - (d + 2 * e + 2 * (e * e))) / (e * e)) (((i - (d + 2 * e + 2 * (e * e))) / e) % e) ((i - (d + 2 * e + 2 * (e * e))) % e))
   path_4 h k =
       rw (le-ltb i d (omega arith), le-ltb i (d + 2 * e) (omega arith), le-ltb i (d + 2 * e + 2 * (e * e)) h, lt-ltb i (largest d e) k)
+
+  pub path_5 : largest d e ≤ i → path_of d e i ≡ None
+  path_5 h =
+      rw (le-ltb i d (omega arith), le-ltb i (d + 2 * e) (omega arith), le-ltb i (d + 2 * e + 2 * (e * e)) (omega arith), le-ltb i (largest d e) h)
 
 module _ {B L : Type 0} (f : FileState B L) (k : ℕ) where
   tickets_is : in_tickets f k ≡ at_path f (Inode k)

@@ -15,10 +15,10 @@ use Rattle.nodes.proofs.Joined.{swaps_content}
 use Rattle.nodes.specs.declared.file.FileState.{FileState}
 use Rattle.nodes.specs.File.{Shows, ticket_at, content_of}
 
-got : (m : FinMap nat_cmp Block) (k : ℕ) (v : Block) (q : ℕ) → q ≡ k → get (insert m k v) q ≡ Some v
+pub got : (m : FinMap nat_cmp Block) (k : ℕ) (v : Block) (q : ℕ) → q ≡ k → get (insert m k v) q ≡ Some v
 got m k v q e = get-insert nat_cmp_total m k v q ∙ ap (λ b. cond b (Some v) (get m q)) (unsigned_tied q k ∙ eq-eqb q k e)
 
-kept : (m : FinMap nat_cmp Block) (k : ℕ) (v : Block) (q : ℕ) → q ≢ k → get (insert m k v) q ≡ get m q
+pub kept : (m : FinMap nat_cmp Block) (k : ℕ) (v : Block) (q : ℕ) → q ≢ k → get (insert m k v) q ≡ get m q
 kept m k v q e = get-insert nat_cmp_total m k v q ∙ ap (λ b. cond b (Some v) (get m q)) (unsigned_tied q k ∙ ne_eqb q k e)
 
 module _ {B L : Type 0} (old new : FileState B L) (file : File) (shows : Shows old file) (kind : new.kind ≡ old.kind) where

@@ -1,6 +1,8 @@
 -- What a file's state holds at each index (Linux filesystems/f2fs, index structure).
 use Rattle.std.specs.Prelude.{◌≡◌, ℕ, ◌+◌, ◌-◌, ◌*◌, ◌<◌, ◌≤◌, nat_lt, cond, true, false, ◌||◌, ◌++◌, map, Option, Some, None}
-use Rattle.std.specs.FinMap.{get}
+use Rattle.std.proofs.Common.{zero, suc}
+use Rattle.std.specs.Ordering.{nat_cmp}
+use Rattle.std.specs.FinMap.{FinMap, get, insert, empty}
 use Rattle.sums.specs.Weights.{weigh}
 use Rattle.geometry.specs.Path.{inode_entries, node_entries}
 use Rattle.geometry.specs.File.{File, Block}
@@ -76,6 +78,15 @@ weight_double = weight_below (λ b. tree_node false b.token (map nid_of b.entrie
 abbrev pub content_of : Option Placed → Option Block
 content_of None = None
 content_of (Some t) = Some t.content
+
+-- the blocks of a map below an index
+abbrev pub with_block : ℕ → Option Block → FinMap nat_cmp Block → FinMap nat_cmp Block
+with_block i None blocks = blocks
+with_block i (Some b) blocks = insert blocks i b
+
+abbrev pub blocks_below : ℕ → (ℕ → Option Placed) → FinMap nat_cmp Block
+blocks_below zero at = empty
+blocks_below (suc n) at = with_block n (content_of (at n)) (blocks_below n at)
 
 module _ {B L : Type 0} where
   -- the four ranges of the index, one after another
@@ -174,3 +185,7 @@ module _ {B L : Type 0} where
     pub kind : f.kind ≡ file.kind
     pub length : f.length ≡ file.length
     pub blocks : (i : ℕ) → get file.blocks i ≡ content_of (ticket_at f i)
+
+  -- the file that it is
+  abbrev pub file_of : FileState B L → File
+  file_of f = record { kind = f.kind; length = f.length; blocks = blocks_below f.length (ticket_at f) }

@@ -1,5 +1,5 @@
 -- What the books have of a file's tickets and tokens, by weight.
-use Rattle.std.specs.Prelude.{◌≡◌, ℕ, List}
+use Rattle.std.specs.Prelude.{◌≡◌, ℕ, ◌+◌, List}
 use Rattle.sums.specs.Weights.{weigh}
 use Rattle.geometry.specs.declared.owner.Mark.{Mark}
 use Rattle.books.specs.declared.claim.Entry.{Entry}
@@ -7,7 +7,18 @@ use Rattle.tree.specs.Change.{of_tickets, of_tokens}
 use Rattle.nodes.specs.declared.file.FileState.{FileState}
 use Rattle.nodes.specs.File.{weight_of}
 
--- these are the marks of the file's tickets and the entries of its tokens, each as often
-pub record AreHeld {B L : Type 0} (f : FileState B L) (marks : List Mark) (entries : List Entry) : Type 0 where
-  pub tickets : (h : Mark → ℕ) → weigh h marks ≡ weight_of f (of_tickets (λ t. h t.mark))
-  pub tokens : (h : Entry → ℕ) → weigh h entries ≡ weight_of f (of_tokens h)
+-- what others have beside a file
+pub record Others : Type 0 where
+  pub tickets : (Mark → ℕ) → ℕ
+  pub tokens : (Entry → ℕ) → ℕ
+
+abbrev pub no_others : Others
+no_others = record { tickets = λ h. 0; tokens = λ h. 0 }
+
+-- these are the marks of the file's tickets and the entries of its tokens, each as often, and what others have
+pub record AreHeldBeside {B L : Type 0} (others : Others) (f : FileState B L) (marks : List Mark) (entries : List Entry) : Type 0 where
+  pub tickets : (h : Mark → ℕ) → weigh h marks ≡ weight_of f (of_tickets (λ t. h t.mark)) + others.tickets h
+  pub tokens : (h : Entry → ℕ) → weigh h entries ≡ weight_of f (of_tokens h) + others.tokens h
+
+abbrev pub AreHeld : {B L : Type 0} → FileState B L → List Mark → List Entry → Type 0
+AreHeld f marks entries = AreHeldBeside no_others f marks entries

@@ -1,3 +1,4 @@
 pub mod File
 pub mod Marks
 pub mod Held
+pub mod Owners

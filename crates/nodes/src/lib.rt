@@ -5,6 +5,7 @@ mod change;
 mod file;
 mod look;
 mod migrate;
+mod owner;
 
 pub use file::FileState;
 pub use tree::Spare;

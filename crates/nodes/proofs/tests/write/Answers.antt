@@ -1,6 +1,6 @@
 use Rattle.std.proofs.Common.{◌∷◌, subst, ◌∙◌}
 use Rattle.nodes.specs.Marks.{lengthened}
-use Rattle.nodes.specs.Held.{AreHeld}
+use Rattle.nodes.specs.Held.{AreHeld, no_others}
 use Rattle.nodes.proofs.Held.{HasTicket, held_put, held_over, ticket_there, ticket_spent}
 use Rattle.nodes.proofs.tests.write.Goals as goal
 
@@ -10,7 +10,7 @@ spend-requires-clause-held g c =
     let b = c.in-Some.before in
     let hand = c.args.permit.now in
     let mark = c.new-2.ensures.mark ∙ c.mark-claimed.ensures.ticket in
-    let has = subst (λ m. HasTicket f b.mark (m ∷ hand.tickets) hand.tokens) mark
+    let has = subst (λ m. HasTicket no_others f b.mark (m ∷ hand.tickets) hand.tokens) mark
     (held_over c.args.file.now f hand.tickets hand.tokens c.requires.held (lengthened c.args.index) c.new-2.result b c.in-Some.ensures.change) in
     rw c.mark-claimed.ensures.permit (ticket_there f b.mark _ hand.tokens has)
 
@@ -29,6 +29,6 @@ returns-in-Some-clause-held g c =
     let b = c.in-Some.before in
     let hand = c.args.permit.now in
     let mark = c.new-2.ensures.mark ∙ c.mark-claimed.ensures.ticket in
-    let has = subst (λ m. HasTicket f b.mark (m ∷ hand.tickets) hand.tokens) mark
+    let has = subst (λ m. HasTicket no_others f b.mark (m ∷ hand.tickets) hand.tokens) mark
     (held_over c.args.file.now f hand.tickets hand.tokens c.requires.held (lengthened c.args.index) c.new-2.result b c.in-Some.ensures.change) in
     rw (c.spend.ensures.permit, c.mark-claimed.ensures.permit) (ticket_spent f b.mark _ hand.tokens has)
