@@ -3,6 +3,8 @@
 #![tactic(auto)]
 
 mod node;
+#[cfg(test)]
+mod tests;
 mod ticket;
 
 pub use node::{NidToken, give_block};

@@ -1,0 +1,247 @@
+//! Threads that each mark a block of their own and give it to a node of their own, over the same books. What is asserted
+//! holds under every schedule.
+ghost use Rattle.std.specs.Prelude.{◌≡◌, [], ◌+◌, ◌*◌, ◌<◌, length, IfOk};
+ghost use Rattle.books.specs.Rules.{each_from};
+ghost use Rattle.books.specs.declared.claim.Claim.TheVariants as claim;
+
+mod worker;
+
+use books::{Books, Dealer, Layout, Permit, Permits, SegmentAccount, ShardAccount};
+use device::{Block, MemBlock};
+use geometry::Error;
+use std::alloc::Global;
+use std::marker::Model;
+use std::process::Abort;
+use std::test::*;
+use std::thread;
+use std::thread::Threads;
+use worker::{BYTES, TURNS, Worker};
+
+const LAYOUT: Layout = Layout {
+    segments: 4,
+    blocks: 8,
+    files: 1,
+};
+
+// Two workers at once.
+fn both_work<R: Threads + Sync>(
+    rt: &R,
+    books: &Books,
+    one: Worker,
+    other: Worker,
+) -> (Worker, Worker)
+    requires blocks { books.now.key.blocks ≡ 8 }
+    requires books { (one ≡ books.now.book) × (other ≡ books.now.book) }
+    ensures { (result.0 ≡ one) × (result.1 ≡ other) }
+{
+    thread::join(
+        rt,
+        move || -> Worker
+            requires { (books.now.key.blocks ≡ 8) × (one ≡ books.now.book) }
+            ensures { result ≡ one }
+        { one.work(books) },
+        move || -> Worker
+            requires { (books.now.key.blocks ≡ 8) × (other ≡ books.now.book) }
+            ensures { result ≡ other }
+        { other.work(books) },
+    )
+}
+
+// Two pairs of workers at once.
+fn all_work<R: Threads + Sync>(
+    rt: &R,
+    books: &Books,
+    one: (Worker, Worker),
+    other: (Worker, Worker),
+) -> ((Worker, Worker), (Worker, Worker))
+    requires blocks { books.now.key.blocks ≡ 8 }
+    requires one { (one.0 ≡ books.now.book) × (one.1 ≡ books.now.book) }
+    requires other { (other.0 ≡ books.now.book) × (other.1 ≡ books.now.book) }
+{
+    thread::join(
+        rt,
+        move || -> (Worker, Worker)
+            requires { (books.now.key.blocks ≡ 8) × (one.0 ≡ books.now.book) × (one.1 ≡ books.now.book) }
+        {
+            let (first, second) = one;
+            both_work(rt, books, first, second)
+        },
+        move || -> (Worker, Worker)
+            requires { (books.now.key.blocks ≡ 8) × (other.0 ≡ books.now.book) × (other.1 ≡ books.now.book) }
+        {
+            let (first, second) = other;
+            both_work(rt, books, first, second)
+        },
+    )
+}
+
+// The account of a segment, that of the shard of the same number, and a permit.
+#[derive(Drop)]
+struct Desk {
+    segment: SegmentAccount,
+    shard: ShardAccount,
+    permit: Permit,
+}
+
+impl Model for Desk {
+    ghost use Rattle.std.specs.Prelude.{◌≡◌};
+    ghost use Rattle.books.specs.Accounts.{SegmentView};
+
+    ghost Value = { SegmentView };
+
+    ghost view = { λ d. d.segment };
+
+    ghost invariant = { λ d. (d.permit.book ≡ d.segment.book) × (d.shard.book ≡ d.segment.book) × (d.shard.shard ≡ d.segment.segment) };
+}
+
+type Segments = (
+    SegmentAccount,
+    SegmentAccount,
+    SegmentAccount,
+    SegmentAccount,
+);
+
+type Shards = (ShardAccount, ShardAccount, ShardAccount, ShardAccount);
+
+// Books of four segments, and what is dealt before the shards.
+fn deal_segments(alloc: Global) -> Result<(Books, Permits, Segments, Dealer), Error>
+    ensures blocks { IfOk result (λ dealt. dealt.0.key.blocks ≡ 8) }
+    ensures permits { IfOk result (λ dealt. dealt.1 ≡ record { book = dealt.0.book; count = 64 }) }
+    ensures low { IfOk result (λ dealt. (dealt.2.0 ≡ record { book = dealt.0.book; segment = 0; marks = [] })
+        × (dealt.2.1 ≡ record { book = dealt.0.book; segment = 1; marks = [] })) }
+    ensures high { IfOk result (λ dealt. (dealt.2.2 ≡ record { book = dealt.0.book; segment = 2; marks = [] })
+        × (dealt.2.3 ≡ record { book = dealt.0.book; segment = 3; marks = [] })) }
+    ensures rest { IfOk result (λ dealt. dealt.3 ≡ record { book = dealt.0.book; claims = each_from 0 16 (λ k. claim.Shard k []) }) }
+{
+    let (books, dealer) = Books::open(alloc, &LAYOUT)?;
+    let (permits, dealer) = books.deal_permits(dealer);
+    let (zero, dealer) = books.deal_segment(dealer);
+    let (one, dealer) = books.deal_segment(dealer);
+    let (two, dealer) = books.deal_segment(dealer);
+    let (three, dealer) = books.deal_segment(dealer);
+    let (_file, dealer) = books.deal_file(dealer);
+    Ok((books, permits, (zero, one, two, three), dealer))
+}
+
+// The first four shards.
+fn deal_shards(books: &Books, dealer: Dealer) -> Shards
+    requires { dealer ≡ record { book = books.now.book; claims = each_from 0 16 (λ k. claim.Shard k []) } }
+    ensures low { (result.0 ≡ record { book = books.now.book; shard = 0; taken = [] })
+        × (result.1 ≡ record { book = books.now.book; shard = 1; taken = [] }) }
+    ensures high { (result.2 ≡ record { book = books.now.book; shard = 2; taken = [] })
+        × (result.3 ≡ record { book = books.now.book; shard = 3; taken = [] }) }
+{
+    let (zero, dealer) = books.deal_shard(dealer);
+    let (one, dealer) = books.deal_shard(dealer);
+    let (two, dealer) = books.deal_shard(dealer);
+    let (three, _dealer) = books.deal_shard(dealer);
+    (zero, one, two, three)
+}
+
+// The block at the first place of a segment of this number.
+fn first_block(alloc: Global, segment: u32) -> Result<MemBlock, Error>
+    requires { segment < 4 }
+    ensures address { IfOk result (λ block. ⟦<MemBlock as Block>⟧.address_of block ≡ 1 + segment * 8) }
+    ensures bytes { IfOk result (λ block. length (⟦<MemBlock as Block>⟧.content_of block) ≡ 64) }
+{
+    let zeros = vec![in alloc; 0u8; BYTES]?;
+    Ok(MemBlock::new(alloc, 1 + segment * 8, zeros)?)
+}
+
+// The desk of a segment, with the next permit.
+fn set_up(
+    books: &Books,
+    permits: Permits,
+    segment: SegmentAccount,
+    shard: ShardAccount,
+) -> (Permits, Desk)
+    requires books { (permits.book ≡ books.now.book) × (segment.book ≡ books.now.book) × (shard.book ≡ books.now.book) }
+    requires permits { 0 < permits.count }
+    requires shard { shard.shard ≡ segment.segment }
+    ensures permits { (result.0.book ≡ permits.book) × (result.0.count + 1 ≡ permits.count) }
+    ensures desk { result.1 ≡ segment }
+{
+    let (permits, permit) = books.take_permit(permits);
+    let desk = Desk {
+        segment,
+        shard,
+        permit,
+    };
+    (permits, desk)
+}
+
+// The worker of the segment of this number.
+fn hire(alloc: Global, number: u32, desk: Desk) -> Result<Worker, Error>
+    requires { (number < 4) × (desk.segment ≡ number) }
+    ensures { IfOk result (λ worker. worker ≡ desk.book) }
+{
+    let block = first_block(alloc, number)?;
+    let Desk {
+        segment,
+        shard,
+        permit,
+    } = desk;
+    Ok(Worker::new(segment, shard, permit, block, 16 + number))
+}
+
+// The workers of two segments next to each other, from this number on.
+fn hire_both(alloc: Global, number: u32, desks: (Desk, Desk)) -> Result<(Worker, Worker), Error>
+    requires number { number < 3 }
+    requires desks { (desks.0.segment ≡ number) × (desks.1.segment ≡ number + 1) }
+    ensures { IfOk result (λ workers. (workers.0 ≡ desks.0.book) × (workers.1 ≡ desks.1.book)) }
+{
+    let one = hire(alloc, number, desks.0)?;
+    let other = hire(alloc, number + 1, desks.1)?;
+    Ok((one, other))
+}
+
+// Both have read and lent their blocks so often as they were written.
+fn assert_right<R: Abort>(rt: &R, workers: &(Worker, Worker), turns: u32) {
+    assert_eq!(rt; (workers.0.right, workers.1.right), (turns, turns));
+}
+
+// First two work, then all four.
+fn race<R: Threads + Abort + Sync>(
+    rt: &R,
+    books: Books,
+    low: (Worker, Worker),
+    high: (Worker, Worker),
+)
+    requires blocks { books.key.blocks ≡ 8 }
+    requires low { (low.0 ≡ books.book) × (low.1 ≡ books.book) }
+    requires high { (high.0 ≡ books.book) × (high.1 ≡ books.book) }
+{
+    let (first, second) = low;
+    let low = both_work(rt, &books, first, second);
+    assert_right(rt, &low, TURNS);
+    let (low, high) = all_work(rt, &books, low, high);
+    assert_right(rt, &low, 2 * TURNS);
+    assert_right(rt, &high, TURNS);
+}
+
+// The books, and a desk for each of their segments.
+fn open_desks(alloc: Global) -> Result<(Books, (Desk, Desk), (Desk, Desk)), Error>
+    ensures blocks { IfOk result (λ r. r.0.key.blocks ≡ 8) }
+    ensures low { IfOk result (λ r. (r.1.0 ≡ record { book = r.0.book; segment = 0; marks = [] })
+        × (r.1.1 ≡ record { book = r.0.book; segment = 1; marks = [] })) }
+    ensures high { IfOk result (λ r. (r.2.0 ≡ record { book = r.0.book; segment = 2; marks = [] })
+        × (r.2.1 ≡ record { book = r.0.book; segment = 3; marks = [] })) }
+{
+    let (books, permits, segments, dealer) = deal_segments(alloc)?;
+    let shards = deal_shards(&books, dealer);
+    let (permits, zero) = set_up(&books, permits, segments.0, shards.0);
+    let (permits, one) = set_up(&books, permits, segments.1, shards.1);
+    let (permits, two) = set_up(&books, permits, segments.2, shards.2);
+    let (_permits, three) = set_up(&books, permits, segments.3, shards.3);
+    Ok((books, (zero, one), (two, three)))
+}
+
+#[test]
+fn nodes_get_blocks_side_by_side(rt: HostRuntime) -> Result<(), Fail> {
+    let alloc = rt.alloc();
+    let (books, low, high) = open_desks(alloc)?;
+    let low = hire_both(alloc, 0, low)?;
+    let high = hire_both(alloc, 2, high)?;
+    race(&rt, books, low, high);
+    Ok(())
+}
