@@ -1,0 +1,4 @@
+pub mod Taken
+pub mod Slots
+pub mod Shard
+pub mod Table

@@ -1,0 +1,168 @@
+//! One shard of the node address table.
+ghost use Rattle.std.specs.Prelude.{◌≡◌, ℕ, ◌<◌, ◌≤◌, ◌%◌, ◌∷◌, [], MatchOption, IfOk, IfErr};
+ghost use Rattle.geometry.specs.declared.error.Error.TheVariants.{NoMemory};
+ghost use Rattle.geometry.specs.declared.owner.Owner.TheVariants as owner;
+ghost use Rattle.geometry.specs.Mark.{same_mark};
+ghost use Rattle.books.specs.Lists.{times, without};
+ghost use Rattle.books.specs.Sameness.{same_entry};
+ghost use Rattle.books.specs.Rules.{bare_entry, moved_to, with_lodged};
+ghost use Rattle.nat.specs.Taken.{IsFree, IsTaken, IsLocated, placed_of};
+ghost use Rattle.nat.specs.Shard.{HasOwnNodes};
+
+use crate::slot::Slot;
+use books::{Books, Permit, ShardAccount};
+use device::Block;
+use geometry::Error;
+use std::alloc::Global;
+use std::marker::Model;
+use tickets::{NidToken, Ticket, give_block};
+
+/// How many shards there are. A number is of the shard that it leaves by this.
+pub(crate) const SHARDS: u32 = 16;
+
+/// One of the 16 shards: a slot for each of its node numbers, and its account in the books, `{ book; shard; nodes; taken }`
+/// to contracts. What the account has taken is what the slots hold, each number once.
+#[derive(Drop)]
+pub struct Shard<B: Block + Drop> {
+    number: u32,
+    nodes: u32,
+    slots: Vec<Option<Slot<B>>>,
+    account: ShardAccount,
+}
+
+impl<B: Block + Drop> Model for Shard<B> {
+    ghost use Rattle.nat.specs.Shard.{ShardNodes, IsShard};
+
+    ghost Value = { ShardNodes };
+
+    ghost view = { λ s. record { book = s.account.book; shard = s.number; nodes = s.nodes; taken = s.account.taken } };
+
+    ghost invariant = { λ s. IsShard s.nodes s.number s.slots.items s.account };
+}
+
+impl<B: Block + Drop> Shard<B> {
+    /// The shard of this number, with nothing taken, over its account. All memory that it will need is made here. The only
+    /// error is NoMemory, and then nothing is kept.
+    pub fn new(
+        alloc: Global,
+        account: ShardAccount,
+        number: u32,
+        nodes: u32,
+    ) -> Result<Shard<B>, Error>
+        requires number { number < 16 }
+        requires empty { account ≡ record { book = account.book; shard = number; taken = [] } }
+        ensures shard { IfOk result (λ shard. shard ≡ record { book = account.book; shard = number; nodes = nodes; taken = [] }) }
+        ensures own { IfOk result HasOwnNodes }
+        ensures err { IfErr result (λ error. error ≡ NoMemory) }
+    {
+        let count = (nodes as usize + SHARDS as usize - number as usize) / SHARDS as usize;
+        let mut slots = Vec::with_capacity(alloc, count)?;
+        for _place in 0..count {
+            slots.push_reserved(None);
+        }
+        Ok(Shard {
+            number,
+            nodes,
+            slots,
+            account,
+        })
+    }
+
+    /// Takes a number for a node of this inode's file, which has no block yet, and gives its token into the hand. None
+    /// exactly where the number is taken, and then nothing changes.
+    pub fn take(
+        &mut self,
+        books: &Books,
+        permit: &mut Permit,
+        number: u32,
+        inode: u32,
+    ) -> Option<NidToken>
+        requires books { (self.old.book ≡ books.now.book) × (permit.old.book ≡ books.now.book) }
+        requires home { number % 16 ≡ self.old.shard }
+        requires range { (1 ≤ number) × (number ≤ self.old.nodes) }
+        ensures token { MatchOption result (Unit {0}) (λ token. token ≡ bare_entry number inode) }
+        ensures before { MatchOption result (IsTaken number self.old.taken) (λ _. IsFree number self.old.taken) }
+        ensures shard { MatchOption result (self.new ≡ self.old) (λ token. self.new ≡ record self.old { taken = token ∷ self.old.taken }) }
+        ensures hand { MatchOption result (permit.new ≡ permit.old) (λ token. permit.new ≡ record permit.old { tokens = token ∷ permit.old.tokens }) }
+        ensures own { HasOwnNodes self.new }
+    {
+        let slot = &mut self.slots[(number / SHARDS) as usize];
+        if slot.is_some() {
+            return None;
+        }
+        let token = books.take(&mut self.account, permit, number, inode);
+        *slot = Some(Slot::new(inode));
+        Some(token)
+    }
+
+    /// The inode number and the address of a taken number, the address 0 where its node has no block yet. None exactly
+    /// where the number is free.
+    pub fn locate(&self, number: u32) -> Option<(u32, u32)>
+        requires home { number % 16 ≡ self.now.shard }
+        ensures { IsLocated number self.now.taken result }
+    {
+        let place = (number / SHARDS) as usize;
+        if place >= self.slots.len() {
+            return None;
+        }
+        match &self.slots[place] {
+            Some(slot) => Some((slot.inode(), slot.address())),
+            None => None,
+        }
+    }
+
+    /// A node gets the block of a ticket that is in hand. The block before it, where it had one, comes out with its ticket.
+    /// The token goes on to be in hand, with the new address and bytes.
+    pub fn swap(
+        &mut self,
+        books: &Books,
+        permit: &mut Permit,
+        token: &mut NidToken,
+        ticket: Ticket<B>,
+    ) -> Option<Ticket<B>>
+        requires books { (self.old.book ≡ books.now.book) × (permit.old.book ≡ books.now.book) }
+        requires home { token.old.number % 16 ≡ self.old.shard }
+        requires token { 0 < times same_entry token.old permit.old.tokens }
+        requires ticket { 0 < times same_mark ticket.mark permit.old.tickets }
+        requires owner { ticket.mark.owner ≡ owner.Node token.old.number }
+        ensures taken { 0 < times same_entry token.old self.old.taken }
+        ensures token { token.new ≡ moved_to ticket.mark.address ticket.content token.old }
+        ensures before { result ≡ placed_of token.old }
+        ensures shard { self.new ≡ record self.old { taken = token.new ∷ without same_entry token.old self.old.taken } }
+        ensures hand { permit.new ≡ record permit.old {
+          tickets = with_lodged token.old (without same_mark ticket.mark permit.old.tickets);
+          tokens = token.new ∷ without same_entry token.old permit.old.tokens;
+        } }
+        ensures own { HasOwnNodes self.new }
+    {
+        let place = (token.number() / SHARDS) as usize;
+        let (block, before) = give_block(books, &mut self.account, permit, token, ticket);
+        match &mut self.slots[place] {
+            Some(slot) => slot.swap(block, before),
+            None => unreachable!(),
+        }
+    }
+
+    /// Spends a token that is in hand: its number is free again. The node's block, where it had one, comes out with its
+    /// ticket.
+    pub fn give(&mut self, books: &Books, permit: &mut Permit, token: NidToken) -> Option<Ticket<B>>
+        requires books { (self.old.book ≡ books.now.book) × (permit.old.book ≡ books.now.book) }
+        requires home { token.number % 16 ≡ self.old.shard }
+        requires held { 0 < times same_entry token permit.old.tokens }
+        ensures taken { 0 < times same_entry token self.old.taken }
+        ensures ticket { result ≡ placed_of token }
+        ensures shard { self.new ≡ record self.old { taken = without same_entry token self.old.taken } }
+        ensures hand { permit.new ≡ record permit.old {
+          tickets = with_lodged token permit.old.tickets;
+          tokens = without same_entry token permit.old.tokens;
+        } }
+        ensures own { HasOwnNodes self.new }
+    {
+        let place = (token.number() / SHARDS) as usize;
+        let claimed = books.give(&mut self.account, permit, token);
+        match self.slots[place].take() {
+            Some(slot) => slot.into_ticket(claimed),
+            None => unreachable!(),
+        }
+    }
+}
