@@ -1,6 +1,8 @@
 //! Checks an image file.
-ghost use Rattle.std.specs.Prelude.{◌≡◌, ◌⊎◌, IfOk, IfSome};
-ghost use Rattle.f2fsim.specs.Checking.{HoldsLawfulImage, IsRefusedFile};
+ghost use Rattle.std.specs.Prelude.{◌≡◌, ◌≢◌, ◌⊎◌, Some, OnOk, IfOk, IfSome};
+ghost use Rattle.std.specs.Io.KnownBytes.{Appends};
+ghost use Rattle.f2fsim.specs.Checking.{TellsImage, TellsRefusal};
+ghost use Rattle.f2fsim.specs.Lines.{name_of, numbers_line, refusal_line};
 
 use geometry::Error;
 use image::Image;
@@ -26,8 +28,9 @@ pub fn check_image<R: Read, W: Write, E: Write>(
     errors: &mut E,
 ) -> u8
     ensures status { (result ≡ 0) ⊎ ((result ≡ 1) ⊎ (result ≡ 4)) }
-    ensures lawful { result ≡ 0 → IfSome (R.remaining input.old) HoldsLawfulImage }
-    ensures refused { result ≡ 1 → IfSome (R.remaining input.old) IsRefusedFile }
+    ensures lawful { result ≡ 0 → TellsImage (R.remaining input.old) (W.contents out.old) (W.contents out.new) }
+    ensures refused { result ≡ 1 → TellsRefusal (R.remaining input.old) (W.contents out.old) (W.contents out.new) }
+    ensures quiet { result ≢ 4 → errors.new ≡ errors.old }
 {
     match read_and_tell(alloc, input, out) {
         Ok(status) => status,
@@ -51,14 +54,13 @@ fn read_all<R: Read>(alloc: Global, input: &mut R) -> io::Result<Vec<u8>>
 // Writes the line of an image file, or of its refusal.
 fn tell_image<W: Write>(alloc: Global, file: &[u8], out: &mut W) -> io::Result<u8>
     ensures status { IfOk result (λ status. (status ≡ 0) ⊎ (status ≡ 1)) }
-    ensures lawful { IfOk result (λ status. status ≡ 0 → HoldsLawfulImage file.now) }
-    ensures refused { IfOk result (λ status. status ≡ 1 → IsRefusedFile file.now) }
+    ensures lawful { IfOk result (λ status. status ≡ 0 → TellsImage (Some file.now) (W.contents out.old) (W.contents out.new)) }
+    ensures refused { IfOk result (λ status. status ≡ 1 → TellsRefusal (Some file.now) (W.contents out.old) (W.contents out.new)) }
 {
     match Image::read(alloc, file) {
         Ok((geometry, image)) => {
             let free = image.free(&geometry);
-            let (version, total) = (image.version, image.total);
-            writeln!(out, "version {version} total {total} free {free}")?;
+            tell_numbers(image.version, image.total, free, out)?;
             Ok(DONE)
         }
         Err(error) => {
@@ -68,23 +70,55 @@ fn tell_image<W: Write>(alloc: Global, file: &[u8], out: &mut W) -> io::Result<u
     }
 }
 
+fn tell_numbers<W: Write>(version: u32, total: u32, free: u32, out: &mut W) -> io::Result<()>
+    ensures { OnOk result (Appends (W.contents out.old) (W.contents out.new) (numbers_line version total free)) }
+{
+    writeln!(out, "version {version} total {total} free {free}")
+}
+
 // What was read is told, if all could be read.
 fn read_and_tell<R: Read, W: Write>(alloc: Global, input: &mut R, out: &mut W) -> io::Result<u8>
     ensures status { IfOk result (λ status. (status ≡ 0) ⊎ (status ≡ 1)) }
-    ensures lawful { IfOk result (λ status. status ≡ 0 → IfSome (R.remaining input.old) HoldsLawfulImage) }
-    ensures refused { IfOk result (λ status. status ≡ 1 → IfSome (R.remaining input.old) IsRefusedFile) }
+    ensures lawful { IfOk result (λ status. status ≡ 0 → TellsImage (R.remaining input.old) (W.contents out.old) (W.contents out.new)) }
+    ensures refused { IfOk result (λ status. status ≡ 1 → TellsRefusal (R.remaining input.old) (W.contents out.old) (W.contents out.new)) }
 {
     let file = read_all(alloc, input)?;
-    tell_image(alloc, file.as_slice(), out)
+    let status = tell_image(alloc, file.as_slice(), out)?;
+    Ok(status)
 }
 
 /// Writes the line of a refusal: its number, its name, and the number that it has beside them.
-pub fn tell_refusal<W: Write>(error: Error, out: &mut W) -> io::Result<()> {
+pub fn tell_refusal<W: Write>(error: Error, out: &mut W) -> io::Result<()>
+    ensures { OnOk result (Appends (W.contents out.old) (W.contents out.new) (refusal_line error)) }
+{
     let number = error.number();
+    let name = refusal_name(error);
     match error {
-        Error::BadImage(fault) => writeln!(out, "refused {number} BadImage {fault}"),
-        Error::PassesOut(count) => writeln!(out, "refused {number} PassesOut {count}"),
-        Error::SeatsOut(count) => writeln!(out, "refused {number} SeatsOut {count}"),
-        _ => writeln!(out, "refused {number} {error:?}"),
+        Error::BadImage(fault) => writeln!(out, "refused {number} {name} {fault}"),
+        Error::PassesOut(count) => writeln!(out, "refused {number} {name} {count}"),
+        Error::SeatsOut(count) => writeln!(out, "refused {number} {name} {count}"),
+        _ => writeln!(out, "refused {number} {name}"),
+    }
+}
+
+// What a refusal is called.
+fn refusal_name(error: Error) -> &'static str
+    ensures { result.now ≡ name_of error }
+{
+    match error {
+        Error::NoMemory => "NoMemory",
+        Error::Device => "Device",
+        Error::NoSpace => "NoSpace",
+        Error::NoFile => "NoFile",
+        Error::NoNode => "NoNode",
+        Error::TooFar => "TooFar",
+        Error::BadLength => "BadLength",
+        Error::Wounded => "Wounded",
+        Error::BadGeometry => "BadGeometry",
+        Error::NoPack => "NoPack",
+        Error::BadImage(_) => "BadImage",
+        Error::PassesOut(_) => "PassesOut",
+        Error::SeatsOut(_) => "SeatsOut",
+        Error::Exhausted => "Exhausted",
     }
 }

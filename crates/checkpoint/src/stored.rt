@@ -1,0 +1,46 @@
+//! What shows that an image was written.
+ghost use Rattle.std.specs.Prelude.{◌≡◌, All};
+ghost use Rattle.image.specs.Pack.{pack_body};
+ghost use Rattle.image.specs.View.{image_view};
+ghost use Rattle.packs.specs.Area.{reading_of};
+ghost use Rattle.packs.specs.Device.{body_of};
+
+use crate::Taken;
+use device::{Block, Meta};
+use geometry::Geometry;
+use image::Image;
+
+/// Shows that an image was written, with which files, and into which packs: only an Ok of `ImagePacks::write` makes one.
+///
+/// A clause reads `stored.taken`, and `stored.pack.shown.items`: one entry, with the packs as they were right after the
+/// write, and the version. The body that counted then is the image's.
+#[derive(Drop)]
+pub struct Stored<M: Meta, B: Block> {
+    pub(crate) taken: Taken<B>,
+    pub(crate) geometry: Geometry,
+    pub(crate) pack: packs::Stored<M>,
+    ghost written: { All (λ entry. body_of (reading_of entry.0.len) M.seen entry.0
+        ≡ pack_body geometry.shape (image_view taken.image)) pack.shown.items },
+}
+
+impl<M: Meta, B: Block> Stored<M, B> {
+    /// What was written.
+    pub fn image(&self) -> &Image
+        ensures { result.now ≡ self.now.taken.image }
+    {
+        self.taken.image()
+    }
+
+    /// Gives up all but what was written.
+    pub fn into_image(self) -> Image
+        ensures { result ≡ self.taken.image }
+    {
+        let Stored {
+            taken,
+            geometry: _,
+            pack: _,
+        } = self;
+        let Taken { image, added: _ } = taken;
+        image
+    }
+}

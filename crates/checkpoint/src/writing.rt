@@ -1,0 +1,92 @@
+//! An image is written as the pack that counts.
+ghost use Rattle.std.specs.Prelude.{◌≡◌, ◌⊎◌, ◌<◌, ◌+◌, ℕ, [], ◌∷◌, OnOk, IfOk, IfErr};
+ghost use Rattle.geometry.specs.declared.error.Error.TheVariants.{NoMemory, Device};
+ghost use Rattle.geometry.specs.File.{Block};
+ghost use Rattle.device.specs.Disk.{Leaves, LeavesOnly};
+ghost use Rattle.image.specs.Pack.{pack_body};
+ghost use Rattle.image.specs.Reading.{image_in};
+ghost use Rattle.image.specs.Rules.{IsInRange};
+ghost use Rattle.image.specs.View.{image_view};
+ghost use Rattle.packs.specs.Pack.{Between};
+ghost use Rattle.packs.specs.Area.{reading_of};
+ghost use Rattle.packs.specs.Device.{IsSameArea, KeepsArea};
+ghost use Rattle.tables.specs.Grammar.{HasWholeEntries, SpellsTables};
+ghost use Rattle.checkpoint.specs.Holding.{AreWhole, HoldsTables, counting_body, read_with};
+
+use crate::{ImagePacks, Stored, Taken};
+use device::{Block, Meta};
+use geometry::Error;
+use image::Image;
+use std::alloc::Global;
+use tables::encode;
+
+impl<M: Meta> ImagePacks<M> {
+    /// Writes an image as the next pack, by four calls of the device. After an Ok it is the one that counts whatever crash
+    /// comes.
+    ///
+    /// Answers NoMemory before any call of the device, and then nothing has changed; and Device where the device failed:
+    /// then it is not known which of the two packs counts, and the area has to be opened again.
+    pub fn write<B: Block>(&mut self, alloc: Global, taken: Taken<B>) -> Result<Stored<M, B>, Error>
+        requires whole { AreWhole M.seen M.may_leave self.old }
+        requires range { IsInRange self.old.geometry (image_view taken.image) }
+        requires entries { HasWholeEntries (image_view taken.image) }
+        requires next { taken.image.version ≡ self.old.area.version + 1 }
+
+        ensures whole { OnOk result (AreWhole M.seen M.may_leave self.new) }
+        ensures held { OnOk result (Leaves M.may_leave self.new.area.meta (HoldsTables self.old.geometry (image_view taken.image))) }
+        ensures read_back { OnOk result ((blocks : ℕ → Block) → image_in self.old.geometry (counting_body M.seen self.new) blocks
+            ≡ read_with self.old.geometry.shape blocks (image_view taken.image)) }
+        ensures taken { IfOk result (λ stored. stored.taken ≡ taken) }
+        ensures area { IfOk result (λ stored. stored.pack.shown.items ≡ (self.new.area, self.new.area.version) ∷ []) }
+
+        // A crash at any moment of the call leaves the old pack or the new one, also where it fails.
+        ensures any_moment { LeavesOnly M.moment M.left_since self.old.area.meta self.new.area.meta
+            (KeepsArea (M.seen self.old.area.meta) (Between (reading_of self.old.area.len)
+            (counting_body M.seen self.old) (pack_body self.old.geometry.shape (image_view taken.image)))) }
+
+        ensures errors { IfErr result (λ e. (e ≡ NoMemory) ⊎ (e ≡ Device)) }
+        ensures memory { IfErr result (λ e. e ≡ NoMemory → self.new ≡ self.old) }
+        ensures device { IfErr result (λ e. e ≡ Device → M.failed self.old.area.meta < M.failed self.new.area.meta) }
+        ensures same { IsSameArea (M.seen self.old.area.meta) (M.seen self.new.area.meta) }
+        ensures geometry { self.new.geometry ≡ self.old.geometry }
+        ensures len { self.new.area.len ≡ self.old.area.len }
+    {
+        let pack = self.store(alloc, &taken.image)?;
+        let geometry = self.geometry;
+        Ok(Stored {
+            taken,
+            geometry,
+            pack,
+        })
+    }
+
+    // The body is made before the first call of the device.
+    fn store(&mut self, alloc: Global, image: &Image) -> Result<packs::Stored<M>, Error>
+        requires whole { AreWhole M.seen M.may_leave self.old }
+        requires range { IsInRange self.old.geometry (image_view image.now) }
+        requires entries { HasWholeEntries (image_view image.now) }
+        requires next { image.now.version ≡ self.old.area.version + 1 }
+
+        ensures whole { OnOk result (AreWhole M.seen M.may_leave self.new) }
+        ensures spelled { OnOk result (SpellsTables self.old.geometry (counting_body M.seen self.new) (image_view image.now)) }
+        ensures stored { IfOk result (λ stored. stored.shown.items ≡ (self.new.area, self.new.area.version) ∷ []) }
+        ensures any_moment { LeavesOnly M.moment M.left_since self.old.area.meta self.new.area.meta
+            (KeepsArea (M.seen self.old.area.meta) (Between (reading_of self.old.area.len)
+            (counting_body M.seen self.old) (pack_body self.old.geometry.shape (image_view image.now)))) }
+
+        ensures errors { IfErr result (λ e. (e ≡ NoMemory) ⊎ (e ≡ Device)) }
+        ensures memory { IfErr result (λ e. e ≡ NoMemory → self.new ≡ self.old) }
+        ensures device { IfErr result (λ e. e ≡ Device → M.failed self.old.area.meta < M.failed self.new.area.meta) }
+        ensures same { IsSameArea (M.seen self.old.area.meta) (M.seen self.new.area.meta) }
+        ensures geometry { self.new.geometry ≡ self.old.geometry }
+        ensures len { self.new.area.len ≡ self.old.area.len }
+    {
+        // A version fits its field.
+        let _version = image.version;
+        let body = encode(alloc, &self.geometry, image)?;
+        match self.area.write(body.as_slice()) {
+            Ok(stored) => Ok(stored),
+            Err(_) => Err(Error::Device),
+        }
+    }
+}
