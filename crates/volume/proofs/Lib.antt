@@ -1,3 +1,1 @@
-pub mod AreaLemmas
-pub mod ContentLemmas
-pub mod RoomLemmas
+pub mod Laws

@@ -1,4 +1,1 @@
-pub mod Area
-pub mod Contents
-pub mod Rooms
 pub mod Volume

@@ -1,12 +1,18 @@
 -- What contracts see of a volume.
-use Rattle.std.specs.Prelude.{◌<◌, ◌≤◌, ◌-◌, ℕ, List, [], ◌∷◌, ◌++◌, length, slice_index_or, slice_set}
+use Rattle.std.specs.Prelude.{◌≡◌, ◌<◌, ◌≤◌, ◌+◌, ◌-◌, ℕ, List, [], ◌∷◌, ◌++◌, length, slice_index_or, slice_set}
 use Rattle.geometry.specs.declared.geometry.Geometry.{Geometry}
 use Rattle.geometry.specs.declared.kind.Kind.TheVariants.{File as OrdinaryFile}
-use Rattle.geometry.specs.Shape.{block_bytes}
+use Rattle.geometry.specs.declared.owner.Mark.{Mark}
+use Rattle.geometry.specs.declared.shape.Shape.{Shape}
 use Rattle.geometry.specs.File.{File, new_file}
-use Rattle.sums.specs.Weights.{SameItems}
-use Rattle.volume.specs.Area.{Area, marks_in}
-use Rattle.volume.specs.Contents.{Inode, IsInode, marks_of_files}
+use Rattle.sums.specs.Weights.{weigh}
+use Rattle.books.specs.declared.claim.Entry.{Entry}
+use Rattle.tree.specs.Change.{of_tickets, of_tokens}
+use Rattle.nodes.specs.declared.file.FileState.{FileState}
+use Rattle.nodes.specs.File.{weight_of}
+use Rattle.nat.specs.Taken.{IsFree}
+use Rattle.area.specs.Area.{Area}
+use Rattle.files.specs.Contents.{IsFileOf}
 
 -- its numbers, the bytes of its meta area, and its files in the order of their inode numbers, from 1 on
 pub record Volume : Type 0 where
@@ -30,16 +36,14 @@ with_file volume number file = record volume { files = slice_set volume.files (n
 abbrev pub with_new_file : Volume → File → Volume
 with_new_file volume file = record volume { files = volume.files ++ file ∷ [] }
 
--- the direct slots of an inode that this volume uses
-abbrev pub slots_used : ℕ
-slots_used = 3
+-- the files of inodes 1, 2 and so on
+abbrev pub AreFiles : {B L : Type 0} → Shape → List (FileState B L) → Type 0
+AreFiles {B} {L} shape files = (k : ℕ) (other : FileState B L) → k < length files → IsFileOf shape (k + 1) (slice_index_or files k other)
 
--- the inodes of a volume whose blocks have so many bytes
-abbrev pub AreInodes : ℕ → List Inode → Type 0
-AreInodes bytes inodes = (k : ℕ) (other : Inode) → k < length inodes → IsInode slots_used bytes (slice_index_or inodes k other)
-
--- the valid blocks are exactly those that the files name, each once
-pub record VolumeLaw (area : Area) (inodes : List Inode) : Type 0 where
-  pub balance : SameItems (marks_in area.segments) (marks_of_files inodes)
-  pub files_fit : length inodes ≤ area.geometry.files
-  pub each : AreInodes (block_bytes area.geometry.shape) inodes
+-- What is in hand is what the files name, each once, and past the files' inode numbers all are free.
+pub record VolumeLaw {B L : Type 0} (area : Area) (files : List (FileState B L)) : Type 0 where
+  pub tickets : (h : Mark → ℕ) → weigh h area.hand.tickets ≡ weigh (λ f. weight_of f (of_tickets (λ t. h t.mark))) files
+  pub tokens : (h : Entry → ℕ) → weigh h area.hand.tokens ≡ weigh (λ f. weight_of f (of_tokens h)) files
+  pub files_fit : length files ≤ area.geometry.files
+  pub each : AreFiles area.geometry.shape files
+  pub unborn : (n : ℕ) → length files < n → n ≤ area.geometry.files → IsFree n area.numbers.taken

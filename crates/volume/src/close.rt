@@ -1,20 +1,21 @@
 //! How a volume is left.
-ghost use Rattle.std.specs.Prelude.{◌≡◌, ◌+◌, ◌-◌, ◌<◌, ◌↔◌, ◌++◌, [], length, vec_len, IfOk, IfErr, IsErr};
+ghost use Rattle.std.specs.Prelude.{◌≡◌, ◌+◌, ◌-◌, ◌<◌, ◌↔◌, [], ℕ, length, vec_len, IfOk, IfErr, IsErr};
 ghost use Rattle.device.specs.Parts.{HasSize};
 ghost use Rattle.geometry.specs.declared.error.Error.TheVariants.{PassesOut};
-ghost use Rattle.geometry.specs.Shape.{block_bytes};
-ghost use Rattle.sums.specs.Weights.{SameItems};
-ghost use Rattle.volume.specs.Area.{marks_in};
-ghost use Rattle.volume.specs.Contents.{marks_at, marks_of_files, AreWhole, HasMarks};
-ghost use Rattle.volume.specs.Volume.{AreInodes};
+ghost use Rattle.geometry.specs.declared.owner.Mark.{Mark};
+ghost use Rattle.sums.specs.Weights.{weigh};
+ghost use Rattle.books.specs.declared.claim.Entry.{Entry};
+ghost use Rattle.tree.specs.Change.{of_tickets, of_tokens};
+ghost use Rattle.nodes.specs.File.{weight_of};
+ghost use Rattle.volume.specs.Volume.{AreFiles};
 
-use crate::area::MainArea;
-use crate::file::FileState;
 use crate::pass::{FilePass, Seat};
 use crate::volume::Volume;
+use area::MainArea;
 use device::{Block, Meta, Parts};
+use files::give_up;
 use geometry::Error;
-use tickets::Ticket;
+use nodes::FileState;
 
 /// Why a volume was not left, with all that was handed in.
 pub struct CloseFault<M: Meta, B: Block + Drop> {
@@ -67,29 +68,14 @@ impl<M: Meta, B: Block + Drop> Volume<M, B> {
 
 // All blocks of all files come home.
 fn release_files<B: Block + Drop>(area: &mut MainArea<B>, mut files: Vec<FileState<B>>)
-    requires balance { SameItems (marks_in area.old.segments) (marks_of_files files.items) }
-    requires files { AreInodes (block_bytes area.old.geometry.shape) files.items }
-    ensures none { SameItems [] (marks_in area.new.segments) }
+    requires tickets { (h : Mark → ℕ) → weigh h area.old.hand.tickets ≡ weigh (λ f. weight_of f (of_tickets (λ t. h t.mark))) files.items }
+    requires tokens { (h : Entry → ℕ) → weigh h area.old.hand.tokens ≡ weigh (λ f. weight_of f (of_tokens h)) files.items }
+    requires files { AreFiles area.old.geometry.shape files.items }
+    ensures none { area.new.hand.tickets ≡ [] }
     ensures geometry { area.new.geometry ≡ area.old.geometry }
 {
     'files: while let Some(file) = files.pop() {
-        release_slots(area, file.into_slots());
+        give_up(area, file);
     }
     files.destroy_empty();
-}
-
-// The blocks of one file come home.
-fn release_slots<B: Block + Drop>(area: &mut MainArea<B>, mut slots: Vec<Option<Ticket<B>>>)
-    requires held { HasMarks (marks_in area.old.segments) (marks_at slots.items) }
-    requires bytes { AreWhole (block_bytes area.old.geometry.shape) slots.items }
-    ensures marks { SameItems (marks_at slots.items ++ marks_in area.new.segments) (marks_in area.old.segments) }
-    ensures geometry { area.new.geometry ≡ area.old.geometry }
-{
-    'slots: while let Some(slot) = slots.pop() {
-        match slot {
-            Some(ticket) => area.release(ticket),
-            None => {}
-        }
-    }
-    slots.destroy_empty();
 }

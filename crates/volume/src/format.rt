@@ -3,9 +3,9 @@ ghost use Rattle.std.specs.Prelude.{◌≡◌, ◌∷◌, [], IfOk, IfErr};
 ghost use Rattle.device.specs.Parts.{HasSize};
 ghost use Rattle.geometry.specs.declared.error.Error.TheVariants.{NoMemory};
 
-use crate::area::Rooms;
 use crate::pass::Seat;
 use crate::volume::Volume;
+use area::Rooms;
 use device::{Block, Meta, Parts};
 use geometry::{Error, Geometry};
 use std::alloc::Global;

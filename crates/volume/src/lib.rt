@@ -2,9 +2,7 @@
 //! them (Rosenblum and Ousterhout 1991; Lee and others, FAST 2015).
 #![tactic(auto)]
 
-mod area;
 pub mod close;
-mod file;
 pub mod format;
 pub mod pass;
 pub mod volume;

@@ -1,22 +1,21 @@
 //! The calls of a volume.
-ghost use Rattle.std.specs.Prelude.{◌≡◌, ◌≢◌, ◌+◌, ◌<◌, ◌≤◌, ◌↔◌, ◌⊎◌, List, true, false, length, OnOk, OnErr, IfOk, IfErr, IsErrOf};
+ghost use Rattle.std.specs.Prelude.{◌≡◌, ◌≢◌, ◌+◌, ◌<◌, ◌≤◌, ◌↔◌, ◌⊎◌, List, true, false, length, OnOk, OnErr, IfOk, IfErr, IsOk, IsErrOf};
 ghost use Rattle.std.specs.Bool.{MatchBool};
 ghost use Rattle.std.specs.FinMap.{len};
-ghost use Rattle.geometry.specs.declared.error.Error.TheVariants.{NoMemory, Device, NoSpace, NoFile, TooFar, BadLength};
+ghost use Rattle.geometry.specs.declared.error.Error.TheVariants.{NoMemory, Device, NoSpace, NoFile, NoNode, TooFar, BadLength};
+ghost use Rattle.geometry.specs.Path.{largest_length};
 ghost use Rattle.geometry.specs.Shape.{block_bytes};
-ghost use Rattle.geometry.specs.File.{File, new_file, bytes_at, written};
+ghost use Rattle.geometry.specs.File.{File, new_file, bytes_at, written, cut_to};
 ghost use Rattle.sums.specs.Weights.{weigh};
 
-use crate::area::MainArea;
-use crate::file::FileState;
 use crate::pass::FilePass;
+use area::MainArea;
 use device::{Block, Meta};
-use geometry::{Error, Geometry, Kind, Owner};
+use files::{cut_blocks, write_block};
+use geometry::{Error, Geometry, Kind};
+use nodes::FileState;
 use std::alloc::Global;
 use std::marker::Model;
-
-/// The indexes of a file that an inode holds and this volume uses.
-pub(crate) const SLOTS_USED: u32 = 3;
 
 /// A volume over a device: its meta area, its main area, and its files. A caller sees its numbers, the bytes of its
 /// meta area, and its files in the order of their inode numbers.
@@ -32,7 +31,7 @@ impl<M: Meta, B: Block + Drop> Model for Volume<M, B> {
     ghost use Rattle.std.specs.Coded.{codes};
     ghost use Rattle.geometry.specs.Area.{meta_bytes};
     ghost use Rattle.geometry.specs.File.{blocks_code};
-    ghost use Rattle.volume.specs.Contents.{file_of};
+    ghost use Rattle.nodes.specs.File.{file_of};
     ghost use Rattle.volume.specs.Volume.{Volume, VolumeLaw};
 
     ghost Value = { Volume };
@@ -45,7 +44,7 @@ impl<M: Meta, B: Block + Drop> Model for Volume<M, B> {
 }
 
 impl<M: Meta, B: Block + Drop> Volume<M, B> {
-    ghost use Rattle.volume.specs.Volume.{HasFile, file_at, with_file, with_new_file, slots_used};
+    ghost use Rattle.volume.specs.Volume.{HasFile, file_at, with_file, with_new_file};
 
     /// The volume's numbers.
     pub fn geometry(&self) -> Geometry
@@ -77,9 +76,18 @@ impl<M: Meta, B: Block + Drop> Volume<M, B> {
             return Err(Error::NoFile);
         }
         self.files.reserve(1)?;
-        let file = FileState::new(self.alloc, kind, SLOTS_USED)?;
-        self.files.push_reserved(file);
-        Ok(FilePass::new(taken as u32 + 1))
+        let number = taken as u32 + 1;
+        let shape = self.area.geometry().shape;
+        match FileState::new(self.alloc, shape, kind, self.area.take_inode(number)) {
+            Ok(file) => {
+                self.files.push_reserved(file);
+                Ok(FilePass::new(number))
+            }
+            Err(token) => {
+                self.area.give(token);
+                Err(Error::NoMemory)
+            }
+        }
     }
 
     /// The length of a file in blocks.
@@ -87,15 +95,16 @@ impl<M: Meta, B: Block + Drop> Volume<M, B> {
         requires { HasFile self.now pass.now }
         ensures { result ≡ (file_at self.now pass.now).length }
     {
-        self.files[pass.number() as usize - 1].len()
+        self.files[pass.number() as usize - 1].length()
     }
 
     /// Writes a block of a file at an index: the bytes are appended to the log, and the block that stood there is given
     /// back.
     ///
-    /// Answers BadLength where the bytes are not one block, then TooFar where the index is past those of an inode, then
-    /// NoSpace where the log is full and no segment is free, or Device where the device failed. After each of them every
-    /// file is as before.
+    /// Answers BadLength where the bytes are not one block, then TooFar where the index is at or past the largest length,
+    /// then NoMemory where a growth was refused, NoNode where a node is missing on the way and no number is free for it,
+    /// NoSpace where the log is full and no segment is free, or Device where the device failed. After each of them every file
+    /// is as before.
     pub fn write(
         &mut self,
         pass: &mut FilePass,
@@ -107,23 +116,19 @@ impl<M: Meta, B: Block + Drop> Volume<M, B> {
         ensures file { OnOk result (self.new ≡ with_file self.old pass.old (written (file_at self.old pass.old) index bytes.now)) }
         ensures pass { pass.new ≡ pass.old }
         ensures bad_length { IsErrOf result BadLength ↔ (length bytes.now ≢ block_bytes self.old.geometry.shape) }
-        ensures too_far { IsErrOf result TooFar ↔ ((length bytes.now ≡ block_bytes self.old.geometry.shape) × (slots_used ≤ index)) }
-        ensures error { IfErr result (λ error. (error ≡ BadLength) ⊎ ((error ≡ TooFar) ⊎ ((error ≡ NoSpace) ⊎ (error ≡ Device)))) }
+        ensures too_far { IsErrOf result TooFar ↔ ((length bytes.now ≡ block_bytes self.old.geometry.shape) × (largest_length self.old.geometry.shape ≤ index)) }
+        ensures error { IfErr result (λ error. (error ≡ BadLength) ⊎ ((error ≡ TooFar) ⊎ ((error ≡ NoMemory) ⊎ ((error ≡ NoNode) ⊎ ((error ≡ NoSpace) ⊎ (error ≡ Device)))))) }
         ensures err { OnErr result (self.new ≡ self.old) }
     {
-        if bytes.len() != self.area.geometry().shape.block_bytes() as usize {
+        let shape = self.area.geometry().shape;
+        if bytes.len() != shape.block_bytes() as usize {
             return Err(Error::BadLength);
         }
-        if index >= SLOTS_USED {
+        if index >= shape.largest_length() {
             return Err(Error::TooFar);
         }
-        let owner = Owner::Data(pass.number(), index);
-        let ticket = self.area.append(owner, now, bytes)?;
-        let before = self.files[pass.number() as usize - 1].put(index, ticket);
-        if let Some(before) = before {
-            self.area.release(before);
-        }
-        Ok(())
+        let file = &mut self.files[pass.number() as usize - 1];
+        write_block(self.alloc, &mut self.area, file, index, bytes, now)
     }
 
     /// Reads the block of a file at an index into `out`, which has a block's bytes. Answers true below the length, where
@@ -139,10 +144,23 @@ impl<M: Meta, B: Block + Drop> Volume<M, B> {
         ensures same { self.new ≡ self.old }
     {
         let file = &mut self.files[pass.number() as usize - 1];
-        if index >= file.len() {
+        if index >= file.length() {
             return Ok(false);
         }
         file.read(index, out)?;
         Ok(true)
+    }
+
+    /// Cuts a file: its length becomes the lesser of `length`, in blocks, and itself, and what stood at or past it is given
+    /// back. It takes no memory, and is never refused.
+    pub fn cut(&mut self, pass: &mut FilePass, length: u32) -> Result<(), Error>
+        requires { HasFile self.old pass.old }
+        ensures ok { IsOk result }
+        ensures file { self.new ≡ with_file self.old pass.old (cut_to (file_at self.old pass.old) length) }
+        ensures pass { pass.new ≡ pass.old }
+    {
+        let file = &mut self.files[pass.number() as usize - 1];
+        cut_blocks(&mut self.area, file, length);
+        Ok(())
     }
 }

@@ -1,41 +1,42 @@
-use Rattle.std.proofs.Common.{◌∷◌, [], ap, sym, subst, ◌∙◌, arith}
+use Rattle.std.proofs.Common.{rules, ◌≡◌, ◌+◌, ◌∷◌, ◌++◌, [], vec_len, ap, sym, subst, ◌∙◌, arith}
 use Rattle.geometry.specs.declared.geometry.Geometry.{Geometry}
-use Rattle.geometry.specs.Shape.{block_bytes}
 use Rattle.sums.specs.Weights.{weigh}
 use Rattle.sums.proofs.Weighing.{weigh-append}
 use Rattle.sums.proofs.Indexing.{each_last, each_front}
-use Rattle.volume.specs.Area.{marks_in}
-use Rattle.volume.specs.Contents.{IsInode, marks_at, marks_of_files, AreWhole}
-use Rattle.volume.specs.Volume.{AreInodes, slots_used}
-use Rattle.volume.proofs.ContentLemmas.{marks_of_files-last}
+use Rattle.nodes.specs.Held.{Others}
+use Rattle.files.specs.Contents.{IsFileOf}
+use Rattle.volume.specs.Volume.{AreFiles}
+use Rattle.volume.proofs.Laws.{tickets_of, tokens_of, of_files, with_last, no_weight, no_items}
 use Rattle.volume.proofs.close.release_files.Goals as goal
 
-pub release_slots-requires-clause-held : goal.release_slots-requires-clause-held
-release_slots-requires-clause-held g c = (
-  marks_of_files c.pop.new.self.items,
-  λ weight.
-      let now = c.files.invariant.0 weight in
-      let last = ap (λ xs. weigh weight (marks_of_files xs)) c.in-Some.ensures.items ∙ marks_of_files-last weight c.pop.new.self.items c.in-Some.file in
-      let here = ap (λ xs. weigh weight (marks_at xs)) c.into_slots.ensures in
-      let both = weigh-append weight (marks_at c.into_slots.result.items) (marks_of_files c.pop.new.self.items) in omega arith,
-)
+pub give_up-requires-clause-stored : goal.give_up-requires-clause-stored
+give_up-requires-clause-stored g c =
+    let shape = c.files.area.geometry.shape in
+    let parted = subst (AreFiles shape) c.in-Some.ensures.items c.files.invariant.each in
+    (each_last (λ k x. IsFileOf shape (k + 1) x) c.pop.new.self.items c.in-Some.file parted).stored
 
-pub release_slots-requires-clause-bytes : goal.release_slots-requires-clause-bytes
-release_slots-requires-clause-bytes g c =
-    let bytes = block_bytes c.files.area.geometry.shape in
-    let parted = subst (AreInodes bytes) c.in-Some.ensures.items c.files.invariant.1 in
-    subst (AreWhole bytes) (sym c.into_slots.ensures) (each_last (λ k x. IsInode slots_used bytes x) c.pop.new.self.items c.in-Some.file parted).whole
+pub give_up-requires-clause-held : goal.give_up-requires-clause-held
+give_up-requires-clause-held g c =
+    let front = c.pop.new.self.items in
+    (of_files front, with_last front c.in-Some.file c.files.files.items c.files.area c.in-Some.ensures.items c.files.invariant.tickets c.files.invariant.tokens)
 
 pub files-preserved : goal.files-preserved
 files-preserved g c =
-    let bytes = block_bytes c.files.area.geometry.shape in
-    let parted = subst (AreInodes bytes) c.in-Some.ensures.items c.files.invariant.1 in (
-      λ weight.
-          let now = c.files.invariant.0 weight in
-          let last = ap (λ xs. weigh weight (marks_of_files xs)) c.in-Some.ensures.items ∙ marks_of_files-last weight c.pop.new.self.items c.in-Some.file in
-          let here = ap (λ xs. weigh weight (marks_at xs)) c.into_slots.ensures in
-          let lost = c.release_slots.ensures.marks weight in
-          let both = weigh-append weight (marks_at c.into_slots.result.items) (marks_in c.release_slots.new.area.segments) in omega arith,
-      subst (λ (x : Geometry). AreInodes (block_bytes x.shape) c.pop.new.self.items) (sym c.release_slots.ensures.geometry) (each_front (λ k x. IsInode slots_used bytes x) c.pop.new.self.items (c.in-Some.file ∷ []) parted),
-      c.release_slots.ensures.geometry ∙ c.files.invariant.2,
-    )
+    let shape = c.files.area.geometry.shape in
+    let front = c.pop.new.self.items in
+    let parted = subst (AreFiles shape) c.in-Some.ensures.items c.files.invariant.each in
+    let held = with_last front c.in-Some.file c.files.files.items c.files.area c.in-Some.ensures.items c.files.invariant.tickets c.files.invariant.tokens in
+    let gone = c.give_up.ensures in
+    record {
+      tickets = gone.tickets (of_files front) held;
+      tokens = gone.tokens (of_files front) held;
+      each = subst (λ (v : Geometry). AreFiles v.shape front) (sym gone.geometry) (each_front (λ k x. IsFileOf shape (k + 1) x) front (c.in-Some.file ∷ []) parted);
+      geometry = gone.geometry ∙ c.files.invariant.geometry;
+    }
+
+pub returns-clause-none : goal.returns-clause-none
+returns-clause-none g c =
+    let empty : vec_len c.pop.new.self ≡ 0 = search rules in
+    let ok = c.pop.new.self.ok.0 in
+    let gone : c.pop.new.self.items ≡ [] = no_items c.pop.new.self.items (omega arith) in
+    no_weight c.files.area.hand.tickets (c.files.invariant.tickets (λ m. 1) ∙ ap (weigh (tickets_of (λ m. 1))) (c.in_default.ensures.items ∙ ap (λ xs. xs ++ []) gone))

@@ -1,37 +1,42 @@
-use Rattle.std.proofs.Common.{◌≡◌, ◌++◌, ◌∷◌, [], Option, None, replicate, length, ap, sym, subst, ◌∙◌, arith}
-use Rattle.std.proofs.lemmas.List.{length-append, length-replicate}
-use Rattle.geometry.specs.Shape.{block_bytes}
+use Rattle.std.proofs.Common.{◌≡◌, ◌+◌, ◌<◌, ◌++◌, ◌∷◌, [], length, ap, sym, subst, ◌∙◌, arith}
+use Rattle.geometry.specs.Area.{meta_bytes}
 use Rattle.geometry.specs.declared.geometry.Geometry.{Geometry}
-use Rattle.sums.specs.Weights.{weigh}
-use Rattle.sums.proofs.Indexing.{each_push}
-use Rattle.tickets.specs.Placed.{Placed}
-use Rattle.volume.specs.Contents.{Inode, IsInode, AreWhole, marks_at}
-use Rattle.volume.specs.Volume.{VolumeLaw, slots_used}
-use Rattle.volume.proofs.ContentLemmas.{marks_of_files-last, whole_none}
+use Rattle.books.specs.declared.claim.Entry.{Entry}
+use Rattle.volume.specs.Volume.{VolumeLaw}
+use Rattle.volume.proofs.Laws.{born-law, back-law}
 use Rattle.volume.proofs.volume.Volume.create.Goals as goal
 
-pub invariant_of-self-2 : goal.invariant_of-self-2
-invariant_of-self-2 g c =
+pub invariant_of-self-in-Ok : goal.invariant_of-self-in-Ok
+invariant_of-self-in-Ok g c =
     let v = c.self.inside in
     let law = c.self.invariant.0 in
-    let bytes = block_bytes v.area.geometry.shape in
-    let file = c.in_ok-file.file in
-    let items : c.push_reserved.new.self.items ≡ v.files.items ++ file ∷ [] = c.push_reserved.ensures.items ∙ ap (λ xs. xs ++ file ∷ []) c.in_ok-reserve.ensures.items in
-    let slots : file.slots ≡ replicate slots_used None = ap (λ (x : Inode). x.slots) c.in_ok-file.ensures.ok in
-    let inode : IsInode slots_used bytes file = record {
-      count = ap length slots ∙ length-replicate {A = Option Placed} slots_used None;
-      reached = let l = ap (λ (x : Inode). x.length) c.in_ok-file.ensures.ok in omega arith;
-      whole = subst (λ xs. AreWhole bytes xs) (sym slots) (whole_none bytes slots_used);
-    } in (
-      subst (VolumeLaw v.area) (sym items) (record {
-        balance = λ weight. (let b = law.balance weight in let last = marks_of_files-last weight v.files.items file in let none = ap (λ xs. weigh weight (marks_at xs)) slots in omega arith);
-        files_fit = (let l = length-append v.files.items (file ∷ []) in
-            let fit = law.files_fit in
-            let taken = c.len-taken.ensures in
-            let ok = v.files.ok.0 in
-            let more = c.if-taken-geometry.false in
-            let same = ap (λ (x : Geometry). x.files) c.geometry.ensures in omega arith);
-        each = each_push (λ k x. IsInode slots_used bytes x) v.files.items file law.each inode;
-      }),
-      c.self.invariant.1,
+    let files = v.files.items in
+    let f = c.in-Ok.file in
+    let k = c.take_inode.result in
+    let new = c.in-Ok.ensures in
+    let took = c.take_inode.ensures in
+    let items : c.push_reserved.new.self.items ≡ files ++ f ∷ [] = c.push_reserved.ensures.items ∙ ap (λ xs. xs ++ f ∷ []) c.in_ok-reserve.ensures.items in
+    let taken = c.len-taken.ensures in
+    let ok = v.files.ok.0 in
+    let fit = law.files_fit in
+    let more = c.if-taken-geometry.false in
+    let same = ap (λ (x : Geometry). x.files) c.geometry.ensures in
+    let room : length files < v.area.geometry.files = omega arith in
+    let number : k.number ≡ length files + 1 = ap (λ (e : Entry). e.number) took.token ∙ omega arith in (
+      subst (λ xs. VolumeLaw c.take_inode.new.self xs) (sym items)
+          (born-law v.area c.take_inode.new.self files f k law took.geometry new.token number new.bare new.file new.length
+          (new.shape ∙ ap (λ (x : Geometry). x.shape) c.geometry-shape.ensures) took.hand took.taken room),
+      c.self.invariant.1 ∙ ap meta_bytes (sym took.geometry),
+    )
+
+pub invariant_of-self-in-Err : goal.invariant_of-self-in-Err
+invariant_of-self-in-Err g c =
+    let v = c.self.inside in
+    let law = c.self.invariant.0 in
+    let took = c.take_inode.ensures in
+    let gave = c.give.ensures in
+    let geometry = gave.geometry ∙ took.geometry in (
+      subst (λ xs. VolumeLaw c.give.new.self xs) (sym c.in_ok-reserve.ensures.items)
+          (back-law v.area c.take_inode.new.self c.give.new.self v.files.items c.take_inode.result c.in-Err.token law c.in-Err.ensures.refused took.hand gave.hand took.taken gave.taken geometry),
+      c.self.invariant.1 ∙ ap meta_bytes (sym geometry),
     )

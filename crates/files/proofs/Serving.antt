@@ -1,0 +1,362 @@
+-- What a call on one file does to the file and to what is in hand.
+use Rattle.std.proofs.Common.{◌≡◌, ◌≢◌, ℕ, zero, suc, ◌+◌, ◌-◌, ◌<◌, ◌≤◌, max, min, List, [], ◌∷◌, Option, Some, None, true, false, cond, if◌then◌else◌, length, refl, sym, ap, subst, ◌∙◌, inl, inr, ne_eqb, arith}
+use Rattle.std.specs.Prelude.{is_some, nat_lt, ◌==◌}
+use Rattle.std.proofs.lemmas.Bool.{cases_eq, cases_lt}
+use borrow.Author.Tests.{lt-ltb, le-ltb}
+use Rattle.std.specs.Ordering.{nat_cmp}
+use Rattle.std.proofs.lemmas.Cmp.{nat_cmp_total}
+use Rattle.std.specs.FinMap.{FinMap, get, insert, len, retain_keys, len-insert, get-retain_keys, same_map, nat_cmp-IsAntisymmetric}
+use Rattle.geometry.specs.declared.geometry.Geometry.{Geometry}
+use Rattle.geometry.specs.declared.owner.Mark.{Mark}
+use Rattle.geometry.specs.Mark.{same_mark}
+use Rattle.geometry.specs.Path.{largest_length}
+use Rattle.geometry.specs.Shape.{block_bytes}
+use Rattle.geometry.specs.File.{File, Block, written, cut_to}
+use Rattle.books.specs.Accounts.{HandView}
+use Rattle.books.specs.declared.claim.Entry.{Entry}
+use Rattle.books.specs.Lists.{times, without}
+use Rattle.books.specs.Sameness.{same_entry}
+use Rattle.books.proofs.Sameness.{entry_self}
+use Rattle.books.proofs.Steps.{without_entry_first}
+use Rattle.tickets.specs.Placed.{Placed}
+use Rattle.tree.specs.declared.spare.Spare.{Spare}
+use Rattle.tree.specs.declared.spare.Spare.TheVariants.{Ticket, Token}
+use Rattle.tree.specs.Tree.{SetsAt, Same, EmptyFrom, HandsOut}
+use Rattle.tree.specs.Change.{TreeNode, Weighing, WeighsAs, IsNewNode, nothing, ticket_weight, of_tickets, of_tokens}
+use Rattle.nodes.specs.declared.file.FileState.{FileState}
+use Rattle.nodes.specs.File.{IsFile, Shows, ticket_at, content_of, weight_of, below_weight, file_of}
+use Rattle.nodes.specs.Marks.{MarksNode, unchanged, lengthened}
+use Rattle.nodes.specs.Owners.{HasNumbers, unnumbered}
+use Rattle.nodes.specs.Held.{Others, AreHeldBeside}
+use Rattle.nodes.proofs.Shown.{same_shows, got, kept}
+use Rattle.nodes.proofs.Files.{shows_file_of, only_file}
+use Rattle.nodes.proofs.Held.{weigh_tickets, weigh_tokens, HasTicket, HasToken, held_grown, held_put, held_over, held_ticket, held_token, held_same, ticket_there, ticket_spent, token_there, token_spent}
+use Rattle.nat.specs.Taken.{IsFree}
+use Rattle.nat.specs.Table.{TableNodes}
+use Rattle.area.specs.Area.{Area, KeepsFree}
+use Rattle.files.specs.Contents.{AreWhole, IsStored, InHand, Serves}
+
+-- 1 for each ticket
+abbrev pub each_ticket : Weighing Placed
+each_ticket = of_tickets (λ t. 1)
+
+-- what is in hand after a ticket or a token came or went
+abbrev pub with_ticket : Mark → HandView → HandView
+with_ticket m hand = record hand { tickets = m ∷ hand.tickets }
+
+abbrev pub less_ticket : Mark → HandView → HandView
+less_ticket m hand = record hand { tickets = without same_mark m hand.tickets }
+
+abbrev pub with_token : Entry → HandView → HandView
+with_token k hand = record hand { tokens = k ∷ hand.tokens }
+
+abbrev pub less_token : Entry → HandView → HandView
+less_token k hand = record hand { tokens = without same_entry k hand.tokens }
+
+pub has_number : (k : Entry) → 0 < k.number → unnumbered k ≡ 0
+has_number k some = ap (λ b. if b then 1 else 0) (ne_eqb k.number 0 (λ e. absurd (omega arith)))
+
+pub first_token : (k : Entry) (ks : List Entry) → 0 < times same_entry k (k ∷ ks)
+first_token k ks =
+    let one : ◌≡◌ {A = ℕ} (if same_entry k k then 1 else 0) 1 = ap (λ b. if b then 1 else 0) (entry_self k) in
+    omega arith
+
+-- the bytes of a ticket's block
+abbrev pub long : Placed → ℕ
+long t = length t.content
+
+-- ---- one call after another
+
+module _ {B L : Type 0} where
+  pub serves_not : (f : FileState B L) (x : Area) → IsStored f → Serves f f x x
+  serves_not f x is = record {
+    stored = is;
+    shape = refl;
+    number = refl;
+    others = λ others was. was;
+    free = λ n low was. was;
+    geometry = refl;
+  }
+
+  pub serves_both : (f g h : FileState B L) (x y z : Area) → Serves f g x y → Serves g h y z → Serves f h x z
+  serves_both f g h x y z one two = record {
+    stored = two.stored;
+    shape = two.shape ∙ one.shape;
+    number = two.number ∙ one.number;
+    others = λ others was. two.others others (one.others others was);
+    free = λ n low was. two.free n (let same = ap (λ (v : Geometry). v.files) one.geometry in omega arith) (one.free n low was);
+    geometry = two.geometry ∙ one.geometry;
+  }
+
+-- ---- the file as it was
+
+module _ {B L : Type 0} (old new : FileState B L) (is : IsStored old) (now : IsFile new) (shape : new.shape ≡ old.shape) (kind : new.kind ≡ old.kind) where
+  pub same_file : new.length ≡ old.length → Same (ticket_at old) (ticket_at new) → file_of new ≡ file_of old
+  same_file length same =
+      sym (only_file new now (file_of old) (same_shows old new (file_of old) (shows_file_of old is.file) kind length (λ i. ap content_of (same i))))
+
+  pub stored_same : new.length ≡ old.length → Same (ticket_at old) (ticket_at new) → weight_of new each_ticket ≡ weight_of old each_ticket → HasNumbers new → IsStored new
+  stored_same length same weight numbered = record {
+    file = now;
+    short = let s = is.short in let top = ap largest_length shape in omega arith;
+    numbered = numbered;
+    whole = λ i t at. is.whole i t (sym (same i) ∙ at) ∙ ap block_bytes (sym shape);
+    counted = weight ∙ (is.counted ∙ ap (λ (f : File). len f.blocks) (sym (same_file length same)));
+  }
+
+-- ---- a node comes
+
+module _ {B L : Type 0} (old new : FileState B L) (x y : Area) (k : Entry) (is : IsStored old) (now : IsFile new) (shape : new.shape ≡ old.shape) (kind : new.kind ≡ old.kind)
+    (length : new.length ≡ old.length) (same : Same (ticket_at old) (ticket_at new)) (free : KeepsFree x.geometry.files x.numbers.taken y.numbers.taken)
+    (geometry : y.geometry ≡ x.geometry) where
+  pub serves_grown : y.hand ≡ with_token k x.hand → 0 < k.number → (n : TreeNode) → n.token ≡ k → MarksNode unchanged old new nothing (λ w. w.node n) → Serves old new x y
+  serves_grown hand some n token change = record {
+    stored = stored_same old new is now shape kind length same
+        (let all = weigh_tickets unchanged old new nothing (λ w. w.node n) change (λ m. 1) in omega arith)
+        (let all = weigh_tokens unchanged old new nothing (λ w. w.node n) change unnumbered in
+        let was = is.numbered in
+        let same = ap unnumbered token in
+        let none = has_number k some in omega arith);
+    shape = shape;
+    number = ap (λ (e : Entry). e.number) change.token;
+    others = λ others was. subst (λ (h : HandView). AreHeldBeside others new h.tickets h.tokens) (sym hand)
+        (held_grown old new x.hand.tickets x.hand.tokens was unchanged n k token change);
+    free = free;
+    geometry = geometry;
+  }
+
+  pub serves_trimmed : y.hand ≡ less_token k x.hand → (n : TreeNode) → n.token ≡ k → MarksNode unchanged old new (λ w. w.node n) nothing → Serves old new x y
+  serves_trimmed hand n token change = record {
+    stored = stored_same old new is now shape kind length same
+        (let all = weigh_tickets unchanged old new (λ w. w.node n) nothing change (λ m. 1) in omega arith)
+        (let all = weigh_tokens unchanged old new (λ w. w.node n) nothing change unnumbered in let was = is.numbered in omega arith);
+    shape = shape;
+    number = ap (λ (e : Entry). e.number) change.token;
+    others = λ others was. subst (λ (h : HandView). AreHeldBeside others new h.tickets h.tokens) (sym hand)
+        (token_spent new k x.hand.tickets x.hand.tokens (held_token old new x.hand.tickets x.hand.tokens was unchanged k (λ w. w.node n) (n, token, λ w. refl) change));
+    free = free;
+    geometry = geometry;
+  }
+
+pub trimmed_there : {B L : Type 0} {others : Others} (old new : FileState B L) (x : Area) (k : Entry) → InHand others old x → (n : TreeNode) → n.token ≡ k
+    → MarksNode unchanged old new (λ w. w.node n) nothing → 0 < times same_entry k x.hand.tokens
+trimmed_there old new x k was n token change =
+    token_there new k x.hand.tickets x.hand.tokens (held_token old new x.hand.tickets x.hand.tokens was unchanged k (λ w. w.node n) (n, token, λ w. refl) change)
+
+-- a token came and went again
+pub serves_back : {B L : Type 0} (f : FileState B L) (x y z : Area) (k : Entry) → IsStored f → y.hand ≡ with_token k x.hand → z.hand ≡ less_token k y.hand
+    → KeepsFree x.geometry.files x.numbers.taken y.numbers.taken → KeepsFree y.geometry.files y.numbers.taken z.numbers.taken
+    → y.geometry ≡ x.geometry → z.geometry ≡ y.geometry → Serves f f x z
+serves_back f x y z k is there back free_1 free_2 geometry_1 geometry_2 = record {
+  stored = is;
+  shape = refl;
+  number = refl;
+  others = λ others was. subst (λ (h : HandView). AreHeldBeside others f h.tickets h.tokens) (sym whole) was;
+  free = λ n low was. free_2 n (let same = ap (λ (v : Geometry). v.files) geometry_1 in omega arith) (free_1 n low was);
+  geometry = geometry_2 ∙ geometry_1;
+}
+  where
+    whole : z.hand ≡ x.hand
+    whole = back ∙ (ap (less_token k) there ∙ (λ i. record x.hand { tokens = without_entry_first k x.hand.tokens i }))
+
+-- ---- a ticket comes, and one goes
+
+module _ {B L : Type 0} (old new : FileState B L) (x y : Area) (index : ℕ) (t : Placed) (is : IsStored old) (now : IsFile new) (shape : new.shape ≡ old.shape) (inside : index < largest_length old.shape)
+    (longer : new.length ≡ max old.length (index + 1)) (sets : SetsAt (ticket_at old) (ticket_at new) index (Some t))
+    (shows : Shows new (written (file_of old) index t.content)) (whole : length t.content ≡ block_bytes old.shape)
+    (numbers : y.numbers ≡ x.numbers) (geometry : y.geometry ≡ x.geometry) where
+  pub put_file : file_of new ≡ written (file_of old) index t.content
+  put_file = sym (only_file new now (written (file_of old) index t.content) shows)
+
+  there : (before : Option Placed) → before ≡ ticket_at old index → is_some (get (file_of old).blocks index) ≡ is_some (content_of before)
+  there before at = ap is_some ((shows_file_of old is.file).blocks index ∙ ap content_of (sym at))
+
+  counted : (before : Option Placed) → before ≡ ticket_at old index → weight_of new each_ticket + ticket_weight each_ticket before ≡ weight_of old each_ticket + 1
+      → weight_of new each_ticket ≡ len (insert (file_of old).blocks index t.content)
+  counted None at weight =
+      let was = is.counted in
+      let m = (file_of old).blocks in
+      let more = len-insert nat_cmp_total m index t.content ∙ ap (λ b. cond b (len m) (len m + 1)) (there None at) in omega arith
+  counted (Some b) at weight =
+      let was = is.counted in
+      let m = (file_of old).blocks in
+      let more = len-insert nat_cmp_total m index t.content ∙ ap (λ b. cond b (len m) (len m + 1)) (there (Some b) at) in omega arith
+
+  stored_put : (before : Option Placed) → before ≡ ticket_at old index → MarksNode (lengthened index) old new (λ w. ticket_weight w before) (λ w. w.ticket t) → IsStored new
+  stored_put before at change = record {
+    file = now;
+    short = let s = is.short in let top = ap largest_length shape in omega arith;
+    numbered =
+        let all = weigh_tokens (lengthened index) old new (λ w. ticket_weight w before) (λ w. w.ticket t) change unnumbered in
+        let was = is.numbered in omega arith;
+    whole = λ i u there. elim (cases_eq i index) [
+      | inl e ↦ let same : Some t ≡ Some u = sym sets.0 ∙ (ap (ticket_at new) (sym e) ∙ there) in
+          ap long_of (sym same) ∙ (whole ∙ ap block_bytes (sym shape))
+      | inr ne ↦ is.whole i u (sym (sets.1 i ne) ∙ there) ∙ ap block_bytes (sym shape)
+    ];
+    counted = counted before at (weigh_tickets (lengthened index) old new (λ w. ticket_weight w before) (λ w. w.ticket t) change (λ m. 1))
+        ∙ ap (λ (f : File). len f.blocks) (sym put_file);
+  }
+    where
+      long_of : Option Placed → ℕ
+      long_of None = 0
+      long_of (Some v) = long v
+
+  pub serves_put : None ≡ ticket_at old index → MarksNode (lengthened index) old new (λ w. ticket_weight w None) (λ w. w.ticket t) → y.hand ≡ with_ticket t.mark x.hand → Serves old new x y
+  serves_put at change hand = record {
+    stored = stored_put None at change;
+    shape = shape;
+    number = ap (λ (e : Entry). e.number) change.token;
+    others = λ others was. subst (λ (h : HandView). AreHeldBeside others new h.tickets h.tokens) (sym hand)
+        (held_put old new x.hand.tickets x.hand.tokens was (lengthened index) t change);
+    free = λ n low was. subst (λ (v : TableNodes). IsFree n v.taken) (sym numbers) was;
+    geometry = geometry;
+  }
+
+  pub serves_over : (b : Placed) → Some b ≡ ticket_at old index → MarksNode (lengthened index) old new (λ w. ticket_weight w (Some b)) (λ w. w.ticket t)
+      → y.hand ≡ less_ticket b.mark (with_ticket t.mark x.hand) → Serves old new x y
+  serves_over b at change hand = record {
+    stored = stored_put (Some b) at change;
+    shape = shape;
+    number = ap (λ (e : Entry). e.number) change.token;
+    others = λ others was. subst (λ (h : HandView). AreHeldBeside others new h.tickets h.tokens) (sym hand)
+        (ticket_spent new b.mark (t.mark ∷ x.hand.tickets) x.hand.tokens (held_over old new x.hand.tickets x.hand.tokens was (lengthened index) t b change));
+    free = λ n low was. subst (λ (v : TableNodes). IsFree n v.taken) (sym numbers) was;
+    geometry = geometry;
+  }
+
+-- the ticket that stood there is in hand
+pub over_there : {B L : Type 0} {others : Others} (old new : FileState B L) (x : Area) (index : ℕ) (t b : Placed) → InHand others old x
+    → MarksNode (lengthened index) old new (λ w. ticket_weight w (Some b)) (λ w. w.ticket t) → 0 < times same_mark b.mark (t.mark ∷ x.hand.tickets)
+over_there old new x index t b was change =
+    ticket_there new b.mark (t.mark ∷ x.hand.tickets) x.hand.tokens (held_over old new x.hand.tickets x.hand.tokens was (lengthened index) t b change)
+
+-- ---- a ticket or a node goes, where the file is cut
+
+module _ {B L : Type 0} (old new : FileState B L) (x y : Area) (n : ℕ) (is : IsStored old) (now : IsFile new) (shape : new.shape ≡ old.shape) (kind : new.kind ≡ old.kind)
+    (length : new.length ≡ old.length) (geometry : y.geometry ≡ x.geometry) where
+  were : (q : ℕ) → get (file_of old).blocks q ≡ content_of (ticket_at old q)
+  were = (shows_file_of old is.file).blocks
+
+  are : (q : ℕ) → get (file_of new).blocks q ≡ content_of (ticket_at new q)
+  are = (shows_file_of new now).blocks
+
+  abbrev out_at : ℕ → FinMap nat_cmp Block → FinMap nat_cmp Block
+  out_at from blocks = retain_keys blocks (λ index. nat_lt index from)
+
+  below_cut : (m : FinMap nat_cmp Block) (q : ℕ) → get (out_at n m) q ≡ cond (nat_lt q n) (get m q) None
+  below_cut m q = get-retain_keys m (λ k. nat_lt k n) q (λ z e. ap (λ k. nat_lt k n) (sym (nat_cmp-IsAntisymmetric q z e)))
+
+  -- below the cut the file is as it was
+  cut_same : ((q : ℕ) → q < n → ticket_at new q ≡ ticket_at old q) → cut_to (file_of new) n ≡ cut_to (file_of old) n
+  cut_same same k = record {
+    kind = kind k;
+    length = ap (min n) length k;
+    blocks = same_map nat_cmp_total nat_cmp-IsAntisymmetric (out_at n (file_of new).blocks) (out_at n (file_of old).blocks)
+        (λ q. below_cut (file_of new).blocks q
+        ∙ elim (cases_lt q n) [
+          | inl lt ↦ ap (λ b. cond (nat_lt q n) b None) (are q ∙ (ap content_of (same q lt) ∙ sym (were q)))
+          | inr ge ↦ ap (λ b. cond b (get (file_of new).blocks q) None) (le-ltb q n ge) ∙ sym (ap (λ b. cond b (get (file_of old).blocks q) None) (le-ltb q n ge))
+        ] ∙ sym (below_cut (file_of old).blocks q)) k;
+  }
+
+  module _ (t : Placed) (hands : HandsOut (ticket_at old) (ticket_at new) n (Ticket t)) (out : Weighing Placed → ℕ) (weighs : WeighsAs (Ticket t) out)
+      (change : MarksNode unchanged old new out nothing) where
+    abbrev at : ℕ
+    at = hands.0
+
+    with_it : insert (file_of new).blocks at t.content ≡ (file_of old).blocks
+    with_it = same_map nat_cmp_total nat_cmp-IsAntisymmetric (insert (file_of new).blocks at t.content) (file_of old).blocks (λ q. elim (cases_eq q at) [
+      | inl e ↦ got (file_of new).blocks at t.content q e ∙ sym (were q ∙ ap content_of (ap (ticket_at old) e ∙ hands.2))
+      | inr ne ↦ kept (file_of new).blocks at t.content q ne ∙ (are q ∙ (ap content_of (hands.3.1 q ne) ∙ sym (were q)))
+    ])
+
+    fewer : len (file_of new).blocks + 1 ≡ len (file_of old).blocks
+    fewer =
+        let m = (file_of new).blocks in
+        let none : is_some (get m at) ≡ false = ap is_some (are at ∙ ap content_of hands.3.0) in
+        sym (ap len (sym with_it) ∙ (len-insert nat_cmp_total m at t.content ∙ ap (λ b. cond b (len m) (len m + 1)) none))
+
+    pub whole_out : long t ≡ block_bytes old.shape
+    whole_out = is.whole at t hands.2
+
+    pub cut_out : cut_to (file_of new) n ≡ cut_to (file_of old) n
+    cut_out = cut_same (λ q lt. hands.3.1 q (λ e. let far = hands.1 in absurd (omega arith)))
+
+    pub out_there : {others : Others} → InHand others old x → 0 < times same_mark t.mark x.hand.tickets
+    out_there was = ticket_there new t.mark x.hand.tickets x.hand.tokens (held_ticket old new x.hand.tickets x.hand.tokens was unchanged t out weighs change)
+
+    pub serves_out : y.hand ≡ less_ticket t.mark x.hand → y.numbers ≡ x.numbers → Serves old new x y
+    serves_out hand numbers = record {
+      stored = record {
+        file = now;
+        short = let s = is.short in let top = ap largest_length shape in omega arith;
+        numbered = let all = weigh_tokens unchanged old new out nothing change unnumbered in let was = is.numbered in omega arith;
+        whole = λ i u there. elim (cases_eq i at) [
+          | inl e ↦ let none = sym hands.3.0 ∙ (ap (ticket_at new) (sym e) ∙ there) in absurd (cc)
+          | inr ne ↦ is.whole i u (sym (hands.3.1 i ne) ∙ there) ∙ ap block_bytes (sym shape)
+        ];
+        counted =
+            let all = weigh_tickets unchanged old new out nothing change (λ m. 1) in
+            let one = weighs each_ticket in
+            let was = is.counted in
+            let less = fewer in omega arith;
+      };
+      shape = shape;
+      number = ap (λ (e : Entry). e.number) change.token;
+      others = λ others was. subst (λ (h : HandView). AreHeldBeside others new h.tickets h.tokens) (sym hand)
+          (ticket_spent new t.mark x.hand.tickets x.hand.tokens (held_ticket old new x.hand.tickets x.hand.tokens was unchanged t out weighs change));
+      free = λ n low was. subst (λ (v : TableNodes). IsFree n v.taken) (sym numbers) was;
+      geometry = geometry;
+    }
+
+  module _ (k : Entry) (same : Same (ticket_at old) (ticket_at new)) (out : Weighing Placed → ℕ) (weighs : WeighsAs (Token k) out) (change : MarksNode unchanged old new out nothing) where
+    pub cut_node : cut_to (file_of new) n ≡ cut_to (file_of old) n
+    cut_node = cut_same (λ q lt. same q)
+
+    pub node_there : {others : Others} → InHand others old x → 0 < times same_entry k x.hand.tokens
+    node_there was = token_there new k x.hand.tickets x.hand.tokens (held_token old new x.hand.tickets x.hand.tokens was unchanged k out weighs change)
+
+    pub serves_node : y.hand ≡ less_token k x.hand → KeepsFree x.geometry.files x.numbers.taken y.numbers.taken → Serves old new x y
+    serves_node hand free = record {
+      stored = stored_same old new is now shape kind length same
+          (let all = weigh_tickets unchanged old new out nothing change (λ m. 1) in let none = weighs.2 each_ticket in omega arith)
+          (let all = weigh_tokens unchanged old new out nothing change unnumbered in let was = is.numbered in omega arith);
+      shape = shape;
+      number = ap (λ (e : Entry). e.number) change.token;
+      others = λ others was. subst (λ (h : HandView). AreHeldBeside others new h.tickets h.tokens) (sym hand)
+          (token_spent new k x.hand.tickets x.hand.tokens (held_token old new x.hand.tickets x.hand.tokens was unchanged k out weighs change));
+      free = free;
+      geometry = geometry;
+    }
+
+-- the cut is done
+module _ {B L : Type 0} (old new : FileState B L) (x : Area) (n : ℕ) (is : IsStored old) (now : IsFile new) (shape : new.shape ≡ old.shape)
+    (length : new.length ≡ min old.length n) (same : Same (ticket_at old) (ticket_at new)) (below : (w : Weighing Placed) → below_weight new w ≡ below_weight old w)
+    (token : new.token ≡ old.token) where
+  pub serves_cut : Serves old new x x
+  serves_cut = record {
+    stored = record {
+      file = now;
+      short = let s = is.short in let top = ap largest_length shape in omega arith;
+      numbered =
+          let weight = below (of_tokens unnumbered) in
+          let same = ap unnumbered token in
+          let was = is.numbered in omega arith;
+      whole = λ i u there. is.whole i u (sym (same i) ∙ there) ∙ ap block_bytes (sym shape);
+      counted =
+          let weight = below each_ticket in
+          let was = is.counted in
+          let m = ap len (same_map nat_cmp_total nat_cmp-IsAntisymmetric (file_of new).blocks (file_of old).blocks
+          (λ q. (shows_file_of new now).blocks q ∙ (ap content_of (same q) ∙ sym ((shows_file_of old is.file).blocks q)))) in
+          omega arith;
+    };
+    shape = shape;
+    number = ap (λ (e : Entry). e.number) token;
+    others = λ others was. held_same old new x.hand.tickets x.hand.tokens was below token;
+    free = λ n low was. was;
+    geometry = refl;
+  }
+
+  pub cut_file : Shows new (cut_to (file_of old) n) → file_of new ≡ cut_to (file_of old) n
+  cut_file shows = sym (only_file new now (cut_to (file_of old) n) shows)

@@ -1,0 +1,96 @@
+use Rattle.std.proofs.Common.{refl, ap, sym, ◌∙◌}
+use Rattle.geometry.specs.declared.geometry.Geometry.{Geometry}
+use Rattle.geometry.specs.Shape.{block_bytes}
+use Rattle.nodes.specs.File.{file_of}
+use Rattle.nodes.proofs.Files.{shows_file_of}
+use Rattle.files.proofs.Serving.{serves_both, whole_out, out_there, cut_out, serves_out, node_there, cut_node, serves_node, serves_cut, cut_file}
+use Rattle.files.proofs.cut.cut_blocks.Goals as goal
+
+pub release-requires-clause-held : goal.release-requires-clause-held
+release-requires-clause-held g c =
+    let held = c.requires.held in
+    let was = c.spares.invariant.serves in
+    let cut = c.in-Some.ensures in
+    let done = cut.change in
+    let x = c.spares.area in
+    out_there c.spares.file c.cut.new.self x x c.args.length was.stored cut.file cut.shape cut.kind cut.length refl
+    c.in-Ticket.ticket (rw c.in-Ticket.is at cut.out) done.0 (rw c.in-Ticket.is at done.1) done.2 (was.others held.0 held.1)
+
+pub release-requires-clause-bytes : goal.release-requires-clause-bytes
+release-requires-clause-bytes g c =
+    let was = c.spares.invariant.serves in
+    let cut = c.in-Some.ensures in
+    let done = cut.change in
+    let x = c.spares.area in
+    whole_out c.spares.file c.cut.new.self x x c.args.length was.stored cut.file cut.shape cut.kind cut.length refl
+    c.in-Ticket.ticket (rw c.in-Ticket.is at cut.out) done.0 (rw c.in-Ticket.is at done.1) done.2
+    ∙ ap block_bytes (was.shape ∙ c.requires.shape) ∙ ap (λ (v : Geometry). block_bytes v.shape) (sym was.geometry)
+
+pub spares-preserved-in-Ticket : goal.spares-preserved-in-Ticket
+spares-preserved-in-Ticket g c =
+    let was = c.spares.invariant in
+    let cut = c.in-Some.ensures in
+    let done = cut.change in
+    let gave = c.release.ensures in
+    let old = c.spares.file in
+    let new = c.cut.new.self in
+    let x = c.spares.area in
+    let y = c.release.new.self in
+    let n = c.args.length in
+    let hands = rw c.in-Ticket.is at cut.out in
+    let weighs = rw c.in-Ticket.is at done.1 in
+    let step = serves_out old new x y n was.serves.stored cut.file cut.shape cut.kind cut.length gave.geometry c.in-Ticket.ticket hands done.0 weighs done.2 gave.hand gave.numbers in
+    record {
+      serves = serves_both c.args.file.now old new c.args.area.now x y was.serves step;
+      file = cut_out old new x y n was.serves.stored cut.file cut.shape cut.kind cut.length gave.geometry c.in-Ticket.ticket hands done.0 weighs done.2 ∙ was.file;
+    }
+
+pub give-requires : goal.give-requires
+give-requires g c =
+    let held = c.requires.held in
+    let was = c.spares.invariant.serves in
+    let cut = c.in-Some.ensures in
+    let done = cut.change in
+    let x = c.spares.area in
+    record {
+      held = node_there c.spares.file c.cut.new.self x x c.args.length was.stored cut.file cut.shape cut.kind cut.length refl
+          c.in-Token.token (rw c.in-Token.is at cut.out) done.0 (rw c.in-Token.is at done.1) done.2 (was.others held.0 held.1);
+    }
+
+pub spares-preserved : goal.spares-preserved
+spares-preserved g c =
+    let was = c.spares.invariant in
+    let cut = c.in-Some.ensures in
+    let done = cut.change in
+    let gave = c.give.ensures in
+    let old = c.spares.file in
+    let new = c.cut.new.self in
+    let x = c.spares.area in
+    let y = c.give.new.self in
+    let n = c.args.length in
+    let same = rw c.in-Token.is at cut.out in
+    let weighs = rw c.in-Token.is at done.1 in
+    let step = serves_node old new x y n was.serves.stored cut.file cut.shape cut.kind cut.length gave.geometry c.in-Token.token same done.0 weighs done.2 gave.hand gave.free_still in
+    record {
+      serves = serves_both c.args.file.now old new c.args.area.now x y was.serves step;
+      file = cut_node old new x y n was.serves.stored cut.file cut.shape cut.kind cut.length gave.geometry c.in-Token.token same done.0 weighs done.2 ∙ was.file;
+    }
+
+pub returns-clause-serves : goal.returns-clause-serves
+returns-clause-serves g c =
+    let was = c.spares.invariant.serves in
+    let cut = c.in_default.ensures in
+    let old = c.spares.file in
+    let new = c.cut.new.self in
+    let x = c.spares.area in
+    serves_both c.args.file.now old new c.args.area.now x x was
+    (serves_cut old new x c.args.length was.stored cut.file cut.shape cut.length cut.none.0 cut.kept.0 cut.kept.2)
+
+pub returns-clause-file : goal.returns-clause-file
+returns-clause-file g c =
+    let was = c.spares.invariant in
+    let cut = c.in_default.ensures in
+    let old = c.spares.file in
+    let new = c.cut.new.self in
+    cut_file old new c.spares.area c.args.length was.serves.stored cut.file cut.shape cut.length cut.none.0 cut.kept.0 cut.kept.2
+    (cut.cut (file_of old) (shows_file_of old was.serves.stored.file)) ∙ was.file

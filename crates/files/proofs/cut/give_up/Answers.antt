@@ -1,0 +1,44 @@
+use Rattle.std.proofs.Common.{◌<◌, refl, ap, sym, subst, ◌∙◌, arith}
+use Rattle.sums.specs.Weights.{weigh}
+use Rattle.books.specs.Accounts.{HandView}
+use Rattle.books.specs.declared.claim.Entry.{Entry}
+use Rattle.books.specs.Lists.{times}
+use Rattle.books.specs.Sameness.{same_entry}
+use Rattle.books.proofs.Steps.{without_entry}
+use Rattle.tree.specs.Change.{of_tickets, of_tokens}
+use Rattle.nodes.proofs.Held.{bare_weighs, root_there}
+use Rattle.files.proofs.Serving.{less_token}
+use Rattle.files.proofs.cut.give_up.Goals as goal
+
+pub give-requires : goal.give-requires
+give-requires g c =
+    let held = c.requires.held in
+    let cut = c.cut_blocks.ensures in
+    let f = c.cut_blocks.new.file in
+    let hand = c.cut_blocks.new.area.hand in
+    record {
+      held = subst (λ (e : Entry). 0 < times same_entry e hand.tokens) (sym c.into_token.ensures)
+          (root_there f (cut.bare refl) hand.tickets hand.tokens (cut.serves.others held.0 held.1));
+    }
+
+pub returns-clause-tickets : goal.returns-clause-tickets
+returns-clause-tickets g c = λ others was h.
+    let cut = c.cut_blocks.ensures in
+    let f = c.cut_blocks.new.file in
+    let now = (cut.serves.others others was).tickets h in
+    let none = bare_weighs f (cut.bare refl) (of_tickets (λ t. h t.mark)) in
+    let hand = ap (λ (v : HandView). weigh h v.tickets) c.give.ensures.hand in
+    omega arith
+
+pub returns-clause-tokens : goal.returns-clause-tokens
+returns-clause-tokens g c = λ others was h.
+    let cut = c.cut_blocks.ensures in
+    let f = c.cut_blocks.new.file in
+    let old = c.cut_blocks.new.area.hand in
+    let held = cut.serves.others others was in
+    let now = held.tokens h in
+    let none = bare_weighs f (cut.bare refl) (of_tokens h) in
+    let there = root_there f (cut.bare refl) old.tickets old.tokens held in
+    let less = without_entry h f.token old.tokens there in
+    let hand = ap (λ (v : HandView). weigh h v.tokens) (c.give.ensures.hand ∙ ap (λ e. less_token e old) c.into_token.ensures) in
+    omega arith
