@@ -1,5 +1,6 @@
 ghost use Rattle.std.specs.Prelude.{◌≡◌, [], IfOk};
 ghost use Rattle.geometry.specs.Shape.{block_bytes};
+ghost use Rattle.volume.specs.Volume.{HasFile};
 
 mod images;
 
@@ -7,7 +8,7 @@ use crate::first::{MemVolume, first_run};
 use device::MemDevice;
 use geometry::{Error, Geometry, Kind, Shape};
 use std::alloc::Global;
-use volume::{CloseFault, Seat};
+use volume::{CloseFault, FilePass, Seat};
 
 #[test]
 fn two_files_are_read_back(rt: HostRuntime) {
@@ -42,7 +43,7 @@ fn a_refused_write_leaves_the_file(rt: HostRuntime) {
     assert!(rt; volume.write(&mut pass, 0, &[1; 63], 0) == Err(Error::BadLength));
     assert!(rt; volume.write(&mut pass, 0, &[1; 65], 0) == Err(Error::BadLength));
     assert!(rt; volume.length(&pass) == 0);
-    assert!(rt; volume.write(&mut pass, 3, &[1; 64], 0) == Err(Error::TooFar));
+    assert!(rt; volume.write(&mut pass, 1223, &[1; 64], 0) == Err(Error::TooFar));
     assert!(rt; volume.length(&pass) == 0);
     assert!(rt; volume.write(&mut pass, 1, &[7; 64], 0) == Ok(()));
     let mut out = [9; 64];
@@ -52,6 +53,44 @@ fn a_refused_write_leaves_the_file(rt: HostRuntime) {
     assert!(rt; out == [7; 64]);
     assert!(rt; volume.read(&pass, 2, &mut out) == Ok(false));
     assert!(rt; out == [7; 64], "untouched");
+    let mut passes = Vec::new(alloc);
+    passes.push(pass).expect(&rt, "memory");
+    match volume.abandon(seats, passes) {
+        Ok(parts) => assert!(rt; parts.blocks.len() == 128),
+        Err(_fault) => panic!(rt; "refused"),
+    }
+}
+
+// Writes a block of a byte at an index.
+fn put(volume: &mut MemVolume, pass: &mut FilePass, index: u32, byte: u8) -> Result<(), Error>
+    requires { HasFile volume.old pass.old }
+    ensures file { HasFile volume.new pass.new }
+    ensures geometry { volume.new.geometry ≡ volume.old.geometry }
+{
+    volume.write(pass, index, &[byte; 64], 0)
+}
+
+#[test]
+fn blocks_stand_at_all_depths(rt: HostRuntime) {
+    let alloc = rt.alloc();
+    let (mut volume, seats) = small(alloc).expect(&rt, "memory");
+    let mut pass = volume.create(Kind::File).expect(&rt, "memory");
+    assert!(rt; put(&mut volume, &mut pass, 2, 1) == Ok(()));
+    assert!(rt; put(&mut volume, &mut pass, 22, 2) == Ok(()));
+    assert!(rt; put(&mut volume, &mut pass, 23, 3) == Ok(()));
+    assert!(rt; put(&mut volume, &mut pass, 1222, 4) == Ok(()));
+    assert!(rt; put(&mut volume, &mut pass, 1223, 5) == Err(Error::TooFar));
+    assert!(rt; volume.length(&pass) == 1223);
+    let mut out = [9; 64];
+    assert!(rt; volume.read(&pass, 1222, &mut out) == Ok(true));
+    assert!(rt; out == [4; 64]);
+    assert!(rt; volume.read(&pass, 1221, &mut out) == Ok(true));
+    assert!(rt; out == [0; 64], "a hole");
+    assert!(rt; volume.cut(&mut pass, 23) == Ok(()));
+    assert!(rt; volume.read(&pass, 23, &mut out) == Ok(false));
+    assert!(rt; volume.read(&pass, 22, &mut out) == Ok(true));
+    assert!(rt; out == [2; 64]);
+    assert!(rt; volume.marked() == 2);
     let mut passes = Vec::new(alloc);
     passes.push(pass).expect(&rt, "memory");
     match volume.abandon(seats, passes) {
