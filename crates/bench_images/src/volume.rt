@@ -90,7 +90,7 @@ fn first_of(shape: Shape, beyond: u32, file: u32) -> u32
     1 + (file - 1) * file_blocks(shape, beyond)
 }
 
-// Which file's block an address is, and the how manieth.
+// Which file has the block of an address, and where it stands among the file's blocks.
 fn spot_of(geometry: &Geometry, beyond: u32, address: u32) -> Option<Spot>
     requires { 0 < address }
     ensures { IfSome result (λ spot. (0 < spot.file) × (spot.file ≤ geometry.now.files) × (spot.offset < 2000)) }

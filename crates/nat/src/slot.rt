@@ -73,6 +73,7 @@ fn with_block<B: Block + Drop>(claimed: Option<Claimed>, block: Option<B>) -> Op
     match (claimed, block) {
         (Some(claimed), Some(block)) => Some(Ticket::new(claimed, block)),
         (Some(_), None) => unreachable!(),
+        // No block has the address 0, so none stands where no ticket is lodged.
         (None, _) => None,
     }
 }
