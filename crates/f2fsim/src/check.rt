@@ -4,19 +4,15 @@ ghost use Rattle.std.specs.Io.KnownBytes.{Appends};
 ghost use Rattle.f2fsim.specs.Checking.{TellsImage, TellsRefusal};
 ghost use Rattle.f2fsim.specs.Lines.{name_of, numbers_line, refusal_line};
 
-use geometry::Error;
+use crate::lines::{tell_numbers, tell_refusal};
+use crate::reading::read_all;
+use crate::status::{DONE, REFUSED};
+use crate::stop::tell_failure;
 use image::Image;
 use std::alloc::Global;
 use std::io;
 use std::io::{Read, Write};
 use tables::ReadImage;
-
-/// The statuses of the program: all was done; an image was refused; a stream could not be read or written.
-pub const DONE: u8 = 0;
-
-pub const REFUSED: u8 = 1;
-
-pub const FAILED: u8 = 4;
 
 /// Reads an image file to its end and writes one line to `out`: the version and the total of its image and how many of
 /// its segments are free, or why it is refused. Answers the exit status. Where `input` cannot be read or `out` cannot be
@@ -34,21 +30,8 @@ pub fn check_image<R: Read, W: Write, E: Write>(
 {
     match read_and_tell(alloc, input, out) {
         Ok(status) => status,
-        Err(_) => {
-            // What cannot be said there either is left unsaid.
-            let _ = writeln!(errors, "input or output failed");
-            FAILED
-        }
+        Err(_) => tell_failure(errors),
     }
-}
-
-// All bytes that the input still gives.
-fn read_all<R: Read>(alloc: Global, input: &mut R) -> io::Result<Vec<u8>>
-    ensures { IfOk result (λ file. IfSome (R.remaining input.old) (λ bytes. file.items ≡ bytes)) }
-{
-    let mut file = Vec::new(alloc);
-    input.read_to_end(&mut file)?;
-    Ok(file)
 }
 
 // Writes the line of an image file, or of its refusal.
@@ -70,12 +53,6 @@ fn tell_image<W: Write>(alloc: Global, file: &[u8], out: &mut W) -> io::Result<u
     }
 }
 
-fn tell_numbers<W: Write>(version: u32, total: u32, free: u32, out: &mut W) -> io::Result<()>
-    ensures { OnOk result (Appends (W.contents out.old) (W.contents out.new) (numbers_line version total free)) }
-{
-    writeln!(out, "version {version} total {total} free {free}")
-}
-
 // What was read is told, if all could be read.
 fn read_and_tell<R: Read, W: Write>(alloc: Global, input: &mut R, out: &mut W) -> io::Result<u8>
     ensures status { IfOk result (λ status. (status ≡ 0) ⊎ (status ≡ 1)) }
@@ -85,40 +62,4 @@ fn read_and_tell<R: Read, W: Write>(alloc: Global, input: &mut R, out: &mut W) -
     let file = read_all(alloc, input)?;
     let status = tell_image(alloc, file.as_slice(), out)?;
     Ok(status)
-}
-
-/// Writes the line of a refusal: its number, its name, and the number that it has beside them.
-pub fn tell_refusal<W: Write>(error: Error, out: &mut W) -> io::Result<()>
-    ensures { OnOk result (Appends (W.contents out.old) (W.contents out.new) (refusal_line error)) }
-{
-    let number = error.number();
-    let name = refusal_name(error);
-    match error {
-        Error::BadImage(fault) => writeln!(out, "refused {number} {name} {fault}"),
-        Error::PassesOut(count) => writeln!(out, "refused {number} {name} {count}"),
-        Error::SeatsOut(count) => writeln!(out, "refused {number} {name} {count}"),
-        _ => writeln!(out, "refused {number} {name}"),
-    }
-}
-
-// What a refusal is called.
-fn refusal_name(error: Error) -> &'static str
-    ensures { result.now ≡ name_of error }
-{
-    match error {
-        Error::NoMemory => "NoMemory",
-        Error::Device => "Device",
-        Error::NoSpace => "NoSpace",
-        Error::NoFile => "NoFile",
-        Error::NoNode => "NoNode",
-        Error::TooFar => "TooFar",
-        Error::BadLength => "BadLength",
-        Error::Wounded => "Wounded",
-        Error::BadGeometry => "BadGeometry",
-        Error::NoPack => "NoPack",
-        Error::BadImage(_) => "BadImage",
-        Error::PassesOut(_) => "PassesOut",
-        Error::SeatsOut(_) => "SeatsOut",
-        Error::Exhausted => "Exhausted",
-    }
 }

@@ -2,27 +2,15 @@ ghost use Rattle.std.specs.Prelude.{◌≡◌, [], IfOk};
 ghost use Rattle.geometry.specs.Shape.{block_bytes};
 ghost use Rattle.volume.specs.Volume.{HasFile};
 
+mod first;
 mod images;
+mod scripts;
 
-use crate::first::{MemVolume, first_run};
+use crate::session::MemVolume;
 use device::MemDevice;
 use geometry::{Error, Geometry, Kind, Shape};
 use std::alloc::Global;
 use volume::{CloseFault, FilePass, Seat};
-
-#[test]
-fn two_files_are_read_back(rt: HostRuntime) {
-    match first_run(rt.alloc()) {
-        Ok(text) => {
-            let told = text.as_str();
-            assert!(rt;
-                told == "file 1 length 3 14 15 16\nfile 2 length 3 24 25 26\nmarked 6\n",
-                "{told}"
-            );
-        }
-        Err(error) => assert!(rt; error == Error::NoMemory, "{error}"),
-    }
-}
 
 fn small(alloc: Global) -> Result<(MemVolume, Vec<Seat>), Error>
     ensures { IfOk result (λ pair. (pair.0.files ≡ []) × (block_bytes pair.0.geometry.shape ≡ 64) × (pair.0.geometry.files ≡ 4)) }

@@ -1,3 +1,4 @@
 pub mod Numeral
 pub mod Grammar
 pub mod Call
+pub mod Allowed

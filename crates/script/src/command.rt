@@ -1,5 +1,17 @@
 //! The commands of a script. Files are named by their inode numbers, and readers by the order in which they were taken.
+ghost use Rattle.std.specs.Prelude.{◌≡◌};
+ghost use Rattle.script.specs.Allowed.{is_of_files, is_work_on_file};
+
 use geometry::Kind;
+
+/// Which commands a script may have.
+#[derive(Clone, Copy, Debug, PartialEq, Eq)]
+pub enum Allowed {
+    /// All of the grammar.
+    Everything,
+    /// Those of files on one thread: `now`, `create`, `write`, `fill`, `read` and `cut`.
+    Files,
+}
 
 /// How a cleaner chooses its section (Rosenblum and Ousterhout 1991; Linux `filesystems/f2fs`, cleaning).
 #[derive(Clone, Copy, Debug, PartialEq, Eq)]
@@ -76,4 +88,34 @@ pub enum Command {
     Fail(Failure),
     /// Abandons the volume and mounts its device.
     Remount,
+}
+
+impl Command {
+    /// Whether it is of those of files on one thread.
+    pub fn is_of_files(self) -> bool
+        ensures { result ≡ is_of_files self }
+    {
+        match self {
+            Command::Now(_) | Command::Create(_) => true,
+            Command::Work(work) => work.is_on_file(),
+            Command::Delete { .. }
+            | Command::Status
+            | Command::Snap { .. }
+            | Command::Done { .. }
+            | Command::Fail(_)
+            | Command::Remount => false,
+        }
+    }
+}
+
+impl Work {
+    // Whether it writes, reads or cuts a file.
+    fn is_on_file(self) -> bool
+        ensures { result ≡ is_work_on_file self }
+    {
+        match self {
+            Work::Write { .. } | Work::Fill { .. } | Work::Read { .. } | Work::Cut { .. } => true,
+            Work::Clean(_) | Work::Sync | Work::Look { .. } => false,
+        }
+    }
 }

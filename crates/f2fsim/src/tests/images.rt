@@ -1,5 +1,6 @@
 //! The lines that are told of image files built by hand, and of what a few changes make of them.
-use crate::check::{DONE, FAILED, REFUSED, check_image};
+use crate::check::check_image;
+use crate::status::{DONE, FAILED, REFUSED};
 use std::alloc::{AllocError, Global};
 use std::io;
 use std::io::Read;
@@ -171,7 +172,7 @@ fn files_of_another_length_are_told(rt: HostRuntime) -> Result<(), Fail> {
 
 // An input that cannot be read.
 #[derive(Drop)]
-struct Broken;
+pub struct Broken;
 
 impl Read for Broken {
     fn read(&mut self, _buf: &mut [u8]) -> io::Result<usize> {
