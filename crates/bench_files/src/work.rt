@@ -1,0 +1,142 @@
+//! The calls that are measured.
+use crate::Size;
+use crate::bare::{copies, paths};
+use crate::depth::Depth;
+use crate::desk::Desk;
+use std::alloc::Global;
+use std::io;
+use std::rt::Runtime;
+use std::time::{Duration, Instant};
+
+/// How many calls were done, and the time that all of them took.
+#[derive(Clone, Copy)]
+pub struct Timed {
+    pub calls: u32,
+    pub time: Duration,
+}
+
+impl Timed {
+    /// The nanoseconds of one call.
+    pub fn each(self) -> u128 {
+        match u128::from(self.calls) {
+            0 => 0,
+            calls => self.time.as_nanos() / calls,
+        }
+    }
+}
+
+/// What was measured at a depth.
+#[derive(Clone, Copy)]
+pub struct Work {
+    pub append: Timed,
+    pub overwrite: Timed,
+    pub read: Timed,
+    pub copy: Timed,
+    pub path: Timed,
+}
+
+/// Measures the calls on a file at a depth. None where the volume could not be made.
+pub fn measure<R: Runtime>(
+    rt: &R,
+    alloc: Global,
+    size: Size,
+    depth: Depth,
+) -> io::Result<Option<Work>> {
+    match Desk::open(alloc, size.shape) {
+        Err(_) => Ok(None),
+        Ok(mut desk) => {
+            let work = measure_on(rt, alloc, &mut desk, size, depth);
+            desk.close();
+            match work {
+                Ok(work) => Ok(Some(work)),
+                Err(error) => Err(error),
+            }
+        }
+    }
+}
+
+fn measure_on<R: Runtime>(
+    rt: &R,
+    alloc: Global,
+    desk: &mut Desk,
+    size: Size,
+    depth: Depth,
+) -> io::Result<Work> {
+    let first = depth.first(size.shape);
+    let append = appends(rt, desk, first, size.blocks)?;
+    let overwrite = overwrites(rt, desk, first, size)?;
+    let read = reads(rt, desk, first, size)?;
+    let copy = copies(rt, alloc, size)?;
+    let path = paths(rt, size.shape, first, size.calls)?;
+    Ok(Work {
+        append,
+        overwrite,
+        read,
+        copy,
+        path,
+    })
+}
+
+// Blocks are written where none was.
+fn appends<R: Runtime>(rt: &R, desk: &mut Desk, first: u32, blocks: u32) -> io::Result<Timed> {
+    let mut calls = 0;
+    let start = Instant::now(rt)?;
+    for place in 0..blocks {
+        if desk.write(first.saturating_add(place)).is_ok() {
+            calls += 1;
+        }
+    }
+    Ok(Timed {
+        calls,
+        time: start.elapsed(rt)?,
+    })
+}
+
+// The blocks are written again.
+fn overwrites<R: Runtime>(rt: &R, desk: &mut Desk, first: u32, size: Size) -> io::Result<Timed> {
+    let mut calls = 0;
+    let mut state = 1;
+    let start = Instant::now(rt)?;
+    for _call in 0..size.calls {
+        state = next(state);
+        let index = first.saturating_add(place_of(state, size.blocks));
+        if desk.write(index).is_ok() {
+            calls += 1;
+        }
+    }
+    Ok(Timed {
+        calls,
+        time: start.elapsed(rt)?,
+    })
+}
+
+// The blocks are read.
+fn reads<R: Runtime>(rt: &R, desk: &mut Desk, first: u32, size: Size) -> io::Result<Timed> {
+    let mut calls = 0;
+    let mut state = 1;
+    let start = Instant::now(rt)?;
+    for _call in 0..size.calls {
+        state = next(state);
+        let index = first.saturating_add(place_of(state, size.blocks));
+        if let Ok(Some(_)) = desk.read(index) {
+            calls += 1;
+        }
+    }
+    Ok(Timed {
+        calls,
+        time: start.elapsed(rt)?,
+    })
+}
+
+// The next of numbers in no order.
+fn next(state: u32) -> u32 {
+    state.wrapping_mul(1_664_525).wrapping_add(1_013_904_223)
+}
+
+// The place of one of so many blocks.
+fn place_of(state: u32, blocks: u32) -> u32 {
+    match blocks {
+        0 => 0,
+        blocks => (state >> 8) % blocks,
+    }
+}
