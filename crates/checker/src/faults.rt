@@ -142,6 +142,3 @@ pub fn check(alloc: Global, geometry: &Geometry, image: &Image) -> Result<(), Er
         Err(_) => Err(Error::NoMemory),
     }
 }
-
-#[cfg(test)]
-mod tests;

@@ -9,6 +9,3 @@ mod owner;
 
 pub use file::FileState;
 pub use tree::Spare;
-
-#[cfg(test)]
-mod tests;

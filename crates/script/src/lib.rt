@@ -14,6 +14,3 @@ pub use command::{Allowed, Cleaning, Command, Failure, Work};
 pub use error::ScriptError;
 pub use script::{Numbers, Script, Step, Task, Worker};
 pub use words::{Words, WordsError};
-
-#[cfg(test)]
-mod tests;

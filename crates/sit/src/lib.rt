@@ -8,8 +8,6 @@ mod blocks;
 mod body;
 pub mod room;
 pub mod segment;
-#[cfg(test)]
-mod tests;
 mod valid;
 
 pub use room::Room;
