@@ -67,9 +67,10 @@ fn is_measure<R: Runtime>(rt: &R) -> io::Result<bool> {
 fn tell_counts(text: &mut String, depth: u32, work: Work) -> io::Result<()> {
     let (append, overwrite) = (work.append.calls, work.overwrite.calls);
     let (read, path) = (work.read.calls, work.path.calls);
+    let entries = work.entries;
     write!(
         text,
-        "depth {depth}: {append} appended, {overwrite} overwritten, {read} read, {path} found\n"
+        "depth {depth}: {append} appended, {overwrite} overwritten, {read} read, {path} found of sum {entries}\n"
     )?;
     Ok(())
 }

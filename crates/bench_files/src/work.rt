@@ -33,6 +33,7 @@ pub struct Work {
     pub read: Timed,
     pub copy: Timed,
     pub path: Timed,
+    pub entries: u32,
 }
 
 /// Measures the calls on a file at a depth. None where the volume could not be made.
@@ -67,13 +68,14 @@ fn measure_on<R: Runtime>(
     let overwrite = overwrites(rt, desk, first, size)?;
     let read = reads(rt, desk, first, size)?;
     let copy = copies(rt, alloc, size)?;
-    let path = paths(rt, size.shape, first, size.calls)?;
+    let (path, entries) = paths(rt, size.shape, first, size.calls)?;
     Ok(Work {
         append,
         overwrite,
         read,
         copy,
         path,
+        entries,
     })
 }
 
