@@ -34,8 +34,8 @@ one_more begun now new number first index byte low so_far one =
     let place : first + (index - first) ≡ index = omega arith in
     let there = file_there begun number file has in
     let whole : new ≡ with_file begun number (written file index block) =
-        one ∙ ap (λ volume. with_file volume number (written (file_at volume number) index (equal_block volume byte))) so_far.1
-        ∙ ap (λ f. with_file (with_file begun number file) number (written f index block)) there
-        ∙ written_again begun number file (written file index block)
+    one ∙ ap (λ volume. with_file volume number (written (file_at volume number) index (equal_block volume byte))) so_far.1
+    ∙ ap (λ f. with_file (with_file begun number file) number (written f index block)) there
+    ∙ written_again begun number file (written file index block)
     in
     (has, whole ∙ sym (ap (with_file begun number) (ap (λ count. filled (file_at begun number) first count block) next ∙ ap (λ at. written file at block) place)))

@@ -24,10 +24,10 @@ pub wrote_more : (steps : List Step) (place : ℕ) (step : Step) (begun now new 
 wrote_more steps place step begun now new first old middle last low is so_far wrote = record {
   lines = so_far.lines ++ wrote.line;
   run = subst (λ run. StepsWrite run begun new (so_far.lines ++ wrote.line))
-    (ap (λ s. take place steps ++ s ∷ []) is ∙ sym (take_more steps place step low))
-    (one_more (take place steps) step begun now new so_far.lines wrote.line so_far.run wrote.is_line);
+      (ap (λ s. take place steps ++ s ∷ []) is ∙ sym (take_more steps place step low))
+      (one_more (take place steps) step begun now new so_far.lines wrote.line so_far.run wrote.is_line);
   told = subst (Appends old last) (append_assoc first so_far.lines wrote.line)
-    (Appends-trans old middle last (first ++ so_far.lines) wrote.line so_far.told wrote.told);
+      (Appends-trans old middle last (first ++ so_far.lines) wrote.line so_far.told wrote.told);
 }
 
 -- behind all steps each file has its line

@@ -160,8 +160,8 @@ fn the_bytes_of_the_device_are_put_aside(rt: HostRuntime) -> Result<(), Fail> {
     let told = run(alloc, text, Some(&mut saved));
     assert_eq!(rt; told.status, DONE);
     // The first block of the data log stands at address 33, behind 64 bytes and two packs.
-    let blocks = saved.len() - 128 * 64;
-    let first = blocks + 32 * 64;
+    assert!(rt; saved.len() > 128 * 64);
+    let first = saved.len() - 96 * 64;
     assert_eq!(rt; saved[first - 1], 0);
     assert_eq!(rt; saved[first], 0x41);
     assert_eq!(rt; saved[first + 63], 0x41);

@@ -7,4 +7,4 @@ abbrev pub invariant-loop-index : goal.invariant-loop-index
 invariant-loop-index g l =
     (l.session ≡ l.fn.session)
     × Appends (g.W.Write.contents l.fn.out) (g.W.Write.contents l.out)
-        (head_text l.fn.session l.file ++ texts_below l.index (block_text l.fn.session l.file))
+    (head_text l.fn.session l.file ++ texts_below l.index (block_text l.fn.session l.file))
