@@ -122,12 +122,15 @@ pub record WroteRun (steps : List Step) (begun : Volume) (old new : Option (List
   pub run : StepsWrite steps begun end lines
   pub told : Appends old new ((format_line ++ lines) ++ file_lines end)
 
--- a whole run of some script on a volume without files
-pub record WroteScript (old new : Option (List ℕ)) : Type 0 where
-  pub steps : List Step
+-- a whole run of these steps on a volume without files
+pub record WroteScript (steps : List Step) (old new : Option (List ℕ)) : Type 0 where
   pub begun : Volume
   pub empty : begun.files ≡ []
   pub run : WroteRun steps begun old new
+
+-- a whole run of some script
+abbrev pub WroteSomeScript : Option (List ℕ) → Option (List ℕ) → Type 0
+WroteSomeScript old new = (steps : List Step) × WroteScript steps old new
 
 -- whether a line of the script is why it stops
 abbrev pub names_line : Stop → Bool

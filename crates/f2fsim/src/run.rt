@@ -5,7 +5,7 @@ ghost use Rattle.script.specs.declared.command.Allowed.TheVariants.{Files};
 ghost use Rattle.script.specs.Allowed.{is_of_files, is_work_on_file, MayHave};
 ghost use Rattle.volume.specs.Volume.{HasFile};
 ghost use Rattle.f2fsim.specs.Lines.{file_line, file_lines};
-ghost use Rattle.f2fsim.specs.Run.{CommandWrites, WorkWrites, Wrote, WroteRun, WroteScript, names_line};
+ghost use Rattle.f2fsim.specs.Run.{CommandWrites, WorkWrites, Wrote, WroteRun, WroteScript, WroteSomeScript, names_line};
 
 use crate::lines::{tell_created, tell_done, tell_read};
 use crate::reading::read_all;
@@ -21,9 +21,10 @@ use std::io::{Read, Write};
 /// the last one each file has a line with its length and its blocks. Then the volume is left, and the bytes of its
 /// device are added to `saved`, if there is one.
 ///
-/// Answers the exit status: 0 where all was done; 1 where the volume could not be made, which is told on `out`; 3 where a
-/// line is not of the grammar, which is told on `errors` and nothing is run; 4 where `input` could not be read, `out` could
-/// not be written, or the program itself found no memory. A command that is refused writes its refusal, and the run goes on.
+/// Answers the exit status: 0 where all was done; 1 where the volume could not be made, or a file not be read at the end,
+/// which is told on `out`; 3 where a line is not of the grammar, which is told on `errors` and nothing is run; 4 where
+/// `input` could not be read, `out` could not be written, or the program itself found no memory. A command that is refused
+/// writes its refusal, and the run goes on.
 pub fn run_script<R: Read, W: Write, E: Write>(
     alloc: Global,
     input: &mut R,
@@ -32,7 +33,7 @@ pub fn run_script<R: Read, W: Write, E: Write>(
     saved: Option<&mut Vec<u8>>,
 ) -> u8
     ensures status { (result ≡ 0) ⊎ ((result ≡ 1) ⊎ ((result ≡ 3) ⊎ (result ≡ 4))) }
-    ensures done { result ≡ 0 → (out.new ≡ out.old) ⊎ WroteScript (W.contents out.old) (W.contents out.new) }
+    ensures done { result ≡ 0 → (out.new ≡ out.old) ⊎ WroteSomeScript (W.contents out.old) (W.contents out.new) }
     ensures bad_line { result ≡ 3 → out.new ≡ out.old }
     ensures quiet { result ≢ 3 → result ≢ 4 → errors.new ≡ errors.old }
 {
@@ -48,7 +49,7 @@ fn read_and_run<R: Read, W: Write>(
     out: &mut W,
     saved: Option<&mut Vec<u8>>,
 ) -> Result<(), Stop>
-    ensures done { OnOk result ((out.new ≡ out.old) ⊎ WroteScript (W.contents out.old) (W.contents out.new)) }
+    ensures done { OnOk result ((out.new ≡ out.old) ⊎ WroteSomeScript (W.contents out.old) (W.contents out.new)) }
     ensures bad_line { IfErr result (λ stop. names_line stop ≡ true → out.new ≡ out.old) }
 {
     let text = read_all(alloc, input)?;
@@ -67,7 +68,7 @@ fn run_on<W: Write>(
     saved: Option<&mut Vec<u8>>,
 ) -> Result<(), Stop>
     requires { MayHave Files steps.now }
-    ensures done { OnOk result (WroteScript (W.contents out.old) (W.contents out.new)) }
+    ensures done { OnOk result (WroteScript steps.now (W.contents out.old) (W.contents out.new)) }
     ensures err { IfErr result (λ stop. names_line stop ≡ false) }
 {
     let mut session = Session::format(alloc, numbers)?;
