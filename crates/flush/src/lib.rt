@@ -5,5 +5,6 @@ mod entries;
 mod walk;
 mod writer;
 
+pub use entries::{flush_entries, spell_entries};
 pub use walk::Walk;
 pub use writer::{NodeBlock, NodeWriter};

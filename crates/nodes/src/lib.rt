@@ -3,6 +3,7 @@
 
 mod change;
 mod file;
+mod flush;
 mod look;
 mod migrate;
 mod owner;
