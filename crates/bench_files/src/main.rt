@@ -9,6 +9,7 @@
 mod bare;
 mod depth;
 mod desk;
+mod lone;
 mod work;
 
 use depth::DEPTHS;
@@ -67,10 +68,10 @@ fn is_measure<R: Runtime>(rt: &R) -> io::Result<bool> {
 fn tell_counts(text: &mut String, depth: u32, work: Work) -> io::Result<()> {
     let (append, overwrite) = (work.append.calls, work.overwrite.calls);
     let (read, path) = (work.read.calls, work.path.calls);
-    let entries = work.entries;
+    let (slot, entries) = (work.slot.calls, work.entries);
     write!(
         text,
-        "depth {depth}: {append} appended, {overwrite} overwritten, {read} read, {path} found of sum {entries}\n"
+        "depth {depth}: {append} appended, {overwrite} overwritten, {read} read, {slot} looked up, {path} found of sum {entries}\n"
     )?;
     Ok(())
 }
@@ -79,10 +80,10 @@ fn tell_counts(text: &mut String, depth: u32, work: Work) -> io::Result<()> {
 fn tell_times(text: &mut String, depth: u32, work: Work) -> io::Result<()> {
     let (append, overwrite) = (work.append.each(), work.overwrite.each());
     let (read, path) = (work.read.each(), work.path.each());
-    let copy = work.copy.each();
+    let (slot, copy) = (work.slot.each(), work.copy.each());
     write!(
         text,
-        "depth {depth}: append {append} ns, overwrite {overwrite} ns, read {read} ns, path {path} ns, copy {copy} ns\n"
+        "depth {depth}: append {append} ns, overwrite {overwrite} ns, read {read} ns, slot {slot} ns, path {path} ns, copy {copy} ns\n"
     )?;
     Ok(())
 }

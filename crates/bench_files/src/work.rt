@@ -3,6 +3,7 @@ use crate::Size;
 use crate::bare::{copies, paths};
 use crate::depth::Depth;
 use crate::desk::Desk;
+use crate::lone::slots;
 use std::alloc::Global;
 use std::io;
 use std::rt::Runtime;
@@ -31,6 +32,7 @@ pub struct Work {
     pub append: Timed,
     pub overwrite: Timed,
     pub read: Timed,
+    pub slot: Timed,
     pub copy: Timed,
     pub path: Timed,
     pub entries: u32,
@@ -48,10 +50,7 @@ pub fn measure<R: Runtime>(
         Ok(mut desk) => {
             let work = measure_on(rt, alloc, &mut desk, size, depth);
             desk.close();
-            match work {
-                Ok(work) => Ok(Some(work)),
-                Err(error) => Err(error),
-            }
+            work
         }
     }
 }
@@ -62,21 +61,25 @@ fn measure_on<R: Runtime>(
     desk: &mut Desk,
     size: Size,
     depth: Depth,
-) -> io::Result<Work> {
+) -> io::Result<Option<Work>> {
     let first = depth.first(size.shape);
     let append = appends(rt, desk, first, size.blocks)?;
     let overwrite = overwrites(rt, desk, first, size)?;
     let read = reads(rt, desk, first, size)?;
     let copy = copies(rt, alloc, size)?;
+    let Some(slot) = slots(rt, alloc, size, first)? else {
+        return Ok(None);
+    };
     let (path, entries) = paths(rt, size.shape, first, size.calls)?;
-    Ok(Work {
+    Ok(Some(Work {
         append,
         overwrite,
         read,
+        slot,
         copy,
         path,
         entries,
-    })
+    }))
 }
 
 // Blocks are written where none was.
@@ -130,13 +133,13 @@ fn reads<R: Runtime>(rt: &R, desk: &mut Desk, first: u32, size: Size) -> io::Res
     })
 }
 
-// The next of numbers in no order.
-fn next(state: u32) -> u32 {
+/// The next of numbers in no order.
+pub fn next(state: u32) -> u32 {
     state.wrapping_mul(1_664_525).wrapping_add(1_013_904_223)
 }
 
-// The place of one of so many blocks.
-fn place_of(state: u32, blocks: u32) -> u32 {
+/// The place of one of so many blocks.
+pub fn place_of(state: u32, blocks: u32) -> u32 {
     match blocks {
         0 => 0,
         blocks => (state >> 8) % blocks,

@@ -4,7 +4,8 @@ ghost use Rattle.geometry.specs.Area.{block_count};
 ghost use Rattle.geometry.specs.Shape.{segment_blocks};
 ghost use Rattle.image.specs.Node.{HasEntries};
 ghost use Rattle.image.specs.Rules.{IsPlace, IsEntry, HasRange, IsInRange, IsNodeOf, TableHoldsNodes};
-ghost use Rattle.image.specs.View.{image_view, node_view, node_or_none, class_code};
+ghost use Rattle.image.specs.View.{image_view, node_view, node_or_none};
+ghost use Rattle.geometry.specs.Class.{class_code};
 
 use geometry::{Class, Geometry, Shape};
 use image::class::class_code;

@@ -8,7 +8,7 @@ use Rattle.geometry.specs.declared.class.Class.TheVariants.{Data, Inode, Direct,
 use Rattle.geometry.specs.declared.shape.Shape.{Shape}
 use Rattle.geometry.specs.Shape.{block_bytes, inode_head}
 use Rattle.image.specs.Node.{Node, head_bytes}
-use Rattle.image.specs.View.{class_code}
+use Rattle.geometry.specs.Class.{class_code}
 use Rattle.image.proofs.Shapes.{is_shape}
 use Rattle.codec.specs.Parts.{head_of}
 use Rattle.codec.proofs.SpellingLemmas.{length-head_of}

@@ -2,7 +2,8 @@
 ghost use Rattle.std.specs.Prelude.{◌≡◌, ◌≤◌, ◌++◌, length};
 ghost use Rattle.geometry.specs.Shape.{block_bytes};
 ghost use Rattle.image.specs.Node.{IsNode, node_bytes};
-ghost use Rattle.image.specs.View.{node_view, class_code};
+ghost use Rattle.geometry.specs.Class.{class_code};
+ghost use Rattle.image.specs.View.{node_view};
 ghost use Rattle.codec.specs.Parts.{head_of, tail_of};
 
 use crate::kind::kind_code;

@@ -1,22 +1,16 @@
 -- A walk writes the blocks of marked nodes, one after another (Linux filesystems/f2fs: a checkpoint writes the dirty node blocks).
 use Rattle.std.specs.Prelude.{◌≡◌, ℕ, ◌+◌, ◌≤◌, true, false, List}
 use Rattle.geometry.specs.declared.class.Class.{Class}
-use Rattle.geometry.specs.declared.class.Class.TheVariants.{Data, Inode, Direct, Indirect}
+use Rattle.geometry.specs.Class.{class_code}
 use Rattle.geometry.specs.declared.kind.Kind.{Kind}
 use Rattle.books.specs.declared.claim.Entry.{Entry}
 use Rattle.tree.specs.Change.{TreeNode, Weighing}
-
-abbrev pub class_number : Class → ℕ
-class_number Inode = 0
-class_number Direct = 1
-class_number Indirect = 2
-class_number Data = 3
 
 -- a marked node, by its token and what its block is to spell
 abbrev pub marked_node : Entry → Class → Kind → ℕ → List ℕ → List ℕ → TreeNode
 marked_node token class kind length addresses children = record {
   token = token;
-  class = class_number class;
+  class = class_code class;
   kind = kind;
   length = length;
   addresses = addresses;

@@ -8,5 +8,6 @@ pub mod Mark
 pub mod Summary
 pub mod File
 pub mod Life
+pub mod Class
 pub mod Segment
 pub mod Path

@@ -1,19 +1,11 @@
 -- An image of the program as the definitions see it.
 use Rattle.std.specs.Prelude.{ℕ, map, Option, Some, None}
-use Rattle.geometry.specs.declared.class.Class.{Class}
-use Rattle.geometry.specs.declared.class.Class.TheVariants.{Data, Inode, Direct, Indirect}
+use Rattle.geometry.specs.Class.{class_code}
 use Rattle.image.specs.declared.image.Node.{Node as NodeValue}
 use Rattle.image.specs.declared.image.SegmentInfo.{SegmentInfo as SegmentValue}
 use Rattle.image.specs.declared.image.Image.{Image as ImageValue}
 use Rattle.image.specs.Node.{Node}
 use Rattle.image.specs.Image.{Image, SegmentInfo, no_node}
-
--- a block of data is no node
-abbrev pub class_code : Class → ℕ
-class_code Inode = 0
-class_code Direct = 1
-class_code Indirect = 2
-class_code Data = 3
 
 abbrev pub node_view : NodeValue → Node
 node_view n = record {

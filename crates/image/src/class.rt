@@ -1,6 +1,6 @@
 //! The number that stands for a class in a node's block.
 ghost use Rattle.std.specs.Prelude.{◌≡◌};
-ghost use Rattle.image.specs.View.{class_code};
+ghost use Rattle.geometry.specs.Class.{class_code};
 
 use geometry::Class;
 

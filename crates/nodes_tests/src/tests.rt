@@ -17,6 +17,8 @@ use std::process::Abort;
 use std::test::*;
 use tickets::{NidToken, Ticket};
 
+mod marks;
+
 // One segment that has all blocks.
 const LAYOUT: Layout = Layout {
     segments: 1,
@@ -257,6 +259,7 @@ fn write_all(
     requires held { AreHeld file.old permit.old.tickets permit.old.tokens }
     ensures books { (segment.new.book ≡ books.now.book) × (shard.new.book ≡ books.now.book) × (permit.new.book ≡ books.now.book) }
     ensures accounts { (segment.new.segment ≡ 0) × (shard.new.shard ≡ 0) }
+    ensures shape { file.new.shape ≡ Tiny }
     ensures file { IsFile file.new }
     ensures held { AreHeld file.new permit.new.tickets permit.new.tokens }
 {

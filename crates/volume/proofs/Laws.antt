@@ -25,7 +25,8 @@ use Rattle.nodes.proofs.Held.{bare_weighs}
 use Rattle.nodes.specs.Held.{Others}
 use Rattle.area.specs.Area.{Area}
 use Rattle.files.specs.Contents.{IsStored, IsFileOf, InHand, Serves}
-use Rattle.files.proofs.Serving.{with_token, less_token, has_number}
+use Rattle.files.proofs.Born.{stored_new}
+use Rattle.files.proofs.Serving.{with_token, less_token}
 use Rattle.volume.specs.Volume.{Volume, VolumeLaw, HasFile, AreFiles, file_at}
 
 -- what a file's tickets and tokens weigh
@@ -131,18 +132,7 @@ module _ {B L : Type 0} (area area' : Area) (files : List (FileState B L)) (f : 
     (token : f.token ≡ k) (number : k.number ≡ length files + 1) (bare : IsBare f) (is : IsFile f) (none : f.length ≡ 0) (shape : f.shape ≡ area.geometry.shape) where
   born_file : IsFileOf area.geometry.shape (length files + 1) f
   born_file = record {
-    stored = record {
-      file = is;
-      short = omega arith;
-      numbered =
-          let below = bare_weighs f bare (of_tokens unnumbered) in
-          let here = ap unnumbered token in
-          let some = has_number k (omega arith) in omega arith;
-      whole = λ i t at. absurd (let nothing = is.within i (omega arith) in let there : ticket_at f i ≡ Some t = at in cc);
-      counted =
-          let below = bare_weighs f bare (of_tickets (λ t. 1)) in
-          let empty = ap (λ n. len (blocks_below n (ticket_at f))) none ∙ len-empty nat_cmp Block in omega arith;
-    };
+    stored = stored_new f k token bare is none (omega arith);
     shape_is = shape;
     number_is = ap (λ (e : Entry). e.number) token ∙ number;
   }

@@ -1,7 +1,7 @@
 use Rattle.std.proofs.Common.{◌≡◌, ℕ, ◌-◌, List, [], ◌∷◌, ◌++◌, length, drop, replicate, ◌∙◌, ap, arith, rules, length-append}
 use Rattle.std.proofs.lemmas.List.{length-drop, take_at}
 use Rattle.image.specs.Node.{numbers}
-use Rattle.image.specs.View.{class_code}
+use Rattle.geometry.specs.Class.{class_code}
 use Rattle.codec.specs.Parts.{tail_of}
 use Rattle.codec.proofs.WritingLemmas.{put_mid-last, length-rest}
 use Rattle.codec.proofs.encode.write_tail.Goals as goal
