@@ -6,7 +6,7 @@ ghost use Rattle.tree.specs.Change.{TreeNode, each_marked};
 ghost use Rattle.flush.specs.Writing.{IsAmong, WritesOne};
 
 use crate::entries::{flush_entries, write_branch};
-use crate::writer::{NodeWriter};
+use crate::writer::NodeWriter;
 use device::Block;
 use geometry::Error;
 use tickets::Ticket;

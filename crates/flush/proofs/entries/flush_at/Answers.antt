@@ -11,7 +11,7 @@ use Rattle.flush.proofs.entries.flush_at.Goals as goal
 pub flush_next-requires-clause-ready : goal.flush_next-requires-clause-ready
 flush_next-requires-clause-ready g c =
     λ n marked among. c.requires.ready n marked
-        (among_entries g.C.Subtree.weight c.args.below.now.slots.items c.args.place c.index_mut.result.now c.requires.at c.index_mut.ensures.value n among)
+    (among_entries g.C.Subtree.weight c.args.below.now.slots.items c.args.place c.index_mut.result.now c.requires.at c.index_mut.ensures.value n among)
 
 pub returns-clause-wrote : goal.returns-clause-wrote
 returns-clause-wrote g c =
@@ -27,7 +27,7 @@ returns-clause-clean g c =
     let xs = c.args.below.now.slots.items in
     let is = entry_is xs c.args.place c.index_mut.result.now c.requires.at c.index_mut.ensures.value in
     if_ok c.flush_next.result c.flush_next.ensures.clean (λ found all no. let clean = all no in
-        let same = with_item-same c.args.below.now.slots c.args.place _ _ clean.1 c.index_mut.ensures.value in (
+    let same = with_item-same c.args.below.now.slots c.args.place _ _ clean.1 c.index_mut.ensures.value in (
       ap (g.C.Subtree.weight each_marked) is ∙ clean.0,
       λ k. record { dirty = c.args.below.now.dirty; slots = same k },
       clean.2,
@@ -37,7 +37,7 @@ pub returns-clause-refused : goal.returns-clause-refused
 returns-clause-refused g c =
     let xs = c.args.below.now.slots.items in
     if_err c.flush_next.result c.flush_next.ensures.refused (λ e no.
-        let same = with_item-same c.args.below.now.slots c.args.place _ _ no.0 c.index_mut.ensures.value in (
+    let same = with_item-same c.args.below.now.slots c.args.place _ _ no.0 c.index_mut.ensures.value in (
       λ k. record { dirty = c.args.below.now.dirty; slots = same k },
       no.1,
       no.2,

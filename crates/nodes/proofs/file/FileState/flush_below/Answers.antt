@@ -43,5 +43,5 @@ returns-clause-file g c =
     let shaped = rw c.node_entries-entries.ensures at c.flush_entries-3.ensures.shaped in
     let s = rw c.node_entries-entries.ensures at c.flush_entries-3.ensures.same in
     let same = same_4 (inode_entries f.shape) (2 * e) (2 * (e * e)) (in_tickets f) (in_direct f) (in_indirect f) (in_double f)
-        (find_in (find_double e) (e * (e * (e * 1))) c.flush_entries-3.new.below.slots.items) s in
+    (find_in (find_double e) (e * (e * (e * 1))) c.flush_entries-3.new.below.slots.items) s in
     rw (one.1, two.1) (file_double f c.requires.file c.flush_entries-3.new.below shaped (λ j h. same j ∙ c.requires.file.within j h))
