@@ -1,0 +1,124 @@
+//! Spare nodes below the entries of a node.
+ghost use Rattle.std.specs.Prelude.{◌≡◌, ℕ, ◌+◌, ◌*◌, ◌/◌, ◌%◌, ◌^◌, ◌<◌, length, slice_set, OnOk, OnErr, IfErr, IsTrue, ◌↔◌};
+ghost use Rattle.books.specs.declared.claim.Entry.{Entry};
+ghost use Rattle.tree.specs.Tree.{Same, ShapedIn, entry_at, find_in, missing_in};
+ghost use Rattle.tree.specs.Change.{TreeNode, ChangesEntries, IsNewNode, nothing};
+
+use crate::planting::Planting;
+use std::alloc::Global;
+use tickets::NidToken;
+use tree::{Entries, Subtree};
+
+/// Whether each node that is missing on the way to the index has been made.
+pub fn is_ready_in<C: Planting>(
+    below: &Entries<C>,
+    spares: &C::Spares,
+    count: usize,
+    entries: usize,
+    index: usize,
+) -> bool
+    requires some { 0 < entries }
+    requires fits { C.span_of entries < 2 ^ 64 }
+    requires inside { index < count * C.span_of entries }
+    requires shaped { ShapedIn (C.shaped entries) count below.now.slots.items }
+    ensures { IsTrue result ↔ (C.lacking entries (entry_at below.now.slots.items (index / C.span_of entries)) (index % C.span_of entries) spares.now ≡ 0) }
+{
+    let span = C::span(entries);
+    C::is_ready(&below.slots[index / span], spares, entries, index % span)
+}
+
+/// Makes the first node that is missing and was not made yet. Where memory is missing the token is handed back, and nothing
+/// has changed.
+pub fn prepare_in<C: Planting>(
+    below: &Entries<C>,
+    spares: &mut C::Spares,
+    alloc: Global,
+    count: usize,
+    entries: usize,
+    index: usize,
+    token: NidToken,
+) -> Result<(), NidToken>
+    requires some { 0 < entries }
+    requires fits { C.span_of entries < 2 ^ 64 }
+    requires inside { index < count * C.span_of entries }
+    requires shaped { ShapedIn (C.shaped entries) count below.now.slots.items }
+    requires lacking { 0 < C.lacking entries (entry_at below.now.slots.items (index / C.span_of entries)) (index % C.span_of entries) spares.old }
+    requires empty { C.empty_nodes entries spares.old }
+    ensures made { OnOk result (C.lacking entries (entry_at below.now.slots.items (index / C.span_of entries)) (index % C.span_of entries) spares.new + 1
+        ≡ C.lacking entries (entry_at below.now.slots.items (index / C.span_of entries)) (index % C.span_of entries) spares.old) }
+    ensures tokens { OnOk result ((h : Entry → ℕ) → C.tokens_of h spares.new ≡ C.tokens_of h spares.old + h token) }
+    ensures empty { C.empty_nodes entries spares.new }
+    ensures refused { OnErr result (spares.new ≡ spares.old) }
+    ensures token { IfErr result (λ back. back ≡ token) }
+{
+    let span = C::span(entries);
+    C::prepare(
+        &below.slots[index / span],
+        spares,
+        alloc,
+        entries,
+        index % span,
+        token,
+    )
+}
+
+/// Puts the first node that is missing on the way to the index into the tree, and marks the entries where it comes to one of
+/// them.
+pub fn plant_in<C: Planting>(
+    below: &mut Entries<C>,
+    spares: &mut C::Spares,
+    count: usize,
+    entries: usize,
+    index: usize,
+)
+    requires some { 0 < entries }
+    requires fits { C.span_of entries < 2 ^ 64 }
+    requires inside { index < count * C.span_of entries }
+    requires shaped { ShapedIn (C.shaped entries) count below.old.slots.items }
+    requires missing { 0 < missing_in (C.missing entries) (C.span_of entries) below.old.slots.items index }
+    requires ready { C.lacking entries (entry_at below.old.slots.items (index / C.span_of entries)) (index % C.span_of entries) spares.old ≡ 0 }
+    requires empty { C.empty_nodes entries spares.old }
+    ensures same { Same (find_in (C.find entries) (C.span_of entries) below.old.slots.items) (find_in (C.find entries) (C.span_of entries) below.new.slots.items) }
+    ensures shaped { ShapedIn (C.shaped entries) count below.new.slots.items }
+    ensures grown { missing_in (C.missing entries) (C.span_of entries) below.new.slots.items index + 1 ≡ missing_in (C.missing entries) (C.span_of entries) below.old.slots.items index }
+    ensures ready { C.lacking entries (entry_at below.new.slots.items (index / C.span_of entries)) (index % C.span_of entries) spares.new ≡ 0 }
+    ensures empty { C.empty_nodes entries spares.new }
+    ensures change { (n : TreeNode) × IsNewNode n.token n
+        × ChangesEntries C.number C.weight below.old.slots.items below.new.slots.items below.old.dirty below.new.dirty nothing (λ w. w.node n)
+        × ((h : Entry → ℕ) → C.tokens_of h spares.new + h n.token ≡ C.tokens_of h spares.old) }
+{
+    let span = C::span(entries);
+    plant_at(below, spares, index / span, entries, index % span);
+}
+
+fn plant_at<C: Planting>(
+    below: &mut Entries<C>,
+    spares: &mut C::Spares,
+    at: usize,
+    entries: usize,
+    index: usize,
+)
+    requires at { at < length below.old.slots.items }
+    requires some { 0 < entries }
+    requires fits { C.span_of entries < 2 ^ 64 }
+    requires inside { index < C.span_of entries }
+    requires shaped { C.shaped entries (entry_at below.old.slots.items at) }
+    requires missing { 0 < C.missing entries (entry_at below.old.slots.items at) index }
+    requires ready { C.lacking entries (entry_at below.old.slots.items at) index spares.old ≡ 0 }
+    requires empty { C.empty_nodes entries spares.old }
+    ensures entry { below.new.slots.items ≡ slice_set below.old.slots.items at (entry_at below.new.slots.items at) }
+    ensures same { Same (C.find entries (entry_at below.old.slots.items at)) (C.find entries (entry_at below.new.slots.items at)) }
+    ensures shaped { C.shaped entries (entry_at below.new.slots.items at) }
+    ensures grown { C.missing entries (entry_at below.new.slots.items at) index + 1 ≡ C.missing entries (entry_at below.old.slots.items at) index }
+    ensures ready { C.lacking entries (entry_at below.new.slots.items at) index spares.new ≡ 0 }
+    ensures empty { C.empty_nodes entries spares.new }
+    ensures change { (n : TreeNode) × IsNewNode n.token n
+        × ChangesEntries C.number C.weight below.old.slots.items below.new.slots.items below.old.dirty below.new.dirty nothing (λ w. w.node n)
+        × ((h : Entry → ℕ) → C.tokens_of h spares.new + h n.token ≡ C.tokens_of h spares.old) }
+{
+    let fresh = below.slots[at].is_none();
+    C::plant(&mut below.slots[at], spares, entries, index);
+    if fresh {
+        below.dirty = true;
+    }
+}
