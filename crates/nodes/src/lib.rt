@@ -3,10 +3,10 @@
 
 mod change;
 mod file;
-mod flush;
 mod look;
 mod migrate;
 mod owner;
+mod writing;
 
 pub use file::FileState;
 pub use tree::Spare;

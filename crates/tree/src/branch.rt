@@ -18,8 +18,8 @@ pub struct Branch<C> {
 }
 
 impl<C> Branch<C> {
-    /// A node that names nothing, still to be written. Where memory is missing the token is handed back.
-    pub fn empty(alloc: Global, entries: usize, token: NidToken) -> Result<Branch<C>, NidToken>
+    // A node that names nothing, still to be written.
+    fn empty(alloc: Global, entries: usize, token: NidToken) -> Result<Branch<C>, NidToken>
         ensures entries { IfOk result (λ node. node.entries.slots.items ≡ replicate entries None) }
         ensures nothing { IfOk result (λ node. AreNone node.entries.slots.items) }
         ensures marked { IfOk result (λ node. node.entries.dirty ≡ true) }
@@ -32,8 +32,7 @@ impl<C> Branch<C> {
         }
     }
 
-    /// Gives up a node that names nothing.
-    pub fn into_token(self) -> NidToken
+    fn into_token(self) -> NidToken
         requires { AreNone self.entries.slots.items }
         ensures { result ≡ self.token }
     {
