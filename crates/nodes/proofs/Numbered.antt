@@ -14,10 +14,10 @@ use Rattle.geometry.specs.Path.{inode_entries, node_entries, path}
 use Rattle.tickets.specs.Placed.{Placed}
 use Rattle.tree.specs.declared.branch.Branch.{Branch}
 use Rattle.tree.specs.Tree.{entry_at}
-use Rattle.tree.specs.Change.{Weighing, of_tokens}
+use Rattle.tree.specs.Change.{Weighing, of_tokens, unnumbered}
 use Rattle.nodes.specs.declared.file.FileState.{FileState}
 use Rattle.nodes.specs.File.{below, weight_direct, weight_indirect, weight_double}
-use Rattle.nodes.specs.Owners.{owner_in, owner_at, unnumbered, HasNumbers}
+use Rattle.nodes.specs.Owners.{owner_in, owner_at, HasNumbers}
 use Rattle.nodes.proofs.Bounds.{entries_positive}
 use Rattle.nodes.proofs.Paths.{path_1, path_2, path_3, path_4, path_5}
 
@@ -36,7 +36,7 @@ at_entry weight none xs i all = elim (cases_lt i (length xs)) [
 ]
 
 -- a slot number
-abbrev IsSlot : ℕ → Type 0
+abbrev pub IsSlot : ℕ → Type 0
 IsSlot s = s < 2 ^ 32 - 1
 
 one_owner : (x : Option (Branch Placed)) (s : ℕ) → weight_direct numbers x ≡ 0 → IsSlot s → MatchOption (owner_in x s) (Unit {0}) IsOwner
@@ -54,11 +54,11 @@ three_owner None a c s none small = tt
 three_owner (Some b) a c s none small =
     two_owner (entry_at b.entries.slots.items a) c s (at_entry (weight_indirect numbers) refl b.entries.slots.items a (omega arith)) small
 
-few_entries : (s : Shape) → node_entries s < 2 ^ 32 - 1
+pub few_entries : (s : Shape) → node_entries s < 2 ^ 32 - 1
 few_entries Tiny = lit< tt
 few_entries Kernel = lit< tt
 
-few_slots : (s : Shape) → inode_entries s < 2 ^ 32 - 1
+pub few_slots : (s : Shape) → inode_entries s < 2 ^ 32 - 1
 few_slots Tiny = lit< tt
 few_slots Kernel = lit< tt
 

@@ -10,7 +10,7 @@ use Rattle.geometry.specs.declared.path.Path.{Path}
 use Rattle.geometry.specs.declared.path.Path.TheVariants.{Inode, Direct, Indirect, Double}
 use Rattle.tickets.specs.Placed.{Placed}
 use Rattle.tree.specs.declared.branch.Branch.{Branch}
-use Rattle.tree.specs.Tree.{find_in, find_below, missing_in, missing_below, ShapedIn, ShapedBelow, FullIn, FullBelow, AreNone, only_at_zero, number_of, EmptyFrom, entry_at}
+use Rattle.tree.specs.Tree.{find_in, find_below, missing_in, missing_below, ShapedIn, ShapedBelow, AreNone, only_at_zero, number_of, EmptyFrom, entry_at}
 use Rattle.tree.specs.Change.{TreeNode, Weighing, tree_node, ticket_weight, weight_below, each_one}
 use Rattle.nodes.specs.declared.file.FileState.{FileState}
 
@@ -56,15 +56,6 @@ missing_indirect e = missing_below (λ b. b.entries.slots.items) (missing_direct
 
 abbrev pub missing_double : ℕ → Option (Branch (Branch (Branch Placed))) → ℕ → ℕ
 missing_double e = missing_below (λ b. b.entries.slots.items) (missing_indirect e) (e * (e * 1))
-
-abbrev pub full_direct : ℕ → Option (Branch Placed) → ℕ → Type 0
-full_direct e = FullBelow (λ b. b.entries.slots.items) (λ _ _. Unit {0}) 1
-
-abbrev pub full_indirect : ℕ → Option (Branch (Branch Placed)) → ℕ → Type 0
-full_indirect e = FullBelow (λ b. b.entries.slots.items) (full_direct e) (e * 1)
-
-abbrev pub full_double : ℕ → Option (Branch (Branch (Branch Placed))) → ℕ → Type 0
-full_double e = FullBelow (λ b. b.entries.slots.items) (full_indirect e) (e * (e * 1))
 
 abbrev pub weight_direct : Weighing Placed → Option (Branch Placed) → ℕ
 weight_direct = weight_below (λ b. tree_node true b.token (map address_of b.entries.slots.items) b.entries.dirty) (λ b. b.entries.slots.items) ticket_weight
@@ -118,15 +109,6 @@ module _ {B L : Type 0} where
       (joined (2 * e) (missing_in (missing_direct e) (e * 1) f.direct.slots.items)
       (joined (2 * (e * e)) (missing_in (missing_indirect e) (e * (e * 1)) f.indirect.slots.items)
       (missing_in (missing_double e) (e * (e * (e * 1))) f.double.slots.items)))
-
-  -- each node on the way to an index, below the inode, names something
-  abbrev pub FullTo : FileState B L → ℕ → Type 0
-  FullTo f i =
-      let d = inode_entries f.shape in
-      let e = node_entries f.shape in
-      (d ≤ i → i - d < 2 * e → FullIn (full_direct e) (e * 1) f.direct.slots.items (i - d))
-      × (d ≤ i → 2 * e ≤ i - d → i - d - 2 * e < 2 * (e * e) → FullIn (full_indirect e) (e * (e * 1)) f.indirect.slots.items (i - d - 2 * e))
-      × (d ≤ i → 2 * e ≤ i - d → 2 * (e * e) ≤ i - d - 2 * e → FullIn (full_double e) (e * (e * (e * 1))) f.double.slots.items (i - d - 2 * e - 2 * (e * e)))
 
   -- each node has as many entries as the shape says, and nothing stands at or past the length
   pub record IsFile (f : FileState B L) : Type 0 where

@@ -2,3 +2,4 @@ pub mod File
 pub mod Marks
 pub mod Held
 pub mod Owners
+pub mod Lacking

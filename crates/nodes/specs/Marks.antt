@@ -24,13 +24,3 @@ pub record MarksNode {B L : Type 0} (resized : TreeNode → TreeNode) (old new :
   pub kept : own ≡ false → inode_of new ≡ resized (inode_of old)
   pub marked : own ≡ true → (inode_of new).dirty ≡ true
   pub token : new.token ≡ old.token
-
--- a file whose inode's block was written
-abbrev pub unmarked : {B L : Type 0} → FileState B L → FileState B L
-unmarked f = record f {
-  resized = false;
-  tickets = record f.tickets { dirty = false };
-  direct = record f.direct { dirty = false };
-  indirect = record f.indirect { dirty = false };
-  double = record f.double { dirty = false };
-}

@@ -1,14 +1,13 @@
 -- Who names the block at an index: the node that has its address, and at which entry (Linux filesystems/f2fs, segment
 -- summary area).
-use Rattle.std.specs.Prelude.{◌≡◌, ◌-◌, ◌==◌, ℕ, if◌then◌else◌, Option, Some, None}
+use Rattle.std.specs.Prelude.{◌≡◌, ◌-◌, ℕ, Option, Some, None}
 use Rattle.geometry.specs.declared.path.Path.{Path}
 use Rattle.geometry.specs.declared.path.Path.TheVariants.{Inode, Direct, Indirect, Double}
 use Rattle.geometry.specs.declared.owner.Owner.{Owner}
 use Rattle.geometry.specs.declared.owner.Owner.TheVariants.{Data}
 use Rattle.tree.specs.declared.branch.Branch.{Branch}
-use Rattle.books.specs.declared.claim.Entry.{Entry}
 use Rattle.tree.specs.Tree.{entry_at}
-use Rattle.tree.specs.Change.{of_tokens}
+use Rattle.tree.specs.Change.{of_tokens, unnumbered}
 use Rattle.nodes.specs.declared.file.FileState.{FileState}
 use Rattle.nodes.specs.File.{below, weight_of}
 
@@ -16,10 +15,6 @@ use Rattle.nodes.specs.File.{below, weight_of}
 abbrev pub owner_in : {C : Type 0} → Option (Branch C) → ℕ → Option Owner
 owner_in None s = None
 owner_in (Some b) s = Some (Data b.token.number s)
-
--- 1 for a token without a number
-abbrev pub unnumbered : Entry → ℕ
-unnumbered e = if e.number == 0 then 1 else 0
 
 module _ {B L : Type 0} where
   -- each node of the file has a number

@@ -1,56 +1,20 @@
-//! How a file's tickets and nodes come and go.
-ghost use Rattle.std.specs.Prelude.{◌≡◌, ℕ, ◌+◌, ◌-◌, ◌^◌, ◌<◌, max, min, Some, None, MatchOption, OnOk, OnErr, IfErr};
+//! How a file's tickets come, and its tickets and nodes go.
+ghost use Rattle.std.specs.Prelude.{◌≡◌, ℕ, ◌+◌, ◌-◌, ◌^◌, ◌<◌, max, min, Some, MatchOption};
 ghost use Rattle.geometry.specs.Path.{inode_entries, node_entries, largest_length};
 ghost use Rattle.geometry.specs.File.{File, written, cut_to};
 ghost use Rattle.tickets.specs.Placed.{Placed};
 ghost use Rattle.tree.specs.Tree.{SetsAt, Same, EmptyFrom, HandsOut};
-ghost use Rattle.tree.specs.Change.{TreeNode, Weighing, ticket_weight, WeighsAs, IsNewNode, nothing};
+ghost use Rattle.tree.specs.Change.{Weighing, ticket_weight, WeighsAs, nothing};
 ghost use Rattle.nodes.specs.Marks.{unchanged, lengthened, shortened};
 
 use crate::file::FileState;
 use device::Block;
-use std::alloc::Global;
-use tickets::{NidToken, Ticket};
-use tree::{Pruned, Spare};
+use tickets::Ticket;
+use tree::Spare;
 
 impl<B: Block> FileState<B> {
-    ghost use Rattle.nodes.specs.File.{IsFile, IsBare, Shows, FullTo, ticket_at, missing_to, count_of, inode_of, below_weight};
+    ghost use Rattle.nodes.specs.File.{IsFile, IsBare, Shows, ticket_at, missing_to, count_of, inode_of, below_weight};
     ghost use Rattle.nodes.specs.Marks.{MarksNode};
-
-    /// Adds the first node that is missing on the way to the index, and marks it and the node that names it. Where memory
-    /// is missing the token is handed back, and nothing has changed.
-    pub fn grow(&mut self, alloc: Global, index: u32, token: NidToken) -> Result<(), NidToken>
-        requires inside { index < largest_length self.old.shape }
-        requires file { IsFile self.old }
-        requires path { 0 < missing_to self.old index }
-        ensures same { Same (ticket_at self.old) (ticket_at self.new) }
-        ensures grown { OnOk result (missing_to self.new index + 1 ≡ missing_to self.old index) }
-        ensures change { OnOk result ((n : TreeNode) × IsNewNode token n × MarksNode unchanged self.old self.new nothing (λ w. w.node n)) }
-        ensures refused { OnErr result (self.new ≡ self.old) }
-        ensures token { IfErr result (λ back. back ≡ token) }
-        ensures length { self.new.length ≡ self.old.length }
-        ensures shape { self.new.shape ≡ self.old.shape }
-        ensures kind { self.new.kind ≡ self.old.kind }
-        ensures file { IsFile self.new }
-    {
-        let slots = self.shape.inode_entries() as usize;
-        let entries = self.shape.node_entries() as usize;
-        let index = index as usize;
-        if index < slots {
-            unreachable!();
-        }
-        let index = index - slots;
-        let width = 2 * entries;
-        if index < width {
-            return self.direct.grow(2, alloc, entries, index, token);
-        }
-        let index = index - width;
-        let width = 2 * (entries * entries);
-        if index < width {
-            return self.indirect.grow(2, alloc, entries, index, token);
-        }
-        self.double.grow(1, alloc, entries, index - width, token)
-    }
 
     /// Puts a ticket at the index, and hands out the one that stood there: the file is the written file. Marks the node that
     /// holds the slot, and the inode where the file becomes longer.
@@ -183,39 +147,5 @@ impl<B: Block> FileState<B> {
             return Some(spare);
         }
         None
-    }
-
-    /// Hands out the token of a node on the way to the index that names nothing, and marks the node that named it. The file
-    /// is as it was. None: each node on the way, but the inode, names something.
-    pub fn trim(&mut self, index: u32) -> Option<NidToken>
-        requires inside { index < largest_length self.old.shape }
-        requires file { IsFile self.old }
-        ensures same { Same (ticket_at self.old) (ticket_at self.new) }
-        ensures none { MatchOption result ((self.new ≡ self.old) × FullTo self.old index) (λ _. Unit {0}) }
-        ensures change { MatchOption result (Unit {0})
-            (λ token. (n : TreeNode) × (n.token ≡ token) × MarksNode unchanged self.old self.new (λ w. w.node n) nothing) }
-        ensures fewer { MatchOption result (Unit {0}) (λ _. count_of self.new + 1 ≡ count_of self.old) }
-        ensures length { self.new.length ≡ self.old.length }
-        ensures shape { self.new.shape ≡ self.old.shape }
-        ensures kind { self.new.kind ≡ self.old.kind }
-        ensures file { IsFile self.new }
-    {
-        let slots = self.shape.inode_entries() as usize;
-        let entries = self.shape.node_entries() as usize;
-        let index = index as usize;
-        if index < slots {
-            return None;
-        }
-        let index = index - slots;
-        let width = 2 * entries;
-        if index < width {
-            return self.direct.trim(2, entries, index);
-        }
-        let index = index - width;
-        let width = 2 * (entries * entries);
-        if index < width {
-            return self.indirect.trim(2, entries, index);
-        }
-        self.double.trim(1, entries, index - width)
     }
 }

@@ -13,16 +13,16 @@ use tree::{Branch, Entries};
 /// To contracts `kind` and `length` are the file's, `ticket_at` gives the ticket at each index, and `weight_of` what all
 /// tickets and nodes weigh. `IsFile` holds from `new` on.
 pub struct FileState<B: Block> {
-    pub(crate) shape: Shape,
-    pub(crate) kind: Kind,
-    pub(crate) length: u32,
-    // Whether the length was changed since the inode's block was written.
-    pub(crate) resized: bool,
-    pub(crate) token: NidToken,
-    pub(crate) tickets: Entries<Ticket<B>>,
-    pub(crate) direct: Entries<Branch<Ticket<B>>>,
-    pub(crate) indirect: Entries<Branch<Branch<Ticket<B>>>>,
-    pub(crate) double: Entries<Branch<Branch<Branch<Ticket<B>>>>>,
+    pub shape: Shape,
+    pub kind: Kind,
+    pub length: u32,
+    /// Whether the length was changed since the inode's block was written.
+    pub resized: bool,
+    pub token: NidToken,
+    pub tickets: Entries<Ticket<B>>,
+    pub direct: Entries<Branch<Ticket<B>>>,
+    pub indirect: Entries<Branch<Branch<Ticket<B>>>>,
+    pub double: Entries<Branch<Branch<Branch<Ticket<B>>>>>,
 }
 
 impl<B: Block> FileState<B> {

@@ -6,7 +6,9 @@ mod file;
 mod look;
 mod migrate;
 mod owner;
-mod writing;
+mod path;
+mod spare;
 
 pub use file::FileState;
+pub use spare::SparePath;
 pub use tree::Spare;

@@ -1,12 +1,16 @@
 //! Which node names the block at an index.
-ghost use Rattle.std.specs.Prelude.{◌≡◌, ◌<◌, Option, IsSome, MatchOption};
+ghost use Rattle.std.specs.Prelude.{◌≡◌, ◌<◌, Option, Some, IsSome, MatchOption};
+ghost use Rattle.geometry.specs.declared.owner.Owner.TheVariants.{Data};
 ghost use Rattle.geometry.specs.Owner.{IsOwner};
 ghost use Rattle.geometry.specs.Path.{path, largest_length};
 ghost use Rattle.tree.specs.Tree.{entry_at};
+ghost use Rattle.tree.specs.Change.{unnumbered};
 ghost use Rattle.nodes.specs.File.{below};
 ghost use Rattle.nodes.specs.Owners.{owner_in};
+ghost use Rattle.nodes.specs.Lacking.{spare_tokens, end_number, last_entry};
 
 use crate::file::FileState;
+use crate::spare::SparePath;
 use device::Block;
 use geometry::index::path;
 use geometry::{Owner, Path};
@@ -15,6 +19,7 @@ use tree::{Branch, Entries};
 impl<B: Block> FileState<B> {
     ghost use Rattle.nodes.specs.File.{IsFile, missing_to};
     ghost use Rattle.nodes.specs.Owners.{owner_at, HasNumbers};
+    ghost use Rattle.nodes.specs.Lacking.{lacking_to};
 
     /// Who names a block at the index: the node at the end of its path, and the entry there (Linux `filesystems/f2fs`,
     /// segment summary area). None where a node is missing on the way, or where the index is past the largest length.
@@ -26,7 +31,27 @@ impl<B: Block> FileState<B> {
         self.at_end(path(self.shape, u64::from(index)))
     }
 
-    // The entry at the end of a path.
+    /// Who will name a block at the index, once the spare nodes stand on the way to it: as `owner`, or where a node is missing,
+    /// the spare one at the end of the way.
+    pub fn owner_with(&self, index: u32, spares: &SparePath<B>) -> Owner
+        requires inside { index < largest_length self.now.shape }
+        requires file { IsFile self.now }
+        requires ready { lacking_to self.now index spares.now ≡ 0 }
+        ensures there { missing_to self.now index ≡ 0 → Some result ≡ owner_at self.now (path self.now.shape index) }
+        ensures spare { 0 < missing_to self.now index → result ≡ Data (end_number spares.now) (last_entry (path self.now.shape index)) }
+        ensures numbered { HasNumbers self.now → spare_tokens unnumbered spares.now ≡ 0 → IsOwner result }
+    {
+        if !self.has_path(index) {
+            let path = path(self.shape, u64::from(index));
+            return Owner::Data(spares.end_number(), last_entry(path));
+        }
+        match self.owner(index) {
+            Some(owner) => owner,
+            None => unreachable!(),
+        }
+    }
+
+    // The node and the entry at the end of a path.
     fn at_end(&self, path: Option<Path>) -> Option<Owner>
         ensures { result ≡ owner_at self.now path }
     {
@@ -41,6 +66,19 @@ impl<B: Block> FileState<B> {
                 Some(None) | None => None,
             },
         }
+    }
+}
+
+// The entry at the end of a path.
+fn last_entry(path: Option<Path>) -> u32
+    ensures { result ≡ last_entry path }
+{
+    match path {
+        Some(Path::Inode(slot)) => slot,
+        Some(Path::Direct(_, slot)) => slot,
+        Some(Path::Indirect(_, _, slot)) => slot,
+        Some(Path::Double(_, _, slot)) => slot,
+        None => 0,
     }
 }
 

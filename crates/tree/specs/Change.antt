@@ -115,3 +115,7 @@ of_tickets h = record { ticket = h; node = λ n. 0 }
 
 abbrev pub of_tokens : {L : Type 0} → (Entry → ℕ) → Weighing L
 of_tokens h = record { ticket = λ t. 0; node = λ n. h n.token }
+
+-- 1 for a token without a number
+abbrev pub unnumbered : Entry → ℕ
+unnumbered e = if e.number == 0 then 1 else 0

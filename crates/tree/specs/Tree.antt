@@ -50,10 +50,6 @@ ShapedIn Shaped count slots = (length slots ≡ count) × ((k : ℕ) → Shaped 
 abbrev pub AreNone : {C : Type 0} → List (Option C) → Type 0
 AreNone slots = (k : ℕ) → entry_at slots k ≡ None
 
--- below an entry, each node on the way to an index names something
-abbrev pub FullIn : {C : Type 0} → (Option C → ℕ → Type 0) → ℕ → List (Option C) → ℕ → Type 0
-FullIn Full span slots i = Full (entry_at slots (i / span)) (i % span)
-
 -- the same below a node, which may be missing
 abbrev pub find_below : {B C L : Type 0} → (B → List (Option C)) → (Option C → ℕ → Option L) → ℕ → Option B → ℕ → Option L
 find_below slots find span None i = None
@@ -66,10 +62,6 @@ missing_below slots missing span (Some b) i = missing_in missing span (slots b) 
 abbrev pub ShapedBelow : {B C : Type 0} → (B → List (Option C)) → (Option C → Type 0) → ℕ → Option B → Type 0
 ShapedBelow slots Shaped entries None = Unit {0}
 ShapedBelow slots Shaped entries (Some b) = ShapedIn Shaped entries (slots b)
-
-abbrev pub FullBelow : {B C : Type 0} → (B → List (Option C)) → (Option C → ℕ → Type 0) → ℕ → Option B → ℕ → Type 0
-FullBelow slots Full span None i = Unit {0}
-FullBelow slots Full span (Some b) i = (AreNone (slots b) → ⊥) × FullIn Full span (slots b) i
 
 -- the number that stands for a slot in a node's block: 0 where there is nothing
 abbrev pub number_of : {B : Type 0} → (B → ℕ) → Option B → ℕ

@@ -1,6 +1,6 @@
 //! A node other than an inode.
 ghost use Rattle.std.specs.Prelude.{◌≡◌, ◌*◌, ◌<◌, None, true, false, map, replicate, IfOk, IfErr};
-ghost use Rattle.tree.specs.Tree.{find_below, missing_below, ShapedBelow, FullBelow, AreNone, number_of};
+ghost use Rattle.tree.specs.Tree.{find_below, missing_below, ShapedBelow, AreNone, number_of};
 ghost use Rattle.tree.specs.Change.{tree_node, weight_below};
 
 use crate::entries::{Entries, Pruned};
@@ -8,7 +8,6 @@ use crate::spare::Spare;
 use crate::subtree::Subtree;
 use device::DeviceError;
 use std::alloc::Global;
-use std::mem;
 use tickets::NidToken;
 
 /// A node other than an inode: the token of its number, and its entries.
@@ -18,8 +17,8 @@ pub struct Branch<C> {
 }
 
 impl<C> Branch<C> {
-    // A node that names nothing, still to be written.
-    fn empty(alloc: Global, entries: usize, token: NidToken) -> Result<Branch<C>, NidToken>
+    /// A node that names nothing, still to be written. Where memory is missing the token is handed back.
+    pub fn empty(alloc: Global, entries: usize, token: NidToken) -> Result<Branch<C>, NidToken>
         ensures entries { IfOk result (λ node. node.entries.slots.items ≡ replicate entries None) }
         ensures nothing { IfOk result (λ node. AreNone node.entries.slots.items) }
         ensures marked { IfOk result (λ node. node.entries.dirty ≡ true) }
@@ -32,7 +31,8 @@ impl<C> Branch<C> {
         }
     }
 
-    fn into_token(self) -> NidToken
+    /// Gives up a node that names nothing: its token.
+    pub fn into_token(self) -> NidToken
         requires { AreNone self.entries.slots.items }
         ensures { result ≡ self.token }
     {
@@ -62,8 +62,6 @@ impl<C: Subtree> Subtree for Branch<C> {
     ghost missing = { λ e slot i. missing_below (λ b. b.entries.slots.items) (C.missing e) (C.span_of e) slot i };
 
     ghost shaped = { λ e slot. ShapedBelow (λ b. b.entries.slots.items) (C.shaped e) e slot };
-
-    ghost full = { λ e slot i. FullBelow (λ b. b.entries.slots.items) (C.full e) (C.span_of e) slot i };
 
     ghost number = { number_of (λ b. b.token.number) };
 
@@ -128,23 +126,6 @@ impl<C: Subtree> Subtree for Branch<C> {
         }
     }
 
-    fn grow(
-        slot: &mut Option<Branch<C>>,
-        alloc: Global,
-        entries: usize,
-        index: usize,
-        token: NidToken,
-    ) -> Result<(), NidToken> {
-        if let Some(branch) = slot {
-            return branch.entries.grow(entries, alloc, entries, index, token);
-        }
-        let branch = Branch::empty(alloc, entries, token)?;
-        match mem::replace(slot, Some(branch)) {
-            None => Ok(()),
-            Some(_) => unreachable!(),
-        }
-    }
-
     fn put(
         slot: &mut Option<Branch<C>>,
         entries: usize,
@@ -167,21 +148,6 @@ impl<C: Subtree> Subtree for Branch<C> {
             Pruned::Kept => None,
             Pruned::Empty => match slot.take() {
                 Some(branch) => Some(Spare::Token(branch.into_token())),
-                None => unreachable!(),
-            },
-        }
-    }
-
-    fn trim(slot: &mut Option<Branch<C>>, entries: usize, index: usize) -> Option<NidToken> {
-        let pruned = match slot {
-            Some(branch) => branch.entries.prune_path(entries, entries, index),
-            None => return None,
-        };
-        match pruned {
-            Pruned::Found(token) => Some(token),
-            Pruned::Kept => None,
-            Pruned::Empty => match slot.take() {
-                Some(branch) => Some(branch.into_token()),
                 None => unreachable!(),
             },
         }

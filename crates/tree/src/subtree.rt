@@ -1,13 +1,12 @@
 //! What an entry of a node may name: the ticket of a block, or a node with entries of its own.
 ghost use Rattle.std.specs.Prelude.{◌≡◌, ℕ, ◌+◌, ◌^◌, ◌<◌, ◌≤◌, List, Bool, true, false, Option, Some, None, is_none, length, replicate, OnOk, OnErr, IfOk, IfErr, MatchOption, IsTrue, ◌↔◌};
 ghost use Rattle.tree.specs.Tree.{SetsAt, Same, EmptyFrom, HandsOut, SwapsOne, only_at_zero, number_of};
-ghost use Rattle.tree.specs.Change.{Weighing, TreeNode, ticket_weight, ChangesSlot, WeighsAs, IsNewNode, nothing, each_marked, each_naming};
+ghost use Rattle.tree.specs.Change.{Weighing, ticket_weight, ChangesSlot, WeighsAs, nothing, each_marked, each_naming};
 
 use crate::spare::Spare;
 use device::{Block, DeviceError};
-use std::alloc::Global;
 use std::mem;
-use tickets::{NidToken, Ticket};
+use tickets::Ticket;
 
 /// The ticket of a block, or a node with entries that name subtrees (Linux `filesystems/f2fs`, index structure).
 ///
@@ -36,8 +35,6 @@ pub trait Subtree {
     ghost missing: { ℕ → Option Self → ℕ → ℕ };
 
     ghost shaped: { ℕ → Option Self → Type 0 };
-
-    ghost full: { ℕ → Option Self → ℕ → Type 0 };
 
     ghost number: { Option Self → ℕ };
 
@@ -78,26 +75,6 @@ pub trait Subtree {
     fn is_clean(slot: &Option<Self>) -> bool
         ensures { IsTrue result ↔ (weight each_marked slot.now ≡ 0) };
 
-    /// Adds the first node that is missing on the way to the index. Where memory is missing the token is handed back, and
-    /// nothing has changed.
-    fn grow(
-        slot: &mut Option<Self>,
-        alloc: Global,
-        entries: usize,
-        index: usize,
-        token: NidToken,
-    ) -> Result<(), NidToken>
-        requires some { 0 < entries }
-        requires fits { span_of entries < 2 ^ 64 }
-        requires inside { index < span_of entries }
-        requires shaped { shaped entries slot.old }
-        ensures same { Same (find entries slot.old) (find entries slot.new) }
-        ensures shaped { shaped entries slot.new }
-        ensures grown { OnOk result (missing entries slot.new index + 1 ≡ missing entries slot.old index) }
-        ensures change { OnOk result ((n : TreeNode) × IsNewNode token n × ChangesSlot number weight (is_none slot.old) slot.old slot.new nothing (λ w. w.node n)) }
-        ensures refused { OnErr result (slot.new ≡ slot.old) }
-        ensures token { IfErr result (λ back. back ≡ token) };
-
     /// Puts a ticket at the index, and hands out the one that stood there.
     fn put(
         slot: &mut Option<Self>,
@@ -126,18 +103,6 @@ pub trait Subtree {
         ensures out { MatchOption result (Unit {0}) (λ spare. HandsOut (find entries slot.old) (find entries slot.new) from spare) }
         ensures change { MatchOption result (Unit {0})
             (λ spare. (out : Weighing Self.Leaf → ℕ) × WeighsAs spare out × ChangesSlot number weight (is_none slot.new) slot.old slot.new out nothing) };
-
-    /// Hands out the token of a node on the way to the index that names nothing. None: each node there names something.
-    fn trim(slot: &mut Option<Self>, entries: usize, index: usize) -> Option<NidToken>
-        requires some { 0 < entries }
-        requires fits { span_of entries < 2 ^ 64 }
-        requires inside { index < span_of entries }
-        requires shaped { shaped entries slot.old }
-        ensures same { Same (find entries slot.old) (find entries slot.new) }
-        ensures shaped { shaped entries slot.new }
-        ensures none { MatchOption result ((slot.new ≡ slot.old) × full entries slot.old index) (λ _. Unit {0}) }
-        ensures change { MatchOption result (Unit {0})
-            (λ token. (n : TreeNode) × (n.token ≡ token) × ChangesSlot number weight (is_none slot.new) slot.old slot.new (λ w. w.node n) nothing) };
 
     /// Where a node of this number has the address `from` at an entry, the ticket comes there and the old one goes. Else
     /// the ticket is handed back, and nothing has changed.
@@ -233,8 +198,6 @@ impl<B: Block> Subtree for Ticket<B> {
 
     ghost shaped = { λ _ _. Unit {0} };
 
-    ghost full = { λ _ _ _. Unit {0} };
-
     ghost number = { number_of (λ t. t.mark.address) };
 
     ghost weight = { ticket_weight };
@@ -293,16 +256,6 @@ impl<B: Block> Subtree for Ticket<B> {
         true
     }
 
-    fn grow(
-        _slot: &mut Option<Ticket<B>>,
-        _alloc: Global,
-        _entries: usize,
-        _index: usize,
-        token: NidToken,
-    ) -> Result<(), NidToken> {
-        Err(token)
-    }
-
     fn put(
         slot: &mut Option<Ticket<B>>,
         _entries: usize,
@@ -324,10 +277,6 @@ impl<B: Block> Subtree for Ticket<B> {
             Some(ticket) => Some(Spare::Ticket(ticket)),
             None => None,
         }
-    }
-
-    fn trim(_slot: &mut Option<Ticket<B>>, _entries: usize, _index: usize) -> Option<NidToken> {
-        None
     }
 
     fn migrate(

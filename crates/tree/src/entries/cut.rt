@@ -1,13 +1,12 @@
 //! Tickets and nodes go from the entries.
 ghost use Rattle.std.specs.Prelude.{◌≡◌, ◌≢◌, ℕ, ◌*◌, ◌-◌, ◌^◌, ◌<◌, ◌/◌, ◌%◌, Option, Some, None, is_none, length, slice_set, MatchOption};
-ghost use Rattle.tree.specs.Tree.{find_in, ShapedIn, FullIn, Same, EmptyFrom, HandsOut, AreNone, entry_at};
-ghost use Rattle.tree.specs.Change.{Weighing, TreeNode, ChangesEntries, WeighsAs, nothing};
+ghost use Rattle.tree.specs.Tree.{find_in, ShapedIn, EmptyFrom, HandsOut, AreNone, entry_at};
+ghost use Rattle.tree.specs.Change.{Weighing, ChangesEntries, WeighsAs, nothing};
 ghost use Rattle.tree.specs.Pruned.{MatchPruned};
 
 use super::{Entries, Pruned, names_nothing};
 use crate::spare::Spare;
 use crate::subtree::Subtree;
-use tickets::NidToken;
 
 impl<C: Subtree> Entries<C> {
     /// Hands out one ticket at or past the index, or the token of a node that names nothing.
@@ -63,51 +62,6 @@ impl<C: Subtree> Entries<C> {
         }
     }
 
-    /// Hands out the token of a node on the way to the index that names nothing.
-    pub fn prune_path(&mut self, count: usize, entries: usize, index: usize) -> Pruned<NidToken>
-        requires some { 0 < entries }
-        requires fits { C.span_of entries < 2 ^ 64 }
-        requires inside { index < count * C.span_of entries }
-        requires shaped { ShapedIn (C.shaped entries) count self.old.slots.items }
-        ensures same { Same (find_in (C.find entries) (C.span_of entries) self.old.slots.items) (find_in (C.find entries) (C.span_of entries) self.new.slots.items) }
-        ensures shaped { ShapedIn (C.shaped entries) count self.new.slots.items }
-        ensures none { MatchPruned result (λ _. Unit {0})
-            ((self.new ≡ self.old) × FullIn (C.full entries) (C.span_of entries) self.old.slots.items index × (AreNone self.old.slots.items → ⊥))
-            ((self.new ≡ self.old) × FullIn (C.full entries) (C.span_of entries) self.old.slots.items index × AreNone self.old.slots.items) }
-        ensures change { MatchPruned result
-            (λ token. (n : TreeNode) × (n.token ≡ token) × ChangesEntries C.number C.weight self.old.slots.items self.new.slots.items self.old.dirty self.new.dirty (λ w. w.node n) nothing)
-            (Unit {0}) (Unit {0}) }
-    {
-        let span = C::span(entries);
-        if let Some(token) = self.trim_at(index / span, entries, index % span) {
-            return Pruned::Found(token);
-        }
-        if names_nothing(&self.slots) {
-            Pruned::Empty
-        } else {
-            Pruned::Kept
-        }
-    }
-
-    /// The same, where entries that name nothing stay.
-    pub fn trim(&mut self, count: usize, entries: usize, index: usize) -> Option<NidToken>
-        requires some { 0 < entries }
-        requires fits { C.span_of entries < 2 ^ 64 }
-        requires inside { index < count * C.span_of entries }
-        requires shaped { ShapedIn (C.shaped entries) count self.old.slots.items }
-        ensures same { Same (find_in (C.find entries) (C.span_of entries) self.old.slots.items) (find_in (C.find entries) (C.span_of entries) self.new.slots.items) }
-        ensures shaped { ShapedIn (C.shaped entries) count self.new.slots.items }
-        ensures none { MatchOption result ((self.new ≡ self.old) × FullIn (C.full entries) (C.span_of entries) self.old.slots.items index) (λ _. Unit {0}) }
-        ensures change { MatchOption result (Unit {0})
-            (λ token. (n : TreeNode) × (n.token ≡ token) × ChangesEntries C.number C.weight self.old.slots.items self.new.slots.items self.old.dirty self.new.dirty (λ w. w.node n) nothing) }
-    {
-        match self.prune_path(count, entries, index) {
-            Pruned::Found(token) => Some(token),
-            Pruned::Kept => None,
-            Pruned::Empty => None,
-        }
-    }
-
     fn prune_at(&mut self, at: usize, entries: usize, from: usize) -> Option<Spare<C::Leaf>>
         requires at { at < length self.old.slots.items }
         requires some { 0 < entries }
@@ -129,26 +83,5 @@ impl<C: Subtree> Entries<C> {
         let emptied = self.slots[at].is_none();
         self.mark(emptied);
         Some(spare)
-    }
-
-    fn trim_at(&mut self, at: usize, entries: usize, index: usize) -> Option<NidToken>
-        requires at { at < length self.old.slots.items }
-        requires some { 0 < entries }
-        requires fits { C.span_of entries < 2 ^ 64 }
-        requires inside { index < C.span_of entries }
-        requires shaped { C.shaped entries (entry_at self.old.slots.items at) }
-        ensures entry { self.new.slots.items ≡ slice_set self.old.slots.items at (entry_at self.new.slots.items at) }
-        ensures same { Same (C.find entries (entry_at self.old.slots.items at)) (C.find entries (entry_at self.new.slots.items at)) }
-        ensures shaped { C.shaped entries (entry_at self.new.slots.items at) }
-        ensures none { MatchOption result ((self.new ≡ self.old) × C.full entries (entry_at self.old.slots.items at) index) (λ _. Unit {0}) }
-        ensures change { MatchOption result (Unit {0})
-            (λ token. (n : TreeNode) × (n.token ≡ token) × ChangesEntries C.number C.weight self.old.slots.items self.new.slots.items self.old.dirty self.new.dirty (λ w. w.node n) nothing) }
-    {
-        let Some(token) = C::trim(&mut self.slots[at], entries, index) else {
-            return None;
-        };
-        let emptied = self.slots[at].is_none();
-        self.mark(emptied);
-        Some(token)
     }
 }

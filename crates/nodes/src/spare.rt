@@ -1,0 +1,55 @@
+//! The nodes that the way to an index lacks, made beside a file.
+ghost use Rattle.std.specs.Prelude.{◌≡◌, ℕ, ◌+◌, MatchOption};
+ghost use Rattle.books.specs.declared.claim.Entry.{Entry};
+
+use device::Block;
+use spares::{Planting, SpareNodes};
+use tickets::{NidToken, Ticket};
+use tree::Branch;
+
+/// Nodes for the way to one index of a file, each with its token: what a write needs is made before it is begun, so that a
+/// refused one leaves the file as it was.
+///
+/// To contracts `spare_tokens` is what their tokens weigh, and `AreEmptyNodes` says that each of them names nothing.
+pub struct SparePath<B: Block> {
+    pub nodes: SpareNodes<Branch<Branch<Ticket<B>>>>,
+}
+
+impl<B: Block> SparePath<B> {
+    ghost use Rattle.nodes.specs.Lacking.{spare_tokens, AreEmptyNodes, end_number};
+
+    /// No nodes.
+    pub fn new() -> SparePath<B>
+        ensures none { (h : Entry → ℕ) → spare_tokens h result ≡ 0 }
+        ensures empty { (e : ℕ) → AreEmptyNodes e result }
+    {
+        SparePath {
+            nodes: Branch::no_spares(),
+        }
+    }
+
+    /// The number of the node whose entries name tickets; 0 where it was not made.
+    pub fn end_number(&self) -> u32
+        ensures { result ≡ end_number self.now }
+    {
+        Branch::end_number(&self.nodes)
+    }
+
+    /// Hands out the token of one of the nodes. None: there is none.
+    pub fn give_back(&mut self) -> Option<NidToken>
+        requires empty { (e : ℕ) × AreEmptyNodes e self.old }
+        ensures none { MatchOption result ((self.new ≡ self.old) × ((h : Entry → ℕ) → spare_tokens h self.old ≡ 0)) (λ _. Unit {0}) }
+        ensures token { MatchOption result (Unit {0}) (λ token. (h : Entry → ℕ) → spare_tokens h self.new + h token ≡ spare_tokens h self.old) }
+        ensures empty { (e : ℕ) → AreEmptyNodes e self.old → AreEmptyNodes e self.new }
+    {
+        Branch::give_back(&mut self.nodes)
+    }
+
+    /// Ends a path of which no node is left.
+    pub fn end(self)
+        requires { (h : Entry → ℕ) → spare_tokens h self ≡ 0 }
+    {
+        let SparePath { nodes } = self;
+        Branch::end(nodes);
+    }
+}
