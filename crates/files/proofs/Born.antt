@@ -5,11 +5,10 @@ use Rattle.std.specs.Ordering.{nat_cmp}
 use Rattle.geometry.specs.File.{Block}
 use Rattle.books.specs.Accounts.{HandView}
 use Rattle.books.specs.declared.claim.Entry.{Entry}
-use Rattle.tree.specs.Change.{of_tickets, of_tokens}
+use Rattle.tree.specs.Change.{of_tickets, of_tokens, unnumbered}
 use Rattle.nodes.specs.declared.file.FileState.{FileState}
 use Rattle.nodes.specs.File.{IsFile, IsBare, ticket_at, blocks_below}
 use Rattle.nodes.specs.Held.{no_others}
-use Rattle.nodes.specs.Owners.{unnumbered}
 use Rattle.nodes.proofs.Held.{bare_weighs, held_new}
 use Rattle.area.specs.Area.{Area}
 use Rattle.files.specs.Contents.{IsStored, InHand}

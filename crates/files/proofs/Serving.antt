@@ -22,11 +22,11 @@ use Rattle.tickets.specs.Placed.{Placed}
 use Rattle.tree.specs.declared.spare.Spare.{Spare}
 use Rattle.tree.specs.declared.spare.Spare.TheVariants.{Ticket, Token}
 use Rattle.tree.specs.Tree.{SetsAt, Same, EmptyFrom, HandsOut}
-use Rattle.tree.specs.Change.{TreeNode, Weighing, WeighsAs, IsNewNode, nothing, ticket_weight, of_tickets, of_tokens}
+use Rattle.tree.specs.Change.{TreeNode, Weighing, WeighsAs, IsNewNode, nothing, ticket_weight, of_tickets, of_tokens, unnumbered}
 use Rattle.nodes.specs.declared.file.FileState.{FileState}
 use Rattle.nodes.specs.File.{IsFile, Shows, ticket_at, content_of, weight_of, below_weight, file_of}
 use Rattle.nodes.specs.Marks.{MarksNode, unchanged, lengthened}
-use Rattle.nodes.specs.Owners.{HasNumbers, unnumbered}
+use Rattle.nodes.specs.Owners.{HasNumbers}
 use Rattle.nodes.specs.Held.{Others, AreHeldBeside}
 use Rattle.nodes.proofs.Shown.{same_shows, got, kept}
 use Rattle.nodes.proofs.Files.{shows_file_of, only_file}
@@ -103,45 +103,6 @@ module _ {B L : Type 0} (old new : FileState B L) (is : IsStored old) (now : IsF
     whole = λ i t at. is.whole i t (sym (same i) ∙ at) ∙ ap block_bytes (sym shape);
     counted = weight ∙ (is.counted ∙ ap (λ (f : File). len f.blocks) (sym (same_file length same)));
   }
-
--- ---- a node comes
-
-module _ {B L : Type 0} (old new : FileState B L) (x y : Area) (k : Entry) (is : IsStored old) (now : IsFile new) (shape : new.shape ≡ old.shape) (kind : new.kind ≡ old.kind)
-    (length : new.length ≡ old.length) (same : Same (ticket_at old) (ticket_at new)) (free : KeepsFree x.geometry.files x.numbers.taken y.numbers.taken)
-    (geometry : y.geometry ≡ x.geometry) where
-  pub serves_grown : y.hand ≡ with_token k x.hand → 0 < k.number → (n : TreeNode) → n.token ≡ k → MarksNode unchanged old new nothing (λ w. w.node n) → Serves old new x y
-  serves_grown hand some n token change = record {
-    stored = stored_same old new is now shape kind length same
-        (let all = weigh_tickets unchanged old new nothing (λ w. w.node n) change (λ m. 1) in omega arith)
-        (let all = weigh_tokens unchanged old new nothing (λ w. w.node n) change unnumbered in
-        let was = is.numbered in
-        let same = ap unnumbered token in
-        let none = has_number k some in omega arith);
-    shape = shape;
-    number = ap (λ (e : Entry). e.number) change.token;
-    others = λ others was. subst (λ (h : HandView). AreHeldBeside others new h.tickets h.tokens) (sym hand)
-        (held_grown old new x.hand.tickets x.hand.tokens was unchanged n k token change);
-    free = free;
-    geometry = geometry;
-  }
-
-  pub serves_trimmed : y.hand ≡ less_token k x.hand → (n : TreeNode) → n.token ≡ k → MarksNode unchanged old new (λ w. w.node n) nothing → Serves old new x y
-  serves_trimmed hand n token change = record {
-    stored = stored_same old new is now shape kind length same
-        (let all = weigh_tickets unchanged old new (λ w. w.node n) nothing change (λ m. 1) in omega arith)
-        (let all = weigh_tokens unchanged old new (λ w. w.node n) nothing change unnumbered in let was = is.numbered in omega arith);
-    shape = shape;
-    number = ap (λ (e : Entry). e.number) change.token;
-    others = λ others was. subst (λ (h : HandView). AreHeldBeside others new h.tickets h.tokens) (sym hand)
-        (token_spent new k x.hand.tickets x.hand.tokens (held_token old new x.hand.tickets x.hand.tokens was unchanged k (λ w. w.node n) (n, token, λ w. refl) change));
-    free = free;
-    geometry = geometry;
-  }
-
-pub trimmed_there : {B L : Type 0} {others : Others} (old new : FileState B L) (x : Area) (k : Entry) → InHand others old x → (n : TreeNode) → n.token ≡ k
-    → MarksNode unchanged old new (λ w. w.node n) nothing → 0 < times same_entry k x.hand.tokens
-trimmed_there old new x k was n token change =
-    token_there new k x.hand.tickets x.hand.tokens (held_token old new x.hand.tickets x.hand.tokens was unchanged k (λ w. w.node n) (n, token, λ w. refl) change)
 
 -- a token came and went again
 pub serves_back : {B L : Type 0} (f : FileState B L) (x y z : Area) (k : Entry) → IsStored f → y.hand ≡ with_token k x.hand → z.hand ≡ less_token k y.hand

@@ -16,11 +16,10 @@ use Rattle.books.specs.Accounts.{HandView}
 use Rattle.books.specs.declared.claim.Entry.{Entry}
 use Rattle.books.proofs.Steps.{without_entry_first}
 use Rattle.tickets.specs.Placed.{Placed}
-use Rattle.tree.specs.Change.{of_tickets, of_tokens}
+use Rattle.tree.specs.Change.{of_tickets, of_tokens, unnumbered}
 use Rattle.nodes.specs.declared.file.FileState.{FileState}
 use Rattle.nodes.specs.File.{IsFile, IsBare, ticket_at, content_of, blocks_below, weight_of, file_of}
 use Rattle.nodes.proofs.Files.{shows_file_of}
-use Rattle.nodes.specs.Owners.{unnumbered}
 use Rattle.nodes.proofs.Held.{bare_weighs}
 use Rattle.nodes.specs.Held.{Others}
 use Rattle.area.specs.Area.{Area}

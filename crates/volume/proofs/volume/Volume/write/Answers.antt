@@ -1,6 +1,7 @@
 use Rattle.std.proofs.Common.{◌-◌, ap, sym, ◌∙◌}
 use Rattle.geometry.specs.Area.{meta_bytes}
 use Rattle.geometry.specs.File.{written}
+use Rattle.nodes.specs.File.{file_of}
 use Rattle.nodes.proofs.Results.{on_ok, on_err}
 use Rattle.volume.specs.Volume.{Volume}
 use Rattle.volume.proofs.Laws.{rest, in_hand, served-law, place_of, file_changed, file_kept}
@@ -65,5 +66,5 @@ returns-clause-err g c =
     let geometry = done.serves.geometry ∙ ap (λ (x : Volume). x.geometry) c.self.view_is in
     let meta = ap (λ (x : Volume). x.meta) c.self.view_is in
     on_err c.write_block.result done.err (λ same i.
-    let kept = file_kept c.args.self.now files c.args.pass.now k seen at f low is c.write_block.new.file same in
+    let kept = file_kept c.args.self.now files c.args.pass.now k seen at f low is c.write_block.new.file (ap file_of same) in
     record { geometry = geometry i; meta = meta i; files = kept i })

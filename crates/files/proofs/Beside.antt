@@ -1,0 +1,134 @@
+-- What a call on one file does, where spare nodes are beside it.
+use Rattle.std.proofs.Common.{◌≡◌, ℕ, ◌+◌, ◌<◌, ◌≤◌, ◌∷◌, refl, sym, ap, subst, ◌∙◌, arith}
+use Rattle.sums.specs.Weights.{weigh}
+use Rattle.geometry.specs.declared.geometry.Geometry.{Geometry}
+use Rattle.geometry.specs.Path.{node_entries}
+use Rattle.books.specs.Accounts.{HandView}
+use Rattle.books.specs.declared.claim.Entry.{Entry}
+use Rattle.tree.specs.Tree.{Same}
+use Rattle.tree.specs.Change.{TreeNode, nothing, unnumbered}
+use Rattle.nodes.specs.declared.file.FileState.{FileState}
+use Rattle.nodes.specs.declared.spare.SparePath.{SparePath}
+use Rattle.nodes.specs.File.{IsFile, ticket_at}
+use Rattle.nodes.specs.Lacking.{spare_tokens, AreEmptyNodes}
+use Rattle.nodes.specs.Marks.{MarksNode, unchanged}
+use Rattle.nodes.specs.Held.{Others, AreHeldBeside}
+use Rattle.nodes.proofs.Held.{weigh_tickets, weigh_tokens}
+use Rattle.area.specs.Area.{Area, KeepsFree}
+use Rattle.files.specs.Contents.{IsStored, InHand, Serves}
+use Rattle.files.specs.Beside.{IsSpareFor, with_spares, ServesBeside}
+use Rattle.files.proofs.Serving.{with_token, has_number, stored_same}
+
+module _ {B L : Type 0} where
+  pub beside_not : (f : FileState B L) (s : SparePath B L) (x : Area) → IsStored f → IsSpareFor f s → ServesBeside f f s s x x
+  beside_not f s x is spare = record {
+    stored = is;
+    spare = spare;
+    shape = refl;
+    number = refl;
+    others = λ others was. was;
+    free = λ n low was. was;
+    geometry = refl;
+  }
+
+  pub beside_both : (f g h : FileState B L) (s t u : SparePath B L) (x y z : Area) → ServesBeside f g s t x y → ServesBeside g h t u y z → ServesBeside f h s u x z
+  beside_both f g h s t u x y z one two = record {
+    stored = two.stored;
+    spare = two.spare;
+    shape = two.shape ∙ one.shape;
+    number = two.number ∙ one.number;
+    others = λ others was. two.others others (one.others others was);
+    free = λ n low was. two.free n (let same = ap (λ (v : Geometry). v.files) one.geometry in omega arith) (one.free n low was);
+    geometry = two.geometry ∙ one.geometry;
+  }
+
+  pub spare_of : (f g : FileState B L) (s : SparePath B L) → g.shape ≡ f.shape → IsSpareFor f s → IsSpareFor g s
+  spare_of f g s shape spare = record { empty = subst (λ n. AreEmptyNodes n s) (ap node_entries (sym shape)) spare.empty; numbered = spare.numbered }
+
+  -- a call that does nothing to the spare nodes
+  pub beside_serves : (f g : FileState B L) (s : SparePath B L) (x y : Area) → IsSpareFor f s → Serves f g x y → ServesBeside f g s s x y
+  beside_serves f g s x y spare serves = record {
+    stored = serves.stored;
+    spare = spare_of f g s serves.shape spare;
+    shape = serves.shape;
+    number = serves.number;
+    others = λ others was. serves.others (with_spares s others) was;
+    free = serves.free;
+    geometry = serves.geometry;
+  }
+
+-- a spare node is made
+module _ {B L : Type 0} (f : FileState B L) (s t : SparePath B L) (x y : Area) (k : Entry) (is : IsStored f) (spare : IsSpareFor f s) where
+  pub beside_made : y.hand ≡ with_token k x.hand → 0 < k.number → AreEmptyNodes (node_entries f.shape) t → ((h : Entry → ℕ) → spare_tokens h t ≡ spare_tokens h s + h k)
+      → KeepsFree x.geometry.files x.numbers.taken y.numbers.taken → y.geometry ≡ x.geometry → ServesBeside f f s t x y
+  beside_made hand some empty tokens free geometry = record {
+    stored = is;
+    spare = record {
+      empty = empty;
+      numbered = let all = tokens unnumbered in let was = spare.numbered in let none = has_number k some in omega arith;
+    };
+    shape = refl;
+    number = refl;
+    others = λ others was. subst (λ (h : HandView). AreHeldBeside (with_spares t others) f h.tickets h.tokens) (sym hand) (record {
+      tickets = was.tickets;
+      tokens = λ h. (let all = was.tokens h in let more = tokens h in omega arith);
+    });
+    free = free;
+    geometry = geometry;
+  }
+
+-- a spare node comes into the file
+module _ {B L : Type 0} (old new : FileState B L) (s t : SparePath B L) where
+  pub spare_planted : IsSpareFor old s → new.shape ≡ old.shape → AreEmptyNodes (node_entries old.shape) t → (n : TreeNode)
+      → ((h : Entry → ℕ) → spare_tokens h t + h n.token ≡ spare_tokens h s) → IsSpareFor new t
+  spare_planted spare shape empty n tokens = record {
+    empty = subst (λ e. AreEmptyNodes e t) (ap node_entries (sym shape)) empty;
+    numbered = let more = tokens unnumbered in let none = spare.numbered in omega arith;
+  }
+
+  pub stored_planted : IsStored old → IsSpareFor old s → IsFile new → new.shape ≡ old.shape → new.kind ≡ old.kind → new.length ≡ old.length → Same (ticket_at old) (ticket_at new)
+      → (n : TreeNode) → MarksNode unchanged old new nothing (λ w. w.node n) → ((h : Entry → ℕ) → spare_tokens h t + h n.token ≡ spare_tokens h s) → IsStored new
+  stored_planted is spare now shape kind length same n change tokens = stored_same old new is now shape kind length same
+      (let all = weigh_tickets unchanged old new nothing (λ w. w.node n) change (λ m. 1) in omega arith)
+      (let all = weigh_tokens unchanged old new nothing (λ w. w.node n) change unnumbered in
+      let was = is.numbered in
+      let more = tokens unnumbered in
+      let none = spare.numbered in omega arith)
+
+  pub beside_planted : (x : Area) → IsStored old → IsSpareFor old s → IsFile new → new.shape ≡ old.shape → new.kind ≡ old.kind → new.length ≡ old.length
+      → Same (ticket_at old) (ticket_at new) → AreEmptyNodes (node_entries old.shape) t → (n : TreeNode) → MarksNode unchanged old new nothing (λ w. w.node n)
+      → ((h : Entry → ℕ) → spare_tokens h t + h n.token ≡ spare_tokens h s) → ServesBeside old new s t x x
+  beside_planted x is spare now shape kind length same empty n change tokens = record {
+    stored = stored_planted is spare now shape kind length same n change tokens;
+    spare = spare_planted spare shape empty n tokens;
+    shape = shape;
+    number = ap (λ (e : Entry). e.number) change.token;
+    others = λ others was. record {
+      tickets = λ h. (let all = weigh_tickets unchanged old new nothing (λ w. w.node n) change h in let held = was.tickets h in omega arith);
+      tokens = λ h. (let all = weigh_tokens unchanged old new nothing (λ w. w.node n) change h in let held = was.tokens h in let more = tokens h in omega arith);
+    };
+    free = λ n low was. was;
+    geometry = refl;
+  }
+
+-- what is left of the spare nodes is given back
+module _ {B L : Type 0} (old new : FileState B L) (s t : SparePath B L) (x y : Area) (none : (h : Entry → ℕ) → spare_tokens h s ≡ 0) (serves : ServesBeside old new s t x y) where
+  with_none : (others : Others) → InHand others old x → InHand (with_spares s others) old x
+  with_none others was = record { tickets = was.tickets; tokens = λ h. (let all = was.tokens h in let no = none h in omega arith) }
+
+  pub spares_there : (others : Others) → InHand others old x → (h : Entry → ℕ) → spare_tokens h t ≤ weigh h y.hand.tokens
+  spares_there others was h = let held = (serves.others others (with_none others was)).tokens h in omega arith
+
+  pub serves_beside : (z : Area) → ((h : Entry → ℕ) → weigh h z.hand.tokens + spare_tokens h t ≡ weigh h y.hand.tokens) → z.hand.tickets ≡ y.hand.tickets
+      → KeepsFree y.geometry.files y.numbers.taken z.numbers.taken → z.geometry ≡ y.geometry → Serves old new x z
+  serves_beside z tokens tickets free geometry = record {
+    stored = serves.stored;
+    shape = serves.shape;
+    number = serves.number;
+    others = λ others was. (let held = serves.others others (with_none others was) in record {
+      tickets = λ h. (let all = held.tickets h in let same = ap (weigh h) tickets in omega arith);
+      tokens = λ h. (let all = held.tokens h in let less = tokens h in omega arith);
+    });
+    free = λ n low was. free n (let same = ap (λ (v : Geometry). v.files) serves.geometry in omega arith) (serves.free n low was);
+    geometry = geometry ∙ serves.geometry;
+  }
