@@ -12,11 +12,12 @@ use Rattle.nodes.specs.declared.spare.SparePath.{SparePath}
 use Rattle.nodes.specs.File.{IsFile, ticket_at}
 use Rattle.nodes.specs.Lacking.{spare_tokens, AreEmptyNodes}
 use Rattle.nodes.specs.Marks.{MarksNode, unchanged}
-use Rattle.nodes.specs.Held.{Others, AreHeldBeside}
+use Rattle.nodes.specs.Held.{Others, with_spares, AreHeldBeside}
+use Rattle.nodes.proofs.Beside.{held_none, held_all, held_made, held_planted}
 use Rattle.nodes.proofs.Held.{weigh_tickets, weigh_tokens}
 use Rattle.area.specs.Area.{Area, KeepsFree}
 use Rattle.files.specs.Contents.{IsStored, InHand, Serves}
-use Rattle.files.specs.Beside.{IsSpareFor, with_spares, ServesBeside}
+use Rattle.files.specs.Beside.{IsSpareFor, ServesBeside}
 use Rattle.files.proofs.Serving.{with_token, has_number, stored_same}
 
 module _ {B L : Type 0} where
@@ -69,10 +70,8 @@ module _ {B L : Type 0} (f : FileState B L) (s t : SparePath B L) (x y : Area) (
     };
     shape = refl;
     number = refl;
-    others = λ others was. subst (λ (h : HandView). AreHeldBeside (with_spares t others) f h.tickets h.tokens) (sym hand) (record {
-      tickets = was.tickets;
-      tokens = λ h. (let all = was.tokens h in let more = tokens h in omega arith);
-    });
+    others = λ others was. subst (λ (h : HandView). AreHeldBeside (with_spares t others) f h.tickets h.tokens) (sym hand)
+        (held_made others f s x.hand.tickets x.hand.tokens was t k tokens);
     free = free;
     geometry = geometry;
   }
@@ -103,10 +102,7 @@ module _ {B L : Type 0} (old new : FileState B L) (s t : SparePath B L) where
     spare = spare_planted spare shape empty n tokens;
     shape = shape;
     number = ap (λ (e : Entry). e.number) change.token;
-    others = λ others was. record {
-      tickets = λ h. (let all = weigh_tickets unchanged old new nothing (λ w. w.node n) change h in let held = was.tickets h in omega arith);
-      tokens = λ h. (let all = weigh_tokens unchanged old new nothing (λ w. w.node n) change h in let held = was.tokens h in let more = tokens h in omega arith);
-    };
+    others = λ others was. held_planted others old s x.hand.tickets x.hand.tokens was new t n change tokens;
     free = λ n low was. was;
     geometry = refl;
   }
@@ -114,10 +110,10 @@ module _ {B L : Type 0} (old new : FileState B L) (s t : SparePath B L) where
 -- what is left of the spare nodes is given back
 module _ {B L : Type 0} (old new : FileState B L) (s t : SparePath B L) (x y : Area) (none : (h : Entry → ℕ) → spare_tokens h s ≡ 0) (serves : ServesBeside old new s t x y) where
   with_none : (others : Others) → InHand others old x → InHand (with_spares s others) old x
-  with_none others was = record { tickets = was.tickets; tokens = λ h. (let all = was.tokens h in let no = none h in omega arith) }
+  with_none others was = held_none others old s x.hand.tickets x.hand.tokens none was
 
   pub spares_there : (others : Others) → InHand others old x → (h : Entry → ℕ) → spare_tokens h t ≤ weigh h y.hand.tokens
-  spares_there others was h = let held = (serves.others others (with_none others was)).tokens h in omega arith
+  spares_there others was = held_all others new t y.hand.tickets y.hand.tokens (serves.others others (with_none others was))
 
   pub serves_beside : (z : Area) → ((h : Entry → ℕ) → weigh h z.hand.tokens + spare_tokens h t ≡ weigh h y.hand.tokens) → z.hand.tickets ≡ y.hand.tickets
       → KeepsFree y.geometry.files y.numbers.taken z.numbers.taken → z.geometry ≡ y.geometry → Serves old new x z

@@ -30,7 +30,7 @@ use Rattle.nodes.specs.Owners.{HasNumbers}
 use Rattle.nodes.specs.Held.{Others, AreHeldBeside}
 use Rattle.nodes.proofs.Shown.{same_shows, got, kept}
 use Rattle.nodes.proofs.Files.{shows_file_of, only_file}
-use Rattle.nodes.proofs.Held.{weigh_tickets, weigh_tokens, HasTicket, HasToken, held_grown, held_put, held_over, held_ticket, held_token, held_same, ticket_there, ticket_spent, token_there, token_spent}
+use Rattle.nodes.proofs.Held.{weigh_tickets, weigh_tokens, HasTicket, HasToken, held_put, held_over, held_ticket, held_token, held_same, ticket_there, ticket_spent, token_there, token_spent}
 use Rattle.nat.specs.Taken.{IsFree}
 use Rattle.nat.specs.Table.{TableNodes}
 use Rattle.area.specs.Area.{Area, KeepsFree}

@@ -1,11 +1,11 @@
 -- A call that works on a file with spare nodes beside it: what is in hand is the file's, the spare nodes' and others'.
-use Rattle.std.specs.Prelude.{◌≡◌, ℕ, ◌+◌}
+use Rattle.std.specs.Prelude.{◌≡◌}
 use Rattle.geometry.specs.Path.{node_entries}
 use Rattle.tree.specs.Change.{unnumbered}
 use Rattle.nodes.specs.declared.file.FileState.{FileState}
 use Rattle.nodes.specs.declared.spare.SparePath.{SparePath}
 use Rattle.nodes.specs.Lacking.{spare_tokens, AreEmptyNodes}
-use Rattle.nodes.specs.Held.{Others}
+use Rattle.nodes.specs.Held.{Others, with_spares}
 use Rattle.area.specs.Area.{Area, KeepsFree}
 use Rattle.files.specs.Contents.{IsStored, InHand}
 
@@ -13,10 +13,6 @@ use Rattle.files.specs.Contents.{IsStored, InHand}
 pub record IsSpareFor {B L : Type 0} (f : FileState B L) (spares : SparePath B L) : Type 0 where
   pub empty : AreEmptyNodes (node_entries f.shape) spares
   pub numbered : spare_tokens unnumbered spares ≡ 0
-
--- others, and the spare nodes with them
-abbrev pub with_spares : {B L : Type 0} → SparePath B L → Others → Others
-with_spares spares others = record others { tokens = λ h. others.tokens h + spare_tokens h spares }
 
 -- A call worked on one file: it is stored as before, what others have is still in hand, and no free inode number was taken.
 pub record ServesBeside {B L : Type 0} (old new : FileState B L) (had has : SparePath B L) (before after : Area) : Type 0 where

@@ -5,10 +5,10 @@ ghost use Rattle.geometry.specs.File.{written};
 ghost use Rattle.geometry.specs.Path.{largest_length};
 ghost use Rattle.geometry.specs.Shape.{block_bytes};
 ghost use Rattle.nodes.specs.File.{file_of};
-ghost use Rattle.nodes.specs.Held.{Others};
+ghost use Rattle.nodes.specs.Held.{Others, with_spares};
 ghost use Rattle.nodes.specs.Lacking.{lacking_to};
 ghost use Rattle.files.specs.Contents.{IsStored, InHand, Serves};
-ghost use Rattle.files.specs.Beside.{IsSpareFor, with_spares, ServesBeside};
+ghost use Rattle.files.specs.Beside.{IsSpareFor, ServesBeside};
 
 use crate::path::{give_back, plant_path, prepare_path};
 use area::MainArea;

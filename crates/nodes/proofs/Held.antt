@@ -69,12 +69,6 @@ module _ {B L : Type 0} {others : Others} (f : FileState B L) (k : Entry) (marks
   }
 
 module _ {B L : Type 0} {others : Others} (old new : FileState B L) (marks : List Mark) (entries : List Entry) (held : AreHeldBeside others old marks entries) where
-  pub held_grown : (resized : TreeNode → TreeNode) (n : TreeNode) (k : Entry) → n.token ≡ k → MarksNode resized old new nothing (λ w. w.node n) → AreHeldBeside others new marks (k ∷ entries)
-  held_grown resized n k is change = record {
-    tickets = λ h. (let all = weigh_tickets resized old new nothing (λ w. w.node n) change h in let was = held.tickets h in omega arith);
-    tokens = λ h. (let all = weigh_tokens resized old new nothing (λ w. w.node n) change h in let was = held.tokens h in let same = ap h is in omega arith);
-  }
-
   pub held_put : (resized : TreeNode → TreeNode) (t : Placed) → MarksNode resized old new (λ w. ticket_weight w None) (λ w. w.ticket t) → AreHeldBeside others new (t.mark ∷ marks) entries
   held_put resized t change = record {
     tickets = λ h. (let all = weigh_tickets resized old new (λ w. ticket_weight w None) (λ w. w.ticket t) change h in let was = held.tickets h in omega arith);

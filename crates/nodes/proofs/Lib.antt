@@ -7,6 +7,7 @@ pub mod Ranges
 pub mod Results
 pub mod Shown
 pub mod Held
+pub mod Beside
 pub mod Files
 pub mod Owners
 pub mod Numbered

@@ -5,7 +5,9 @@ use Rattle.geometry.specs.declared.owner.Mark.{Mark}
 use Rattle.books.specs.declared.claim.Entry.{Entry}
 use Rattle.tree.specs.Change.{of_tickets, of_tokens}
 use Rattle.nodes.specs.declared.file.FileState.{FileState}
+use Rattle.nodes.specs.declared.spare.SparePath.{SparePath}
 use Rattle.nodes.specs.File.{weight_of}
+use Rattle.nodes.specs.Lacking.{spare_tokens}
 
 -- what others have beside a file
 pub record Others : Type 0 where
@@ -14,6 +16,10 @@ pub record Others : Type 0 where
 
 abbrev pub no_others : Others
 no_others = record { tickets = λ h. 0; tokens = λ h. 0 }
+
+-- others, and the spare nodes of a path with them
+abbrev pub with_spares : {B L : Type 0} → SparePath B L → Others → Others
+with_spares spares others = record others { tokens = λ h. others.tokens h + spare_tokens h spares }
 
 -- these are the marks of the file's tickets and the entries of its tokens, each as often, and what others have
 pub record AreHeldBeside {B L : Type 0} (others : Others) (f : FileState B L) (marks : List Mark) (entries : List Entry) : Type 0 where

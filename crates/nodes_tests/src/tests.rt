@@ -1,17 +1,20 @@
 //! A file of all depths, with tickets and tokens of the books.
-ghost use Rattle.std.specs.Prelude.{◌≡◌, ◌+◌, ◌<◌, ◌%◌};
+ghost use Rattle.std.specs.Prelude.{◌≡◌, ◌+◌, ◌<◌, ◌%◌, List};
+ghost use Rattle.geometry.specs.declared.owner.Mark.{Mark as MarkOf};
 ghost use Rattle.geometry.specs.declared.shape.Shape.TheVariants.{Tiny};
 ghost use Rattle.geometry.specs.Mark.{same_mark};
-ghost use Rattle.geometry.specs.Path.{largest_length};
+ghost use Rattle.geometry.specs.Path.{node_entries, largest_length};
+ghost use Rattle.books.specs.declared.claim.Entry.{Entry};
 ghost use Rattle.books.specs.Lists.{times, without};
 ghost use Rattle.books.specs.Sameness.{same_entry};
 ghost use Rattle.nodes.specs.File.{IsFile, IsBare, missing_to};
-ghost use Rattle.nodes.specs.Held.{AreHeld};
+ghost use Rattle.nodes.specs.Held.{AreHeld, AreHeldBeside, with_spares, no_others};
+ghost use Rattle.nodes.specs.Lacking.{lacking_to, AreEmptyNodes};
 
 use books::{Books, Layout, Permit, SegmentAccount, ShardAccount};
 use device::MemBlock;
 use geometry::{Kind, Mark, Owner, Shape};
-use nodes::{FileState, Spare};
+use nodes::{FileState, Spare, SparePath};
 use std::alloc::Global;
 use std::process::Abort;
 use std::test::*;
@@ -70,7 +73,88 @@ fn give(
     }
 }
 
-// Grows the nodes that are missing, and takes a number for each.
+// Makes the nodes that are missing, takes a number for each, and tells how many.
+fn prepare(
+    rt: &impl Abort,
+    alloc: Global,
+    books: &Books,
+    shard: &mut ShardAccount,
+    permit: &mut Permit,
+    file: &FileState<MemBlock>,
+    spares: &mut SparePath<MemBlock>,
+    index: u32,
+) -> u32
+    requires books { (shard.old.book ≡ books.now.book) × (permit.old.book ≡ books.now.book) }
+    requires shard { shard.old.shard ≡ 0 }
+    requires inside { index < largest_length file.now.shape }
+    requires file { IsFile file.now }
+    requires empty { AreEmptyNodes (node_entries file.now.shape) spares.old }
+    requires held { AreHeldBeside (with_spares spares.old no_others) file.now permit.old.tickets permit.old.tokens }
+    ensures books { (shard.new.book ≡ books.now.book) × (permit.new.book ≡ books.now.book) }
+    ensures shard { shard.new.shard ≡ 0 }
+    ensures ready { lacking_to file.now index spares.new ≡ 0 }
+    ensures empty { AreEmptyNodes (node_entries file.now.shape) spares.new }
+    ensures held { AreHeldBeside (with_spares spares.new no_others) file.now permit.new.tickets permit.new.tokens }
+{
+    let mut made = 0u32;
+    'lacking: while !file.is_ready(index, spares) {
+        let token = books.take(shard, permit, 32, 16);
+        match file.prepare(alloc, index, spares, token) {
+            Ok(()) => made = made.wrapping_add(1),
+            Err(_token) => panic!(rt; "memory"),
+        }
+    }
+    made
+}
+
+// Puts the nodes that are missing into the file, and tells how many.
+fn plant(file: &mut FileState<MemBlock>, spares: &mut SparePath<MemBlock>, index: u32) -> u32
+    requires inside { index < largest_length file.old.shape }
+    requires file { IsFile file.old }
+    requires ready { lacking_to file.old index spares.old ≡ 0 }
+    requires empty { AreEmptyNodes (node_entries file.old.shape) spares.old }
+    ensures path { missing_to file.new index ≡ 0 }
+    ensures shape { file.new.shape ≡ file.old.shape }
+    ensures file { IsFile file.new }
+    ensures empty { AreEmptyNodes (node_entries file.old.shape) spares.new }
+    ensures held { (marks : List MarkOf) (entries : List Entry) → AreHeldBeside (with_spares spares.old no_others) file.old marks entries
+        → AreHeldBeside (with_spares spares.new no_others) file.new marks entries }
+{
+    let mut planted = 0u32;
+    'ready: while file.plant(index, spares) {
+        planted = planted.wrapping_add(1);
+    }
+    planted
+}
+
+// Gives back the numbers of the spare nodes that are left, and tells how many.
+fn give_all(
+    rt: &impl Abort,
+    books: &Books,
+    shard: &mut ShardAccount,
+    permit: &mut Permit,
+    file: &FileState<MemBlock>,
+    spares: SparePath<MemBlock>,
+) -> u32
+    requires books { (shard.old.book ≡ books.now.book) × (permit.old.book ≡ books.now.book) }
+    requires shard { shard.old.shard ≡ 0 }
+    requires empty { AreEmptyNodes (node_entries file.now.shape) spares }
+    requires held { AreHeldBeside (with_spares spares no_others) file.now permit.old.tickets permit.old.tokens }
+    ensures books { (shard.new.book ≡ books.now.book) × (permit.new.book ≡ books.now.book) }
+    ensures shard { shard.new.shard ≡ 0 }
+    ensures held { AreHeld file.now permit.new.tickets permit.new.tokens }
+{
+    let mut spares = spares;
+    let mut given = 0u32;
+    'spares: while let Some(token) = spares.give_back() {
+        give(rt, books, shard, permit, token);
+        given = given.wrapping_add(1);
+    }
+    spares.end();
+    given
+}
+
+// Makes and plants the nodes that are missing, and tells how many; none is left over.
 fn grow(
     rt: &impl Abort,
     alloc: Global,
@@ -92,15 +176,40 @@ fn grow(
     ensures file { IsFile file.new }
     ensures held { AreHeld file.new permit.new.tickets permit.new.tokens }
 {
-    let mut grown = 0u32;
-    'missing: while !file.has_path(index) {
-        let token = books.take(shard, permit, 32, 16);
-        match file.grow(alloc, index, token) {
-            Ok(()) => grown = grown.wrapping_add(1),
-            Err(_token) => panic!(rt; "memory"),
-        }
-    }
-    grown
+    let mut spares = SparePath::new();
+    let made = prepare(rt, alloc, books, shard, permit, file, &mut spares, index);
+    let planted = plant(file, &mut spares, index);
+    assert_eq!(rt; made, planted);
+    let left = give_all(rt, books, shard, permit, file, spares);
+    assert_eq!(rt; left, 0);
+    planted
+}
+
+// Makes the nodes that are missing and gives them back; tells how many, and who would name a block there.
+fn refuse(
+    rt: &impl Abort,
+    alloc: Global,
+    books: &Books,
+    shard: &mut ShardAccount,
+    permit: &mut Permit,
+    file: &FileState<MemBlock>,
+    index: u32,
+) -> (u32, Owner)
+    requires books { (shard.old.book ≡ books.now.book) × (permit.old.book ≡ books.now.book) }
+    requires shard { shard.old.shard ≡ 0 }
+    requires inside { index < largest_length file.now.shape }
+    requires file { IsFile file.now }
+    requires held { AreHeld file.now permit.old.tickets permit.old.tokens }
+    ensures books { (shard.new.book ≡ books.now.book) × (permit.new.book ≡ books.now.book) }
+    ensures shard { shard.new.shard ≡ 0 }
+    ensures held { AreHeld file.now permit.new.tickets permit.new.tokens }
+{
+    let mut spares = SparePath::new();
+    let made = prepare(rt, alloc, books, shard, permit, file, &mut spares, index);
+    let owner = file.owner_with(index, &spares);
+    let given = give_all(rt, books, shard, permit, file, spares);
+    assert_eq!(rt; made, given);
+    (given, owner)
 }
 
 // Puts a block at an index.
@@ -175,34 +284,6 @@ fn cut_all(
         }
     }
     (tickets, tokens)
-}
-
-// Gives back the nodes on the way to an index that name nothing, and tells how many.
-fn trim_all(
-    rt: &impl Abort,
-    books: &Books,
-    shard: &mut ShardAccount,
-    permit: &mut Permit,
-    file: &mut FileState<MemBlock>,
-    index: u32,
-) -> u32
-    requires books { (shard.old.book ≡ books.now.book) × (permit.old.book ≡ books.now.book) }
-    requires shard { shard.old.shard ≡ 0 }
-    requires inside { index < largest_length file.old.shape }
-    requires file { IsFile file.old }
-    requires held { AreHeld file.old permit.old.tickets permit.old.tokens }
-    ensures books { (shard.new.book ≡ books.now.book) × (permit.new.book ≡ books.now.book) }
-    ensures shard { shard.new.shard ≡ 0 }
-    ensures shape { file.new.shape ≡ file.old.shape }
-    ensures file { IsFile file.new }
-    ensures held { AreHeld file.new permit.new.tickets permit.new.tokens }
-{
-    let mut tokens = 0u32;
-    'empty: while let Some(token) = file.trim(index) {
-        give(rt, books, shard, permit, token);
-        tokens = tokens.wrapping_add(1);
-    }
-    tokens
 }
 
 // Books with one segment, one shard and one file.
@@ -321,9 +402,9 @@ fn a_file_of_all_depths(rt: HostRuntime) {
     assert_eq!(rt; spent, (7, 11));
 }
 
-// The nodes that a refused write grew are given back, and no other is.
+// The nodes that a refused write made are given back, and the file has no mark of them.
 #[test]
-fn grown_nodes_are_trimmed(rt: HostRuntime) {
+fn spare_nodes_leave_no_mark(rt: HostRuntime) {
     let Opened {
         books,
         mut segment,
@@ -350,18 +431,19 @@ fn grown_nodes_are_trimmed(rt: HostRuntime) {
         &mut file,
         223,
     );
-    let grown = grow(
+    marks::clean(&rt, rt.alloc(), &mut file);
+    let refused = refuse(
         &rt,
         rt.alloc(),
         &books,
         &mut shard,
         &mut permit,
-        &mut file,
+        &file,
         1222,
     );
-    assert_eq!(rt; grown, 2);
-    let trimmed = trim_all(&rt, &books, &mut shard, &mut permit, &mut file, 1222);
-    assert_eq!(rt; trimmed, 2);
+    assert!(rt; refused == (2, Owner::Data(32, 9)));
+    assert!(rt; !file.dirty());
+    assert!(rt; !file.has_path(1222));
     assert_eq!(rt; file.slot(223), 233);
     let spent = delete(&rt, &books, &mut segment, &mut shard, &mut permit, file);
     assert_eq!(rt; spent, (1, 3));

@@ -9,9 +9,12 @@ ghost use Rattle.nodes.specs.Held.{AreHeld};
 
 use super::{Opened, delete, open_file, write, write_all};
 use device::MemBlock;
+use file_flush::flush_next;
 use flush::{NodeBlock, NodeWriter};
 use geometry::{Class, Error, Kind, Shape};
 use nodes::FileState;
+use std::alloc::Global;
+use std::process::Abort;
 use std::test::*;
 use tickets::NidToken;
 
@@ -55,8 +58,24 @@ fn flush_all(file: &mut FileState<MemBlock>, recorder: &mut Recorder) -> Result<
     ensures held { (marks : List MarkOf) (entries : List Entry) → AreHeld file.old marks entries → AreHeld file.new marks entries }
 {
     let mut numbers = [0u32; 10];
-    'marked: while file.flush_next(&mut numbers, recorder)? {}
+    'marked: while flush_next(file, &mut numbers, recorder)? {}
     Ok(())
+}
+
+// Writes all marked nodes.
+pub(super) fn clean(rt: &impl Abort, alloc: Global, file: &mut FileState<MemBlock>)
+    requires shape { file.old.shape ≡ Tiny }
+    requires file { IsFile file.old }
+    ensures shape { file.new.shape ≡ file.old.shape }
+    ensures file { IsFile file.new }
+    ensures held { (marks : List MarkOf) (entries : List Entry) → AreHeld file.old marks entries → AreHeld file.new marks entries }
+{
+    let mut recorder = Recorder {
+        lent: Vec::new(alloc),
+        refused: None,
+    };
+    assert!(rt; flush_all(file, &mut recorder) == Ok(()));
+    assert!(rt; !file.dirty());
 }
 
 // Parents are lent before what they name, the five pointers of the inode in their order, and no node twice. A node that is
