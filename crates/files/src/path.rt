@@ -46,11 +46,7 @@ pub(crate) fn prepare_path<B: Block + Drop>(
 }
 
 // Puts the nodes that are missing on the way to the index into the file, which holds what it held.
-pub(crate) fn plant_path<B: Block>(
-    file: &mut FileState<B>,
-    spares: &mut SparePath<B>,
-    index: u32,
-)
+pub(crate) fn plant_path<B: Block>(file: &mut FileState<B>, spares: &mut SparePath<B>, index: u32)
     requires inside { index < largest_length file.old.shape }
     requires stored { IsStored file.old }
     requires spare { IsSpareFor file.old spares.old }

@@ -1,5 +1,5 @@
 //! Which node names the block at an index.
-ghost use Rattle.std.specs.Prelude.{◌≡◌, ◌<◌, Option, Some, IsSome, MatchOption};
+ghost use Rattle.std.specs.Prelude.{◌≡◌, ◌<◌, Option, IsSome, MatchOption};
 ghost use Rattle.geometry.specs.declared.owner.Owner.TheVariants.{Data};
 ghost use Rattle.geometry.specs.Owner.{IsOwner};
 ghost use Rattle.geometry.specs.Path.{path, largest_length};
@@ -31,23 +31,20 @@ impl<B: Block> FileState<B> {
         self.at_end(path(self.shape, u64::from(index)))
     }
 
-    /// Who will name a block at the index, once the spare nodes stand on the way to it: as `owner`, or where a node is missing,
-    /// the spare one at the end of the way.
+    /// Who will name a block at the index, once the spare nodes stand on the way to it: as `owner`, or where the node at the
+    /// end of the way is missing, the spare one.
     pub fn owner_with(&self, index: u32, spares: &SparePath<B>) -> Owner
         requires inside { index < largest_length self.now.shape }
         requires file { IsFile self.now }
         requires ready { lacking_to self.now index spares.now ≡ 0 }
-        ensures there { missing_to self.now index ≡ 0 → Some result ≡ owner_at self.now (path self.now.shape index) }
-        ensures spare { 0 < missing_to self.now index → result ≡ Data (end_number spares.now) (last_entry (path self.now.shape index)) }
+        ensures owner { MatchOption (owner_at self.now (path self.now.shape index))
+            (result ≡ Data (end_number spares.now) (last_entry (path self.now.shape index))) (λ owner. result ≡ owner) }
         ensures numbered { HasNumbers self.now → spare_tokens unnumbered spares.now ≡ 0 → IsOwner result }
     {
-        if !self.has_path(index) {
-            let path = path(self.shape, u64::from(index));
-            return Owner::Data(spares.end_number(), last_entry(path));
-        }
-        match self.owner(index) {
+        let path = path(self.shape, u64::from(index));
+        match self.at_end(path) {
             Some(owner) => owner,
-            None => unreachable!(),
+            None => Owner::Data(spares.end_number(), last_entry(path)),
         }
     }
 

@@ -82,7 +82,15 @@ impl<B: Block> FileState<B> {
             return prepare_in(&self.indirect, spares, alloc, 2, entries, index, token);
         }
         let index = index - width;
-        prepare_in(&self.double, &mut spares.nodes, alloc, 1, entries, index, token)
+        prepare_in(
+            &self.double,
+            &mut spares.nodes,
+            alloc,
+            1,
+            entries,
+            index,
+            token,
+        )
     }
 
     /// Puts the first node that is missing on the way to the index into the file, and marks the node that names it. False:
@@ -122,6 +130,12 @@ impl<B: Block> FileState<B> {
             let spares = &mut spares.nodes.below;
             return plant_in(&mut self.indirect, spares, 2, entries, index);
         }
-        plant_in(&mut self.double, &mut spares.nodes, 1, entries, index - width)
+        plant_in(
+            &mut self.double,
+            &mut spares.nodes,
+            1,
+            entries,
+            index - width,
+        )
     }
 }

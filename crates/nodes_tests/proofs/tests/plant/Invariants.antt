@@ -14,7 +14,7 @@ invariant-ready l = record {
   ready : lacking_to l.file l.index l.spares ≡ 0;
   empty : AreEmptyNodes (node_entries l.file.shape) l.spares;
   held : (marks : List Mark) (entries : List Entry) → AreHeldBeside (with_spares l.fn.spares no_others) l.fn.file marks entries
-    → AreHeldBeside (with_spares l.spares no_others) l.file marks entries;
+      → AreHeldBeside (with_spares l.spares no_others) l.file marks entries;
 }
 
 abbrev pub decreases-ready : goal.decreases-ready

@@ -10,8 +10,7 @@ returns-in-Some-clause-change g c =
     let C = g.C.Subtree in
     let old = c.in-Some.branch in
     let new = c.plant_in.new.below in
-    rw c.in-Some.is (λ yes. (let done = c.plant_in.ensures.change yes in
-    (
+    rw c.in-Some.is (λ yes. (let done = c.plant_in.ensures.change yes in (
       done.0,
       done.1,
       (branch_trades C.is_leaf C.number C.weight old.token old.entries.slots.items new.slots.items old.entries.dirty new.dirty nothing (λ w. w.node done.0) done.2, λ no. refl),
