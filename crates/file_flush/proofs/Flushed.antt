@@ -1,13 +1,11 @@
 -- What the books have of a file whose nodes are written.
-use Rattle.std.proofs.Common.{◌≡◌, ℕ, ◌+◌, ◌<◌, ◌≤◌, List, ◌∷◌, if◌then◌else◌, false, ap, arith}
-use Rattle.sums.specs.Weights.{weigh}
+use Rattle.std.proofs.Common.{◌≡◌, ℕ, ◌+◌, ◌<◌, List, ◌∷◌, if◌then◌else◌, ap, arith}
 use Rattle.geometry.specs.declared.owner.Mark.{Mark}
 use Rattle.books.specs.declared.claim.Entry.{Entry}
 use Rattle.books.specs.Lists.{times, without}
 use Rattle.books.specs.Sameness.{same_entry}
 use Rattle.books.proofs.Sameness.{entry_self}
 use Rattle.books.proofs.Steps.{without_entry}
-use Rattle.tickets.specs.Placed.{Placed}
 use Rattle.tree.specs.Change.{TreeNode, Weighing, of_tickets, of_tokens, each_marked}
 use Rattle.flush.specs.Writing.{IsAmong, WritesOne}
 use Rattle.nodes.specs.declared.file.FileState.{FileState}

@@ -1,9 +1,8 @@
 -- A new file: it is stored, and its inode's token is all that it has in hand.
-use Rattle.std.proofs.Common.{◌≡◌, ℕ, ◌<◌, ◌∷◌, [], Some, ap, ◌∙◌, subst, sym, arith}
+use Rattle.std.proofs.Common.{◌≡◌, ◌<◌, ◌∷◌, [], Some, ap, ◌∙◌, arith}
 use Rattle.std.specs.FinMap.{len, len-empty}
 use Rattle.std.specs.Ordering.{nat_cmp}
 use Rattle.geometry.specs.File.{Block}
-use Rattle.books.specs.Accounts.{HandView}
 use Rattle.books.specs.declared.claim.Entry.{Entry}
 use Rattle.tree.specs.Change.{of_tickets, of_tokens, unnumbered}
 use Rattle.nodes.specs.declared.file.FileState.{FileState}

@@ -1,8 +1,8 @@
 -- What a call on one file does to the file and to what is in hand.
-use Rattle.std.proofs.Common.{◌≡◌, ◌≢◌, ℕ, zero, suc, ◌+◌, ◌-◌, ◌<◌, ◌≤◌, max, min, List, [], ◌∷◌, Option, Some, None, true, false, cond, if◌then◌else◌, length, refl, sym, ap, subst, ◌∙◌, inl, inr, ne_eqb, arith}
-use Rattle.std.specs.Prelude.{is_some, nat_lt, ◌==◌}
+use Rattle.std.proofs.Common.{◌≡◌, ℕ, ◌+◌, ◌<◌, max, min, List, ◌∷◌, Option, Some, None, false, cond, if◌then◌else◌, length, refl, sym, ap, subst, ◌∙◌, inl, inr, ne_eqb, arith}
+use Rattle.std.specs.Prelude.{is_some, nat_lt}
 use Rattle.std.proofs.lemmas.Bool.{cases_eq, cases_lt}
-use borrow.Author.Tests.{lt-ltb, le-ltb}
+use borrow.Author.Tests.{le-ltb}
 use Rattle.std.specs.Ordering.{nat_cmp}
 use Rattle.std.proofs.lemmas.Cmp.{nat_cmp_total}
 use Rattle.std.specs.FinMap.{FinMap, get, insert, len, retain_keys, len-insert, get-retain_keys, same_map, nat_cmp-IsAntisymmetric}
@@ -19,10 +19,9 @@ use Rattle.books.specs.Sameness.{same_entry}
 use Rattle.books.proofs.Sameness.{entry_self}
 use Rattle.books.proofs.Steps.{without_entry_first}
 use Rattle.tickets.specs.Placed.{Placed}
-use Rattle.tree.specs.declared.spare.Spare.{Spare}
 use Rattle.tree.specs.declared.spare.Spare.TheVariants.{Ticket, Token}
-use Rattle.tree.specs.Tree.{SetsAt, Same, EmptyFrom, HandsOut}
-use Rattle.tree.specs.Change.{TreeNode, Weighing, WeighsAs, IsNewNode, nothing, ticket_weight, of_tickets, of_tokens, unnumbered}
+use Rattle.tree.specs.Tree.{SetsAt, Same, HandsOut}
+use Rattle.tree.specs.Change.{Weighing, WeighsAs, nothing, ticket_weight, of_tickets, of_tokens, unnumbered}
 use Rattle.nodes.specs.declared.file.FileState.{FileState}
 use Rattle.nodes.specs.File.{IsFile, Shows, ticket_at, content_of, weight_of, below_weight, file_of}
 use Rattle.nodes.specs.Marks.{MarksNode, unchanged, lengthened}
@@ -30,11 +29,11 @@ use Rattle.nodes.specs.Owners.{HasNumbers}
 use Rattle.nodes.specs.Held.{Others, AreHeldBeside}
 use Rattle.nodes.proofs.Shown.{same_shows, got, kept}
 use Rattle.nodes.proofs.Files.{shows_file_of, only_file}
-use Rattle.nodes.proofs.Held.{weigh_tickets, weigh_tokens, HasTicket, HasToken, held_put, held_over, held_ticket, held_token, held_same, ticket_there, ticket_spent, token_there, token_spent}
+use Rattle.nodes.proofs.Held.{weigh_tickets, weigh_tokens, held_put, held_over, held_ticket, held_token, held_same, ticket_there, ticket_spent, token_there, token_spent}
 use Rattle.nat.specs.Taken.{IsFree}
 use Rattle.nat.specs.Table.{TableNodes}
 use Rattle.area.specs.Area.{Area, KeepsFree}
-use Rattle.files.specs.Contents.{AreWhole, IsStored, InHand, Serves}
+use Rattle.files.specs.Contents.{IsStored, InHand, Serves}
 
 -- 1 for each ticket
 abbrev pub each_ticket : Weighing Placed

@@ -1,5 +1,5 @@
 -- A node below one entry is a node below all of them, and one that is written there is written in the whole.
-use Rattle.std.proofs.Common.{◌≡◌, ℕ, ◌+◌, ◌<◌, ◌≤◌, Bool, true, false, List, length, get_or, set, map, Option, None, refl, ap, ◌∙◌, arith}
+use Rattle.std.proofs.Common.{◌≡◌, ℕ, ◌+◌, ◌<◌, Bool, true, List, length, get_or, set, Option, ap, ◌∙◌, arith}
 use Rattle.sums.specs.Weights.{weigh}
 use Rattle.sums.proofs.Weighing.{weigh-at, weigh-set}
 use Rattle.books.specs.declared.claim.Entry.{Entry}

@@ -1,9 +1,9 @@
 -- The nodes that the way to an index lacks.
-use Rattle.std.proofs.Common.{◌≡◌, ℕ, ◌+◌, ◌-◌, ◌*◌, ◌/◌, ◌%◌, ◌^◌, ◌<◌, ◌≤◌, Option, Some, None, true, false, refl, arith, ap, sym, subst, ◌∙◌, inl, inr, lit<}
+use Rattle.std.proofs.Common.{◌≡◌, ℕ, ◌+◌, ◌-◌, ◌*◌, ◌/◌, ◌%◌, ◌^◌, ◌<◌, ◌≤◌, Option, None, true, false, refl, arith, sym, subst, ◌∙◌, inl, inr, lit<}
 use Rattle.std.proofs.lemmas.Bool.{cases_lt}
 use Rattle.std.proofs.lemmas.Nat.{mod_below}
 use Rattle.geometry.specs.declared.path.Path.{Path}
-use Rattle.geometry.specs.Path.{inode_entries, node_entries, largest_length, path}
+use Rattle.geometry.specs.Path.{inode_entries, node_entries, path}
 use Rattle.tickets.specs.Placed.{Placed}
 use Rattle.tree.specs.declared.branch.Branch.{Branch}
 use Rattle.tree.specs.Tree.{missing_in, number_of, entry_at}
@@ -65,52 +65,67 @@ module _ {B L : Type 0} (f : FileState B L) (i : ℕ) where
   abbrev e : ℕ
   e = node_entries f.shape
 
-  -- what the way lacks in the last range
-  pub lacking_fourth : (s : SparePath B L) → d ≤ i → 2 * e ≤ i - d → 2 * (e * e) ≤ i - d - 2 * e
-      → lacking_to f i s ≡ lacking_in (lacking_double e) (e * (e * (e * 1))) f.double.slots.items (i - d - 2 * e - 2 * (e * e)) s.nodes
-  lacking_fourth s h k l =
-      in_fourth d (2 * e) (2 * (e * e)) (λ _. 0) (λ k. lacking_in (lacking_direct e) (e * 1) f.direct.slots.items k s.nodes.below.below)
-      (λ k. lacking_in (lacking_indirect e) (e * (e * 1)) f.indirect.slots.items k s.nodes.below)
-      (λ k. lacking_in (lacking_double e) (e * (e * (e * 1))) f.double.slots.items k s.nodes) i h k l
+  abbrev lacks_direct : SparePath B L → ℕ → ℕ
+  lacks_direct s k = lacking_in (lacking_direct e) (e * 1) f.direct.slots.items k s.nodes.below.below
 
-  pub missing_fourth : d ≤ i → 2 * e ≤ i - d → 2 * (e * e) ≤ i - d - 2 * e
-      → missing_to f i ≡ missing_in (missing_double e) (e * (e * (e * 1))) f.double.slots.items (i - d - 2 * e - 2 * (e * e))
-  missing_fourth h k l =
-      in_fourth d (2 * e) (2 * (e * e)) (λ _. 0) (missing_in (missing_direct e) (e * 1) f.direct.slots.items)
-      (missing_in (missing_indirect e) (e * (e * 1)) f.indirect.slots.items) (missing_in (missing_double e) (e * (e * (e * 1))) f.double.slots.items) i h k l
+  abbrev lacks_indirect : SparePath B L → ℕ → ℕ
+  lacks_indirect s k = lacking_in (lacking_indirect e) (e * (e * 1)) f.indirect.slots.items k s.nodes.below
+
+  abbrev lacks_double : SparePath B L → ℕ → ℕ
+  lacks_double s k = lacking_in (lacking_double e) (e * (e * (e * 1))) f.double.slots.items k s.nodes
+
+  -- what the way lacks, by the range that the index falls to
+  pub lacking_second : (s : SparePath B L) → d ≤ i → i - d < 2 * e → lacking_to f i s ≡ lacks_direct s (i - d)
+  lacking_second s h k = in_second d (2 * e) (2 * (e * e)) (λ _. 0) (lacks_direct s) (lacks_indirect s) (lacks_double s) i h k
+
+  pub lacking_third : (s : SparePath B L) → d ≤ i → 2 * e ≤ i - d → i - d - 2 * e < 2 * (e * e) → lacking_to f i s ≡ lacks_indirect s (i - d - 2 * e)
+  lacking_third s h k l = in_third d (2 * e) (2 * (e * e)) (λ _. 0) (lacks_direct s) (lacks_indirect s) (lacks_double s) i h k l
+
+  pub lacking_fourth : (s : SparePath B L) → d ≤ i → 2 * e ≤ i - d → 2 * (e * e) ≤ i - d - 2 * e
+      → lacking_to f i s ≡ lacks_double s (i - d - 2 * e - 2 * (e * e))
+  lacking_fourth s h k l = in_fourth d (2 * e) (2 * (e * e)) (λ _. 0) (lacks_direct s) (lacks_indirect s) (lacks_double s) i h k l
+
+  abbrev misses_direct : ℕ → ℕ
+  misses_direct = missing_in (missing_direct e) (e * 1) f.direct.slots.items
+
+  abbrev misses_indirect : ℕ → ℕ
+  misses_indirect = missing_in (missing_indirect e) (e * (e * 1)) f.indirect.slots.items
+
+  abbrev misses_double : ℕ → ℕ
+  misses_double = missing_in (missing_double e) (e * (e * (e * 1))) f.double.slots.items
+
+  pub missing_second : d ≤ i → i - d < 2 * e → missing_to f i ≡ misses_direct (i - d)
+  missing_second h k = in_second d (2 * e) (2 * (e * e)) (λ _. 0) misses_direct misses_indirect misses_double i h k
+
+  pub missing_third : d ≤ i → 2 * e ≤ i - d → i - d - 2 * e < 2 * (e * e) → missing_to f i ≡ misses_indirect (i - d - 2 * e)
+  missing_third h k l = in_third d (2 * e) (2 * (e * e)) (λ _. 0) misses_direct misses_indirect misses_double i h k l
+
+  pub missing_fourth : d ≤ i → 2 * e ≤ i - d → 2 * (e * e) ≤ i - d - 2 * e → missing_to f i ≡ misses_double (i - d - 2 * e - 2 * (e * e))
+  missing_fourth h k l = in_fourth d (2 * e) (2 * (e * e)) (λ _. 0) misses_direct misses_indirect misses_double i h k l
 
 -- the spare node at the end of the way has a number
 pub spare_named : {B L : Type 0} (f : FileState B L) (i : ℕ) (s : SparePath B L) → 0 < missing_to f i → lacking_to f i s ≡ 0 → spare_tokens unnumbered s ≡ 0 → 0 < end_number s
 spare_named f i s gone ready numbered =
     let d = inode_entries f.shape in
     let e = node_entries f.shape in
-    let to_direct = missing_in (missing_direct e) (e * 1) f.direct.slots.items in
-    let to_indirect = missing_in (missing_indirect e) (e * (e * 1)) f.indirect.slots.items in
-    let to_double = missing_in (missing_double e) (e * (e * (e * 1))) f.double.slots.items in
-    let for_direct : ℕ → ℕ = λ k. lacking_in (lacking_direct e) (e * 1) f.direct.slots.items k s.nodes.below.below in
-    let for_indirect : ℕ → ℕ = λ k. lacking_in (lacking_indirect e) (e * (e * 1)) f.indirect.slots.items k s.nodes.below in
-    let for_double : ℕ → ℕ = λ k. lacking_in (lacking_double e) (e * (e * (e * 1))) f.double.slots.items k s.nodes in
-    let rest_2 = joined (2 * (e * e)) to_indirect to_double in
-    let rest_1 = joined (2 * e) to_direct rest_2 in
     elim (cases_lt i d) [
-      | inl low ↦ absurd (let none = at_first d (λ _. 0) rest_1 i low in omega arith)
+      | inl low ↦ absurd (let none = at_first d (λ _. 0) (joined (2 * e) (misses_direct f i) (joined (2 * (e * e)) (misses_indirect f i) (misses_double f i))) i low in omega arith)
       | inr past ↦ elim (cases_lt (i - d) (2 * e)) [
         | inl low ↦
             let k = i - d in
-            let m = in_second d (2 * e) (2 * (e * e)) (λ _. 0) to_direct to_indirect to_double i past low in
-            let l = in_second d (2 * e) (2 * (e * e)) (λ _. 0) for_direct for_indirect for_double i past low in
-            named_direct e (entry_at f.direct.slots.items (k / (e * 1))) (k % (e * 1)) s.nodes.below.below (omega arith) (sym l ∙ ready) (omega arith)
+            let m = missing_second f i past low in
+            named_direct e (entry_at f.direct.slots.items (k / (e * 1))) (k % (e * 1)) s.nodes.below.below (omega arith) (sym (lacking_second f i s past low) ∙ ready) (omega arith)
         | inr next ↦ elim (cases_lt (i - d - 2 * e) (2 * (e * e))) [
           | inl low ↦
               let k = i - d - 2 * e in
-              let m = in_third d (2 * e) (2 * (e * e)) (λ _. 0) to_direct to_indirect to_double i past next low in
-              let l = in_third d (2 * e) (2 * (e * e)) (λ _. 0) for_direct for_indirect for_double i past next low in
-              named_indirect e (entry_at f.indirect.slots.items (k / (e * (e * 1)))) (k % (e * (e * 1))) s.nodes.below (omega arith) (sym l ∙ ready) (omega arith)
+              let m = missing_third f i past next low in
+              named_indirect e (entry_at f.indirect.slots.items (k / (e * (e * 1)))) (k % (e * (e * 1))) s.nodes.below (omega arith)
+              (sym (lacking_third f i s past next low) ∙ ready) (omega arith)
           | inr last ↦
               let k = i - d - 2 * e - 2 * (e * e) in
-              let m = in_fourth d (2 * e) (2 * (e * e)) (λ _. 0) to_direct to_indirect to_double i past next last in
-              let l = in_fourth d (2 * e) (2 * (e * e)) (λ _. 0) for_direct for_indirect for_double i past next last in
-              named_double e (entry_at f.double.slots.items (k / (e * (e * (e * 1))))) (k % (e * (e * (e * 1)))) s.nodes (omega arith) (sym l ∙ ready) numbered
+              let m = missing_fourth f i past next last in
+              named_double e (entry_at f.double.slots.items (k / (e * (e * (e * 1))))) (k % (e * (e * (e * 1)))) s.nodes (omega arith)
+              (sym (lacking_fourth f i s past next last) ∙ ready) numbered
         ]
       ]
     ]

@@ -1,5 +1,5 @@
 -- The nodes that are made beside a file for the way to an index, and what is still to be made.
-use Rattle.std.specs.Prelude.{◌≡◌, ℕ, ◌+◌, ◌*◌, Option, Some, None}
+use Rattle.std.specs.Prelude.{ℕ, ◌+◌, ◌*◌, Option, Some, None}
 use Rattle.books.specs.declared.claim.Entry.{Entry}
 use Rattle.geometry.specs.Path.{inode_entries, node_entries}
 use Rattle.geometry.specs.declared.path.Path.{Path}

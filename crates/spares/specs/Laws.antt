@@ -1,6 +1,5 @@
 -- Laws of the definitions, for the laws of the trait.
 use Rattle.std.proofs.Common.{true, false, zero, suc, ◌≡◌, ◌==◌, ℕ, ◌+◌, ◌/◌, ◌%◌, ◌<◌, Bool, Option, Some, None, if◌then◌else◌, refl, arith}
-use Rattle.books.specs.declared.claim.Entry.{Entry}
 use Rattle.tree.specs.declared.branch.Branch.{Branch}
 use Rattle.tree.specs.Tree.{missing_below, entry_at}
 use Rattle.tree.specs.Change.{unnumbered}

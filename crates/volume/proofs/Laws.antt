@@ -1,29 +1,28 @@
 -- The law of a volume, of which one file is worked on.
-use Rattle.std.proofs.Common.{◌≡◌, ◌==◌, ℕ, zero, suc, if◌then◌else◌, Option, Some, None, replicate, ne_eqb, ◌+◌, ◌-◌, ◌<◌, ◌≤◌, List, [], ◌∷◌, ◌++◌, length, get_or, set, map, refl, sym, ap, subst, ◌∙◌, arith}
+use Rattle.std.proofs.Common.{◌≡◌, ◌==◌, ℕ, zero, suc, if◌then◌else◌, Option, Some, None, replicate, ne_eqb, ◌+◌, ◌-◌, ◌<◌, List, [], ◌∷◌, ◌++◌, length, get_or, set, map, refl, sym, ap, subst, ◌∙◌, arith}
 use Rattle.std.proofs.lemmas.List.{length-set, length-map, map-set, get_or-map, length-append}
 use Rattle.geometry.specs.declared.geometry.Geometry.{Geometry}
 use Rattle.geometry.specs.declared.kind.Kind.TheVariants.{File as Ordinary}
 use Rattle.geometry.specs.declared.owner.Mark.{Mark}
 use Rattle.geometry.specs.declared.shape.Shape.{Shape}
-use Rattle.geometry.specs.File.{File, Block, new_file, bytes_at}
+use Rattle.geometry.specs.File.{File, new_file, bytes_at}
 use Rattle.std.specs.Prelude.{MatchOption, unwrap_or}
-use Rattle.std.specs.FinMap.{len, len-empty}
-use Rattle.std.specs.Ordering.{nat_cmp}
+use Rattle.std.specs.FinMap.{len}
 use Rattle.sums.specs.Weights.{weigh, SameItems}
-use Rattle.sums.proofs.Weighing.{weigh-set, weigh-at, weigh-append, weigh-same}
+use Rattle.sums.proofs.Weighing.{weigh-set, weigh-at, weigh-append}
 use Rattle.sums.proofs.Indexing.{each_set, each_push}
 use Rattle.books.specs.Accounts.{HandView}
 use Rattle.books.specs.declared.claim.Entry.{Entry}
 use Rattle.books.proofs.Steps.{without_entry_first}
 use Rattle.tickets.specs.Placed.{Placed}
-use Rattle.tree.specs.Change.{of_tickets, of_tokens, unnumbered}
+use Rattle.tree.specs.Change.{of_tickets, of_tokens}
 use Rattle.nodes.specs.declared.file.FileState.{FileState}
-use Rattle.nodes.specs.File.{IsFile, IsBare, ticket_at, content_of, blocks_below, weight_of, file_of}
+use Rattle.nodes.specs.File.{IsFile, IsBare, ticket_at, content_of, weight_of, file_of}
 use Rattle.nodes.proofs.Files.{shows_file_of}
 use Rattle.nodes.proofs.Held.{bare_weighs}
 use Rattle.nodes.specs.Held.{Others}
 use Rattle.area.specs.Area.{Area}
-use Rattle.files.specs.Contents.{IsStored, IsFileOf, InHand, Serves}
+use Rattle.files.specs.Contents.{IsFileOf, InHand, Serves}
 use Rattle.files.proofs.Born.{stored_new}
 use Rattle.files.proofs.Serving.{with_token, less_token}
 use Rattle.volume.specs.Volume.{Volume, VolumeLaw, HasFile, AreFiles, file_at}

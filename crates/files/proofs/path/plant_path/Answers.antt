@@ -1,4 +1,4 @@
-use Rattle.std.proofs.Common.{◌≡◌, ap, sym, subst, ◌∙◌}
+use Rattle.std.proofs.Common.{ap, sym, subst, ◌∙◌}
 use Rattle.nodes.specs.File.{file_of}
 use Rattle.files.specs.Beside.{ServesBeside}
 use Rattle.files.proofs.Serving.{same_file}

@@ -1,4 +1,4 @@
-use Rattle.std.proofs.Common.{◌≡◌, ℕ, length, map, take}
+use Rattle.std.proofs.Common.{◌≡◌, length, map, take}
 use Rattle.flush.proofs.entries.spell_entries.Given as goal
 
 abbrev pub invariant-loop-place : goal.invariant-loop-place

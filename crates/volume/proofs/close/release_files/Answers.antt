@@ -1,12 +1,10 @@
 use Rattle.std.proofs.Common.{rules, ◌≡◌, ◌+◌, ◌∷◌, ◌++◌, [], vec_len, ap, sym, subst, ◌∙◌, arith}
 use Rattle.geometry.specs.declared.geometry.Geometry.{Geometry}
 use Rattle.sums.specs.Weights.{weigh}
-use Rattle.sums.proofs.Weighing.{weigh-append}
 use Rattle.sums.proofs.Indexing.{each_last, each_front}
-use Rattle.nodes.specs.Held.{Others}
 use Rattle.files.specs.Contents.{IsFileOf}
 use Rattle.volume.specs.Volume.{AreFiles}
-use Rattle.volume.proofs.Laws.{tickets_of, tokens_of, of_files, with_last, no_weight, no_items}
+use Rattle.volume.proofs.Laws.{tickets_of, of_files, with_last, no_weight, no_items}
 use Rattle.volume.proofs.close.release_files.Goals as goal
 
 pub give_up-requires-clause-stored : goal.give_up-requires-clause-stored

@@ -1,4 +1,4 @@
-use Rattle.std.proofs.Common.{◌<◌, ◌≡◌, inl, inr, arith, ap, sym, subst, ◌∙◌, Option, IsSome, MatchOption}
+use Rattle.std.proofs.Common.{◌<◌, inl, inr, arith, ap, sym, subst, ◌∙◌, Option, IsSome, MatchOption}
 use Rattle.std.proofs.lemmas.Bool.{cases_lt}
 use Rattle.geometry.specs.declared.owner.Owner.{Owner}
 use Rattle.geometry.specs.Owner.{IsOwner}

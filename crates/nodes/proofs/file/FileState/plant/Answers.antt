@@ -4,7 +4,7 @@ use Rattle.tree.specs.Tree.{find_in}
 use Rattle.tree.specs.Change.{nothing}
 use Rattle.nodes.specs.File.{in_tickets, in_direct, in_indirect, in_double, find_direct, find_indirect, find_double}
 use Rattle.nodes.proofs.Four.{same_2, same_3, same_4}
-use Rattle.nodes.proofs.Lacking.{missing_fourth}
+use Rattle.nodes.proofs.Lacking.{lacking_second, lacking_third, lacking_fourth, missing_second, missing_third, missing_fourth}
 use Rattle.nodes.proofs.Ranges.{marks_direct, marks_indirect, marks_double, file_direct, file_indirect, file_double}
 use Rattle.nodes.proofs.file.FileState.plant.Goals as goal
 
@@ -74,17 +74,81 @@ returns-clause-file g c =
     let shaped = rw c.node_entries-entries.ensures at c.plant_in-2.ensures.shaped in
     file_double c.args.self.now c.requires.file c.plant_in-2.new.below shaped (λ j h. returns-clause-same g c j ∙ c.requires.file.within j h)
 
+pub returns-then-index-width-clause-grown : goal.returns-then-index-width-clause-grown
+returns-then-index-width-clause-grown g c =
+    let f = c.args.self.now in
+    let i = c.args.index in
+    let d = c.inode_entries-slots.ensures in
+    let e = c.node_entries-entries.ensures in
+    let one = rw d at c.if-index-slots.false in
+    let two = rw (d, e) at c.if-index-width.true in
+    let grown = simp (d, e) at c.plant_in.ensures.grown in
+    λ yes.
+    (let fewer = grown yes in
+    let was = missing_second f i one two in
+    let is = missing_second (record f { direct = c.plant_in.new.below }) i one two in omega arith)
+
+pub returns-then-index-width-clause-ready : goal.returns-then-index-width-clause-ready
+returns-then-index-width-clause-ready g c =
+    let f = c.args.self.now in
+    let i = c.args.index in
+    let d = c.inode_entries-slots.ensures in
+    let e = c.node_entries-entries.ensures in
+    let one = rw d at c.if-index-slots.false in
+    let two = rw (d, e) at c.if-index-width.true in
+    let ready = simp (d, e) at c.plant_in.ensures.ready in
+    lacking_second (record f { direct = c.plant_in.new.below }) i (record { nodes = record c.args.spares.now.nodes { below = record c.args.spares.now.nodes.below { below = c.plant_in.new.spares } } }) one two ∙ ready
+
+pub returns-then-index-width-2-clause-grown : goal.returns-then-index-width-2-clause-grown
+returns-then-index-width-2-clause-grown g c =
+    let f = c.args.self.now in
+    let i = c.args.index in
+    let d = c.inode_entries-slots.ensures in
+    let e = c.node_entries-entries.ensures in
+    let one = rw d at c.if-index-slots.false in
+    let two = rw (d, e) at c.if-index-width.false in
+    let three = rw (d, e) at c.if-index-width-2.true in
+    let grown = simp (d, e) at c.plant_in-then-index-width-2.ensures.grown in
+    λ yes.
+    (let fewer = grown yes in
+    let was = missing_third f i one two three in
+    let is = missing_third (record f { indirect = c.plant_in-then-index-width-2.new.below }) i one two three in omega arith)
+
+pub returns-then-index-width-2-clause-ready : goal.returns-then-index-width-2-clause-ready
+returns-then-index-width-2-clause-ready g c =
+    let f = c.args.self.now in
+    let i = c.args.index in
+    let d = c.inode_entries-slots.ensures in
+    let e = c.node_entries-entries.ensures in
+    let one = rw d at c.if-index-slots.false in
+    let two = rw (d, e) at c.if-index-width.false in
+    let three = rw (d, e) at c.if-index-width-2.true in
+    let ready = simp (d, e) at c.plant_in-then-index-width-2.ensures.ready in
+    lacking_third (record f { indirect = c.plant_in-then-index-width-2.new.below }) i (record { nodes = record c.args.spares.now.nodes { below = c.plant_in-then-index-width-2.new.spares } }) one two three ∙ ready
+
 pub returns-clause-grown : goal.returns-clause-grown
 returns-clause-grown g c =
     let f = c.args.self.now in
     let i = c.args.index in
-    let grown = simp (c.inode_entries-slots.ensures, c.node_entries-entries.ensures) at c.plant_in-2.ensures.grown in
     let d = c.inode_entries-slots.ensures in
     let e = c.node_entries-entries.ensures in
     let one = rw d at c.if-index-slots.false in
     let two = rw (d, e) at c.if-index-width.false in
     let three = rw (d, e) at c.if-index-width-2.false in
+    let grown = simp (d, e) at c.plant_in-2.ensures.grown in
     λ yes.
     (let fewer = grown yes in
     let was = missing_fourth f i one two three in
     let is = missing_fourth (record f { double = c.plant_in-2.new.below }) i one two three in omega arith)
+
+pub returns-clause-ready : goal.returns-clause-ready
+returns-clause-ready g c =
+    let f = c.args.self.now in
+    let i = c.args.index in
+    let d = c.inode_entries-slots.ensures in
+    let e = c.node_entries-entries.ensures in
+    let one = rw d at c.if-index-slots.false in
+    let two = rw (d, e) at c.if-index-width.false in
+    let three = rw (d, e) at c.if-index-width-2.false in
+    let ready = simp (d, e) at c.plant_in-2.ensures.ready in
+    lacking_fourth (record f { double = c.plant_in-2.new.below }) i (record { nodes = c.plant_in-2.new.spares }) one two three ∙ ready

@@ -1,8 +1,6 @@
 use Rattle.std.proofs.Common.{◌-◌, length, ap, sym, ◌∙◌, arith}
 use Rattle.geometry.specs.Shape.{block_bytes}
 use Rattle.geometry.specs.File.{File, bytes_at}
-use Rattle.nodes.specs.File.{ticket_at}
-use Rattle.nodes.proofs.Files.{shows_file_of}
 use Rattle.volume.specs.Volume.{Volume}
 use Rattle.volume.proofs.Laws.{file_is, place_of, file_seen, reads}
 use Rattle.volume.proofs.volume.Volume.read.Goals as goal
