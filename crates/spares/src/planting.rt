@@ -162,7 +162,9 @@ impl<B: Block> Planting for Ticket<B> {
 
 /// A spare node, or none, and those of the levels below it.
 pub struct SpareNodes<C: Planting> {
+    /// That of this level.
     pub node: Option<Branch<C>>,
+    /// Those of the levels below.
     pub below: C::Spares,
 }
 
