@@ -12,3 +12,4 @@ pub mod Files
 pub mod Owners
 pub mod Numbered
 pub mod Lacking
+pub mod Namers
