@@ -1,8 +1,7 @@
 -- Who names an index, through a change of one range of the inode; and that it is the owner of the definitions.
-use Rattle.std.proofs.Common.{◌≡◌, ℕ, ◌+◌, ◌-◌, ◌*◌, ◌/◌, ◌%◌, ◌<◌, ◌≤◌, Option, Some, None, refl, arith, ap, sym, subst, ◌∙◌, inl, inr}
+use Rattle.std.proofs.Common.{◌≡◌, ℕ, ◌+◌, ◌-◌, ◌*◌, ◌/◌, ◌%◌, ◌<◌, Option, Some, None, refl, arith, ap, sym, subst, ◌∙◌, inl, inr}
 use Rattle.std.proofs.lemmas.Bool.{cases_lt}
 use Rattle.std.proofs.Math.Nat.{div-eq_of_lt, mod-eq_of_lt}
-use Rattle.geometry.specs.declared.owner.Owner.{Owner}
 use Rattle.geometry.specs.declared.path.Path.{Path}
 use Rattle.geometry.specs.Path.{inode_entries, node_entries, largest_length, path}
 use Rattle.tickets.specs.Placed.{Placed}
@@ -15,10 +14,10 @@ use Rattle.nodes.specs.File.{joined, below, ticket_at, in_tickets, in_direct, in
 use Rattle.nodes.specs.Lacking.{last_entry}
 use Rattle.nodes.specs.Owners.{owner_in, owner_at, named_by, namer_direct, namer_indirect, namer_double, namer_at}
 use Rattle.nodes.proofs.Joined.{at_first, at_rest}
-use Rattle.nodes.proofs.Four.{same_2, same_3, same_4}
+use Rattle.nodes.proofs.Four.{same_3, same_4}
 use Rattle.nodes.proofs.Bounds.{entries_positive}
 use Rattle.nodes.proofs.Lacking.{in_second, in_third, in_fourth}
-use Rattle.nodes.proofs.Paths.{times_one, second, first, path_1, path_2, path_3, path_4}
+use Rattle.nodes.proofs.Paths.{times_one, second, path_1, path_2, path_3, path_4}
 
 module _ (w : ℕ) (f g : ℕ → Option Placed) (n m h : ℕ → Option ℕ) where
   keeps_first : KeepsNamers f n m → KeepsNamers (joined w f g) (joined w n h) (joined w m h)

@@ -1,4 +1,4 @@
-use Rattle.std.proofs.Common.{ap, sym, subst, ◌∙◌, arith, Some, ◌<◌}
+use Rattle.std.proofs.Common.{ap, sym, subst, ◌∙◌, arith, Some}
 use Rattle.nodes.specs.File.{file_of}
 use Rattle.nodes.specs.Owners.{namer_at}
 use Rattle.files.specs.Beside.{ServesBeside}
