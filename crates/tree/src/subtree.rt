@@ -11,8 +11,8 @@ use tickets::Ticket;
 /// The ticket of a block, or a node with entries that name subtrees (Linux `filesystems/f2fs`, index structure).
 ///
 /// All calls are on slots, so that a hole and a missing node are one case. To contracts `find` gives the ticket at each
-/// index, `missing` the number of nodes that are not there on the way to it, and `weight` what all tickets and nodes weigh.
-/// `entries` is how many entries a node has.
+/// index, `missing` the number of nodes that are not there on the way to it, `namer` the number of the node whose entries
+/// hold it, and `weight` what all tickets and nodes weigh. `entries` is how many entries a node has.
 pub trait Subtree {
     /// The tickets.
     type Leaf;
