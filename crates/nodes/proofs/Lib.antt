@@ -12,4 +12,3 @@ pub mod Files
 pub mod Owners
 pub mod Numbered
 pub mod Lacking
-pub mod Namers

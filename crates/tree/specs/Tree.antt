@@ -1,6 +1,6 @@
 -- The map that a tree of nodes gives, from indexes to tickets (Linux filesystems/f2fs, index structure).
 use Rattle.std.proofs.Common.{zero, suc}
-use Rattle.std.specs.Prelude.{Bool, if◌then◌else◌, ◌≡◌, ◌≢◌, ℕ, ◌+◌, ◌/◌, ◌%◌, ◌≤◌, List, length, slice_index_or, Option, Some, None}
+use Rattle.std.specs.Prelude.{◌≡◌, ◌≢◌, ℕ, ◌+◌, ◌/◌, ◌%◌, ◌≤◌, List, length, slice_index_or, Option, Some, None}
 use Rattle.tree.specs.declared.spare.Spare.{Spare}
 use Rattle.tree.specs.declared.spare.Spare.TheVariants.{Ticket, Token}
 
@@ -62,15 +62,6 @@ missing_below slots missing span (Some b) i = missing_in missing span (slots b) 
 abbrev pub ShapedBelow : {B C : Type 0} → (B → List (Option C)) → (Option C → Type 0) → ℕ → Option B → Type 0
 ShapedBelow slots Shaped entries None = Unit {0}
 ShapedBelow slots Shaped entries (Some b) = ShapedIn Shaped entries (slots b)
-
--- the number of the node whose entries hold an index, below a node which may be missing
-abbrev pub namer_below : {B C : Type 0} → (B → ℕ) → (B → List (Option C)) → Bool → (Option C → ℕ → Option ℕ) → ℕ → Option B → ℕ → Option ℕ
-namer_below number slots is_leaf namer span None i = None
-namer_below number slots is_leaf namer span (Some b) i = if is_leaf then Some (number b) else find_in namer span (slots b) i
-
--- where a ticket stands, the node that names it has the number that it had
-abbrev pub KeepsNamers : {L : Type 0} → (ℕ → Option L) → (ℕ → Option ℕ) → (ℕ → Option ℕ) → Type 0
-KeepsNamers {L} find old new = (j : ℕ) (t : L) → find j ≡ Some t → new j ≡ old j
 
 -- the number that stands for a slot in a node's block: 0 where there is nothing
 abbrev pub number_of : {B : Type 0} → (B → ℕ) → Option B → ℕ

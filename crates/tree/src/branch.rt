@@ -1,6 +1,6 @@
 //! A node other than an inode.
 ghost use Rattle.std.specs.Prelude.{◌≡◌, ◌*◌, ◌<◌, None, true, false, map, replicate, IfOk, IfErr};
-ghost use Rattle.tree.specs.Tree.{find_below, missing_below, namer_below, ShapedBelow, AreNone, number_of};
+ghost use Rattle.tree.specs.Tree.{find_below, missing_below, ShapedBelow, AreNone, number_of};
 ghost use Rattle.tree.specs.Change.{tree_node, weight_below};
 
 use crate::entries::{Entries, Pruned};
@@ -59,8 +59,6 @@ impl<C: Subtree> Subtree for Branch<C> {
 
     ghost find = { λ e slot i. find_below (λ b. b.entries.slots.items) (C.find e) (C.span_of e) slot i };
 
-    ghost namer = { λ e slot i. namer_below (λ b. b.token.number) (λ b. b.entries.slots.items) C.is_leaf (C.namer e) (C.span_of e) slot i };
-
     ghost missing = { λ e slot i. missing_below (λ b. b.entries.slots.items) (C.missing e) (C.span_of e) slot i };
 
     ghost shaped = { λ e slot. ShapedBelow (λ b. b.entries.slots.items) (C.shaped e) e slot };
@@ -83,8 +81,6 @@ impl<C: Subtree> Subtree for Branch<C> {
     ghost weight_none = { λ _. refl };
 
     ghost number_none = { refl };
-
-    ghost leaf_namer = { λ _ _ _ no. absurd (no_leaf no) };
 
     ghost leaf_span = { λ _ no. absurd (no_leaf no) };
 

@@ -39,7 +39,7 @@ spares-preserved-in-Ticket g c =
     let n = c.args.length in
     let hands = rw c.in-Ticket.is at cut.out in
     let weighs = rw c.in-Ticket.is at done.1 in
-    let step = serves_out old new x y n was.serves.stored cut.file cut.shape cut.kind cut.length gave.geometry c.in-Ticket.ticket hands done.0 weighs done.2 cut.namer gave.hand gave.numbers in
+    let step = serves_out old new x y n was.serves.stored cut.file cut.shape cut.kind cut.length gave.geometry c.in-Ticket.ticket hands done.0 weighs done.2 gave.hand gave.numbers in
     record {
       serves = serves_both c.args.file.now old new c.args.area.now x y was.serves step;
       file = cut_out old new x y n was.serves.stored cut.file cut.shape cut.kind cut.length gave.geometry c.in-Ticket.ticket hands done.0 weighs done.2 ∙ was.file;
@@ -70,7 +70,7 @@ spares-preserved g c =
     let n = c.args.length in
     let same = rw c.in-Token.is at cut.out in
     let weighs = rw c.in-Token.is at done.1 in
-    let step = serves_node old new x y n was.serves.stored cut.file cut.shape cut.kind cut.length gave.geometry c.in-Token.token same done.0 weighs done.2 cut.namer gave.hand gave.free_still in
+    let step = serves_node old new x y n was.serves.stored cut.file cut.shape cut.kind cut.length gave.geometry c.in-Token.token same done.0 weighs done.2 gave.hand gave.free_still in
     record {
       serves = serves_both c.args.file.now old new c.args.area.now x y was.serves step;
       file = cut_node old new x y n was.serves.stored cut.file cut.shape cut.kind cut.length gave.geometry c.in-Token.token same done.0 weighs done.2 ∙ was.file;
@@ -84,7 +84,7 @@ returns-clause-serves g c =
     let new = c.cut.new.self in
     let x = c.spares.area in
     serves_both c.args.file.now old new c.args.area.now x x was
-    (serves_cut old new x c.args.length was.stored cut.file cut.shape cut.length cut.none.0 cut.kept.0 cut.kept.2 cut.namer)
+    (serves_cut old new x c.args.length was.stored cut.file cut.shape cut.length cut.none.0 cut.kept.0 cut.kept.2)
 
 pub returns-clause-file : goal.returns-clause-file
 returns-clause-file g c =

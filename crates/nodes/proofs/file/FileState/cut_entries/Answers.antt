@@ -7,7 +7,6 @@ use Rattle.nodes.proofs.Four.{hands_1, hands_2, hands_3, hands_4, empty_four}
 use Rattle.nodes.proofs.Bounds.{past_tickets, past_direct, past_indirect}
 use Rattle.nodes.proofs.Joined.{hands_empty}
 use Rattle.nodes.proofs.Ranges.{marks_tickets, marks_direct, marks_indirect, marks_double, file_tickets, file_direct, file_indirect, file_double}
-use Rattle.nodes.proofs.Namers.{keeps_direct, keeps_indirect, keeps_double}
 use Rattle.nodes.proofs.file.FileState.cut_entries.Goals as goal
 
 pub returns-in-Some-clause-out : goal.returns-in-Some-clause-out
@@ -142,18 +141,3 @@ returns-clause-none g c =
 
 pub returns-clause-file : goal.returns-clause-file
 returns-clause-file g c = rw (c.in_default.ensures.none.0, c.in_default-cut.ensures.none.0, c.in_default-cut-2.ensures.none.0, c.in_default-cut-3.ensures.none.0) c.requires.file
-
-pub returns-in-Some-clause-namer : goal.returns-in-Some-clause-namer
-returns-in-Some-clause-namer g c =
-    let s = rw c.node_entries-entries.ensures at c.in-Some.ensures.namer in
-    keeps_double c.args.self.now c.cut.new.self s
-
-pub returns-in-Some-cut-clause-namer : goal.returns-in-Some-cut-clause-namer
-returns-in-Some-cut-clause-namer g c =
-    let s = rw c.node_entries-entries.ensures at c.in-Some-cut.ensures.namer in
-    rw (c.in_default.ensures.none.0) (keeps_indirect c.args.self.now c.cut-2.new.self s)
-
-pub returns-in-Some-cut-2-clause-namer : goal.returns-in-Some-cut-2-clause-namer
-returns-in-Some-cut-2-clause-namer g c =
-    let s = rw c.node_entries-entries.ensures at c.in-Some-cut-2.ensures.namer in
-    rw (c.in_default.ensures.none.0, c.in_default-cut.ensures.none.0) (keeps_direct c.args.self.now c.cut-3.new.self s)

@@ -10,7 +10,6 @@ use Rattle.nodes.proofs.Four.{swaps_2, swaps_3, swaps_4}
 use Rattle.nodes.proofs.Joined.{swaps_empty}
 use Rattle.nodes.proofs.Bounds.{past_direct, past_indirect}
 use Rattle.nodes.proofs.Ranges.{marks_direct, marks_indirect, marks_double, file_direct, file_indirect, file_double}
-use Rattle.nodes.proofs.Namers.{same_indirect, same_double}
 use Rattle.nodes.proofs.file.FileState.migrate_below.Goals as goal
 
 pub returns-in-Ok-clause-swaps : goal.returns-in-Ok-clause-swaps
@@ -106,13 +105,3 @@ returns-in-Err-migrate-2-clause-elsewhere g c =
 
 pub returns-in-Err-migrate-2-clause-file : goal.returns-in-Err-migrate-2-clause-file
 returns-in-Err-migrate-2-clause-file g c = rw (c.in-Err.ensures.refused, c.in-Err-migrate.ensures.refused, c.in-Err-migrate-2.ensures.refused) c.requires.file
-
-pub returns-in-Ok-migrate-clause-namer : goal.returns-in-Ok-migrate-clause-namer
-returns-in-Ok-migrate-clause-namer g c =
-    let s = rw c.node_entries-entries.ensures at c.migrate-2.ensures.namer in
-    rw (c.in-Err.ensures.refused) (same_indirect c.args.self.now c.migrate-2.new.self s)
-
-pub returns-in-Ok-migrate-2-clause-namer : goal.returns-in-Ok-migrate-2-clause-namer
-returns-in-Ok-migrate-2-clause-namer g c =
-    let s = rw c.node_entries-entries.ensures at c.migrate-3.ensures.namer in
-    rw (c.in-Err.ensures.refused, c.in-Err-migrate.ensures.refused) (same_double c.args.self.now c.migrate-3.new.self s)

@@ -6,7 +6,6 @@ use Rattle.nodes.specs.File.{in_tickets, in_direct, in_indirect, in_double, find
 use Rattle.nodes.proofs.Four.{same_2, same_3, same_4}
 use Rattle.nodes.proofs.Lacking.{lacking_second, lacking_third, lacking_fourth, missing_second, missing_third, missing_fourth}
 use Rattle.nodes.proofs.Ranges.{marks_direct, marks_indirect, marks_double, file_direct, file_indirect, file_double}
-use Rattle.nodes.proofs.Namers.{names_direct, names_indirect, names_double}
 use Rattle.nodes.proofs.file.FileState.plant.Goals as goal
 
 pub returns-then-index-width-clause-same : goal.returns-then-index-width-clause-same
@@ -153,18 +152,3 @@ returns-clause-ready g c =
     let three = rw (d, e) at c.if-index-width-2.false in
     let ready = simp (d, e) at c.plant_in-2.ensures.ready in
     lacking_fourth (record f { double = c.plant_in-2.new.below }) i (record { nodes = c.plant_in-2.new.spares }) one two three ∙ ready
-
-pub returns-then-index-width-clause-namer : goal.returns-then-index-width-clause-namer
-returns-then-index-width-clause-namer g c =
-    let s = rw c.node_entries-entries.ensures at c.plant_in.ensures.namer in
-    names_direct c.args.self.now c.plant_in.new.below s
-
-pub returns-then-index-width-2-clause-namer : goal.returns-then-index-width-2-clause-namer
-returns-then-index-width-2-clause-namer g c =
-    let s = rw c.node_entries-entries.ensures at c.plant_in-then-index-width-2.ensures.namer in
-    names_indirect c.args.self.now c.plant_in-then-index-width-2.new.below s
-
-pub returns-clause-namer : goal.returns-clause-namer
-returns-clause-namer g c =
-    let s = rw c.node_entries-entries.ensures at c.plant_in-2.ensures.namer in
-    names_double c.args.self.now c.plant_in-2.new.below s

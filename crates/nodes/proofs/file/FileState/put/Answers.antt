@@ -1,7 +1,6 @@
 use Rattle.std.proofs.Common.{◌≡◌, ap, ◌∙◌, arith}
 use Rattle.nodes.specs.File.{below_weight}
 use Rattle.nodes.proofs.Shown.{written_shows}
-use Rattle.nodes.specs.Owners.{namer_at}
 use Rattle.nodes.proofs.file.FileState.put.Goals as goal
 
 pub put_ticket-requires-clause-file : goal.put_ticket-requires-clause-file
@@ -42,6 +41,3 @@ returns-clause-change g c =
       marked = done.marked;
       token = done.token ∙ ap (λ f. f.token) state;
     }
-
-pub returns-clause-namer : goal.returns-clause-namer
-returns-clause-namer g c = λ j. c.put_ticket.ensures.namer j ∙ ap (λ f. namer_at f j) c.lengthen.ensures.state
