@@ -32,7 +32,7 @@ use Rattle.words.specs.Tokens.{FreeSegment, OpenSegment}
 use Rattle.words.specs.Claims.{fresh_life}
 use Rattle.sit.specs.Summaries.{count_of}
 use Rattle.sit.specs.Registered.{Registered, IsSameBook, slip_after}
-use Rattle.sit.specs.Segment.{Segment, marks_of, fresh, placed, cleared, entered, HasPlaced}
+use Rattle.sit.specs.Segment.{Segment, marks_of, fresh, placed, spoiled, cleared, entered, HasPlaced}
 use Rattle.sit.proofs.Marks.{StandsIn, found, marks_count}
 use Rattle.area.specs.Area.{Area, AreaLaw, IsSegmentOf, LogStands, AreLogs, IsFreeOf, marks_in}
 
@@ -103,7 +103,7 @@ module _ (area : Area) (law : AreaLaw area) where
       go (k, low, has) = at (found m (address_of first.segment.shape first.segment.number 0) first.segment.summaries (has blank))
         where
           blank : Registered
-          blank = record { segment = fresh shape 0 0; book = area.table; table = area.table; life = fresh_life 0 }
+          blank = record { segment = fresh shape 0 [] 0; book = area.table; table = area.table; life = fresh_life 0 }
 
           first : Registered
           first = get_or area.segments k blank
@@ -225,17 +225,17 @@ module _ (geometry : Geometry) (book table : TableId) (k : ℕ) (r new : Registe
   placed_is owner now failed has = kept (ap (λ (x : Segment). x.shape) has.0) (ap (λ (x : Segment). x.number) has.0)
       (ap (λ (x : Segment). length x.summaries) has.0 ∙ length-set r.segment.summaries r.segment.next (Some owner))
 
-  pub released_is : (o failed : ℕ) (released : Released) → HasReleased (cleared r.segment o failed) released new.segment → IsSegmentOf geometry book table k new
-  released_is o failed Kept has = kept (ap (λ (x : Segment). x.shape) has.0) (ap (λ (x : Segment). x.number) has.0)
+  pub released_is : (o failed : ℕ) (bytes : List ℕ) (released : Released) → HasReleased (cleared r.segment o bytes failed) released new.segment → IsSegmentOf geometry book table k new
+  released_is o failed bytes Kept has = kept (ap (λ (x : Segment). x.shape) has.0) (ap (λ (x : Segment). x.number) has.0)
       (ap (λ (x : Segment). length x.summaries) has.0 ∙ length-set r.segment.summaries o None)
-  released_is o failed Retired has = kept (ap (λ (x : Segment). x.shape) has.0) (ap (λ (x : Segment). x.number) has.0)
+  released_is o failed bytes Retired has = kept (ap (λ (x : Segment). x.shape) has.0) (ap (λ (x : Segment). x.number) has.0)
       (ap (λ (x : Segment). length x.summaries) has.0 ∙ length-set r.segment.summaries o None)
 
   pub opened_is : new.segment ≡ entered r.segment Open → IsSegmentOf geometry book table k new
   opened_is has = kept (ap (λ (x : Segment). x.shape) has) (ap (λ (x : Segment). x.number) has) (ap (λ (x : Segment). length x.summaries) has)
 
-  pub failed_is : (failed : ℕ) → new.segment ≡ record r.segment { failed = failed } → IsSegmentOf geometry book table k new
-  failed_is failed has = kept (ap (λ (x : Segment). x.shape) has) (ap (λ (x : Segment). x.number) has) (ap (λ (x : Segment). length x.summaries) has)
+  pub spoiled_is : (bytes : List ℕ) (failed : ℕ) → new.segment ≡ spoiled r.segment bytes failed → IsSegmentOf geometry book table k new
+  spoiled_is bytes failed has = kept (ap (λ (x : Segment). x.shape) has) (ap (λ (x : Segment). x.number) has) (ap (λ (x : Segment). length x.summaries) has)
 
 -- ---- without a valid block
 

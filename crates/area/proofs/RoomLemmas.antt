@@ -57,7 +57,7 @@ module _ {B : Type 0} (block_address : B → ℕ) (content_of : B → List ℕ) 
         let here = ap (λ n. n * segment_blocks shape) s in omega arith in
         ap (λ (r : RoomOf). address_of r.shape r.number (segment_blocks r.shape)) room_is ∙ last
 
-    pub filling_goes_on : (segment : Registered) (blocks' : List B) → segment.segment ≡ fresh room.shape room.number segment.segment.failed → segment.book ≡ book → segment.table ≡ table → IsBlockRun block_address content_of (block_bytes room.shape) 1 blocks'
+    pub filling_goes_on : (segment : Registered) (blocks' : List B) → segment.segment ≡ fresh room.shape room.number segment.segment.contents segment.segment.failed → segment.book ≡ book → segment.table ≡ table → IsBlockRun block_address content_of (block_bytes room.shape) 1 blocks'
         → address_of room.shape room.number 0 ≡ 1 + length blocks' → Filling rest (segments ++ segment ∷ []) blocks'
     filling_goes_on segment blocks' segment_is book_is table_is run first =
         let s = shorter in

@@ -11,7 +11,7 @@ use Rattle.geometry.specs.declared.geometry.Geometry.{Geometry}
 use Rattle.geometry.specs.Path.{largest_length}
 use Rattle.geometry.specs.Address.{address_of}
 use Rattle.geometry.specs.Area.{block_count}
-use Rattle.image.specs.Node.{Node}
+use Rattle.image.specs.Node.{Node, IsPlain}
 use Rattle.image.specs.Image.{Image, SegmentInfo, no_summary, no_entry, no_node, no_segment, entry_of, node_of, is_marked, summary_at}
 use Rattle.geometry.specs.declared.owner.Owner.{Owner}
 use Rattle.geometry.specs.declared.owner.Owner.TheVariants.{Node as OfNode, Data}
@@ -102,8 +102,13 @@ module _ (geometry : Geometry) (parts : Parts) (image : Image) (law : PartsLaw g
     children = all_of (λ c. c ≤ geometry.nodes) s.node.children
         (file_kids geometry.nodes file (λ t r. (stored_range geometry parts image law even is k file t at r).1) s m);
     length = reach m;
+    plain = plain m;
   }
     where
+      plain : Among s (stored_of file) → IsPlain s.node
+      plain (inl e) = subst (λ (x : Stored). IsPlain x.node) e (inl refl)
+      plain (inr r) = let b = below_inode file s r in inr (b.length, b.kind)
+
       low : (a : ℕ) → Among a s.node.addresses → a ≤ block_count geometry
       low a n =
           elim (data_among s.node.nid 0 a s.node.addresses n) [
@@ -122,6 +127,7 @@ module _ (geometry : Geometry) (parts : Parts) (image : Image) (law : PartsLaw g
     addresses = λ k d low. absurd (omega arith);
     children = λ k d low. absurd (omega arith);
     length = omega arith;
+    plain = inr (refl, refl);
   }
 
   entry_here : (k : ℕ) → entry_of image (suc k) ≡ get_or image.node_table k no_entry
@@ -133,7 +139,7 @@ module _ (geometry : Geometry) (parts : Parts) (image : Image) (law : PartsLaw g
   entry_range : (k : ℕ) → k < geometry.nodes → IsEntry geometry (entry_of image (suc k))
   entry_range k low =
       elim (entry_cases geometry parts image law even is (suc k) (omega arith) (omega arith)) [
-        | inl none ↦ subst (IsEntry geometry) (sym none) (omega arith, omega arith)
+        | inl none ↦ subst (IsEntry geometry) (sym none) (omega arith, omega arith, (λ e. e, λ e. e))
         | inr owned ↦
             let file = owned.1 in
             let s = owned.2 in
@@ -142,8 +148,9 @@ module _ (geometry : Geometry) (parts : Parts) (image : Image) (law : PartsLaw g
             let below = low_file owned.0 file owned.3 in
             let fit = geometry.limits.inodes in
             let a = stored_low owned.0 file owned.3 s owned.4 in
+            let some = (law.files owned.0 file owned.3).flushed s owned.4 in
             subst (λ (nid : ℕ). IsEntry geometry (entry_of image nid)) owned.5
-            (subst (IsEntry geometry) (sym here) (omega arith, a))
+            (subst (IsEntry geometry) (sym here) (omega arith, a, (λ e. absurd (omega (arith, inode, e)), λ e. absurd (some e))))
       ]
 
   node_range_at : (k : ℕ) → k < geometry.nodes → HasRange geometry (node_of image (suc k))
@@ -185,6 +192,7 @@ module _ (geometry : Geometry) (parts : Parts) (image : Image) (law : PartsLaw g
     nodes = λ k d low.
         let t = is.nodes in
         subst (HasRange geometry) (node_here k ∙ get_or_default image.nodes k no_node d low) (node_range_at k (omega arith));
+    owned = λ nid low none. is.untaken nid none;
   }
 
   -- 3

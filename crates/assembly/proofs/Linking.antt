@@ -9,6 +9,7 @@ use Rattle.geometry.specs.declared.geometry.Geometry.{Geometry}
 use Rattle.image.specs.Image.{Image, no_entry, entry_of}
 use Rattle.sums.specs.Weights.{weigh}
 use Rattle.assembly.specs.Items.{Among}
+use Rattle.geometry.specs.declared.kind.Kind.TheVariants.{File}
 use Rattle.assembly.specs.Parts.{Token, found, Tree, Stored, each, top, stored_in, stored_below, Subtree, subtrees, FileTree, stored_of, token_at, tokens_of, Parts, shard_at, file_at, PartsLaw, Balanced, IsImageOf}
 use Rattle.assembly.proofs.Weighing.{weigh_among, among_of_weigh, place_of, weigh_at, among-map, of_among-map, among_split}
 use Rattle.assembly.proofs.Trees.{HoldsAll}
@@ -40,7 +41,7 @@ one_is d e some = go (same_token d e) refl some
 abbrev pub of_nid : ℕ → Token → ℕ
 of_nid nid e = if e.nid == nid then 1 else 0
 
-found_among : (nid : ℕ) (e : Token) (es : List Token) → weigh (of_nid nid) es ≤ 1 → Among e es → e.nid ≡ nid
+pub found_among : (nid : ℕ) (e : Token) (es : List Token) → weigh (of_nid nid) es ≤ 1 → Among e es → e.nid ≡ nid
     → found nid es ≡ record { inode = e.inode; address = e.address }
 found_among nid e [] single m is = absurd m
 found_among nid e (y ∷ ys) single (inl same) is =
@@ -104,15 +105,16 @@ subtrees_all P inode of_top ((level, Some tree) ∷ subs) s m =
       | inr r ↦ subtrees_all P inode of_top subs s r
     ]
 
--- a node below an inode is of that file and of another class
+-- a node below an inode is of that file and of another class, and has no length and no kind of its own
 pub record IsBelow (inode : ℕ) (s : Stored) : Type 0 where
   pub belongs : s.node.inode ≡ inode
   pub class : (1 ≤ s.node.class) × (s.node.class < 3)
   pub length : s.node.length ≡ 0
+  pub kind : s.node.kind ≡ File
 
 top_is_below : (inode level : ℕ) (tree : Tree level) → IsBelow inode (top inode level tree)
-top_is_below inode zero tree = record { belongs = refl; class = (omega arith, omega arith); length = refl }
-top_is_below inode (suc level) tree = record { belongs = refl; class = (omega arith, omega arith); length = refl }
+top_is_below inode zero tree = record { belongs = refl; class = (omega arith, omega arith); length = refl; kind = refl }
+top_is_below inode (suc level) tree = record { belongs = refl; class = (omega arith, omega arith); length = refl; kind = refl }
 
 pub below_inode : (file : FileTree) (s : Stored) → Among s (stored_below file.inode (subtrees file)) → IsBelow file.inode s
 below_inode file = subtrees_all (IsBelow file.inode) file.inode (top_is_below file.inode) (subtrees file)

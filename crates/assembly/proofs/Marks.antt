@@ -56,7 +56,7 @@ sum_none : (n : ℕ) (f : ℕ → ℕ) → ((k : ℕ) → k < n → f k ≡ 0) �
 sum_none zero f none = refl
 sum_none (suc n) f none = let a = sum_none n f (λ k low. none k (omega arith)) in let b = none n (omega arith) in omega arith
 
-sum_one : (n c : ℕ) (f : ℕ → ℕ) → ((k : ℕ) → k ≢ c → f k ≡ 0) → f c ≤ 1 → sum_below n f ≤ 1
+pub sum_one : (n c : ℕ) (f : ℕ → ℕ) → ((k : ℕ) → k ≢ c → f k ≡ 0) → f c ≤ 1 → sum_below n f ≤ 1
 sum_one zero c f other here = omega arith
 sum_one (suc n) c f other here =
     elim (eqb_tells n c) [

@@ -34,7 +34,7 @@ module _ (geometry : Geometry) (version : ℕ) (parts : Parts) (blocks : ℕ →
   abbrev image : Image
   image = assembled geometry version parts blocks
 
-  length-table : length (table_of geometry parts) ≡ geometry.nodes
+  pub length-table : length (table_of geometry parts) ≡ geometry.nodes
   length-table = length-map (up_to geometry.nodes) _ ∙ length-up_to geometry.nodes
 
   entry_here : (k : ℕ) → entry_of image (suc k) ≡ get_or (table_of geometry parts) k no_entry
@@ -43,7 +43,7 @@ module _ (geometry : Geometry) (version : ℕ) (parts : Parts) (blocks : ℕ →
   node_here : (k : ℕ) → node_of image (suc k) ≡ get_or (read_nodes geometry.shape blocks (table_of geometry parts)) k no_node
   node_here k = let e : suc k - 1 ≡ k = omega arith in rw (ne_eqb (suc k) 0 (λ z. cc), e) refl
 
-  entry_is : (nid : ℕ) → 1 ≤ nid → nid ≤ geometry.nodes → entry_of image nid ≡ found nid (shard_at parts (nid % 16))
+  pub entry_is : (nid : ℕ) → 1 ≤ nid → nid ≤ geometry.nodes → entry_of image nid ≡ found nid (shard_at parts (nid % 16))
   entry_is zero low high = absurd (omega arith)
   entry_is (suc k) low high =
       let l = length-up_to geometry.nodes in

@@ -91,8 +91,8 @@ module _ {A : Type 0} where
       let f = below h in
       let g : weigh (λ x. n) xs ≡ weigh (λ x. n) ys = weigh_const n xs ∙ (ap (λ (k : ℕ). k * n) count ∙ sym (weigh_const n ys)) in omega arith
 
--- at most one number below n is s
-none_past : (n s : ℕ) → n ≤ s → sum_below n (λ j. is (λ a b. b == a) s j) ≡ 0
+-- at most one number below n is s, and none where s is not below n
+pub none_past : (n s : ℕ) → n ≤ s → sum_below n (λ j. is (λ a b. b == a) s j) ≡ 0
 none_past zero s le = refl
 none_past (suc n) s le =
     let here = is_other (λ a b. b == a) (λ a b e. sym (eqb-true b a e)) (λ a. eq-eqb a a refl) s n (λ e. omega arith) in

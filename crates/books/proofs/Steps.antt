@@ -1,7 +1,7 @@
 -- Each change of claims keeps the rule, whatever the others have.
-use Rattle.std.proofs.Common.{◌≡◌, ◌≢◌, ℕ, suc, ◌+◌, ◌-◌, ◌/◌, ◌%◌, ◌<◌, ◌≤◌, ◌==◌, Bool, true, false, List, [], ◌∷◌, if◌then◌else◌, refl, sym, ap, ◌∙◌, subst, arith, eqb-true, eq-eqb, ne_eqb, Option, Some, None}
+use Rattle.std.proofs.Common.{◌≡◌, ◌≢◌, ℕ, zero, suc, ◌+◌, ◌-◌, ◌/◌, ◌%◌, ◌<◌, ◌≤◌, ◌==◌, Bool, true, false, List, [], ◌∷◌, if◌then◌else◌, refl, sym, ap, ◌∙◌, subst, arith, eqb-true, eq-eqb, ne_eqb, Option, Some, None}
 use Rattle.sums.specs.Weights.{weigh}
-use Rattle.claims.specs.Rules.{together, Follows}
+use Rattle.claims.specs.Rules.{together, Follows, Tells}
 use Rattle.geometry.specs.declared.owner.Mark.{Mark}
 use Rattle.books.specs.declared.claim.Entry.{Entry}
 use Rattle.books.specs.declared.claim.Content.{Content}
@@ -15,7 +15,7 @@ use Rattle.books.specs.Sameness.{same_entry, same_content}
 use Rattle.books.specs.Weights.{mark_of, of_entry, stray_mark, stray_entry, marks_in, tickets_in, taken_in, tokens_in, shown, shown_in, segment_in, hand_in, file_in, shard_in, stray_in}
 use Rattle.books.specs.Rules.{Lawful, moved_to, with_lodged, IsWhole, Settled}
 use Rattle.books.proofs.Sameness.{entry_eq, entry_self, content_eq, content_self}
-use Rattle.books.proofs.Lists.{is, is_self, weigh_none, weigh_plus, weigh-without, without_head, one_below, sum_below_suc, sum_below_ones, weigh_le}
+use Rattle.books.proofs.Lists.{is, is_self, weigh_none, weigh_plus, weigh-without, without_head, none_past, one_below, sum_below_suc, sum_below_ones, weigh_le}
 use Rattle.books.proofs.Rests.{at, in_place, no_mark_at_none, no_mark_elsewhere, no_entry_elsewhere, no_file_elsewhere, no_census}
 
 pub at_self : (s : ℕ) → at s s ≡ 1
@@ -43,6 +43,10 @@ weigh-with_lodged h e ts = go (e.address == 0)
     go : (b : Bool) → weigh h (if b then ts else mark_of e ∷ ts) ≡ (if b then 0 else h (mark_of e)) + weigh h ts
     go true = omega arith
     go false = omega arith
+
+-- the account of a file is no pass
+pub file_is_no_pass : (i j : ℕ) (ts : List Mark) (ks : List Entry) (o : Option Content) (f : Content) → File i ts ks o ∷ [] ≢ Pass j f ∷ []
+file_is_no_pass i j ts ks o f e = let counts = ap (weigh (file_in (λ k. 1))) e in absurd (omega arith)
 
 module _ (l : Layout) where
   pub segment_alone : (mine rest : List Claim) (s : ℕ) → Lawful l (together mine rest) → 0 < weigh (segment_in (at s)) mine → weigh (segment_in (at s)) rest ≡ 0
@@ -102,6 +106,37 @@ module _ (l : Layout) where
         marked,
       )
 
+  -- a ticket that is out is of a block of one of the segments
+  located_at : (ts : List Mark) (ks : List Entry) (m : Mark) → 0 < times same_mark m ts → (rest : List Claim) → Lawful l (together (Hand ts ks ∷ []) rest)
+      → (0 < m.address) × ((m.address - 1) / l.blocks < l.segments)
+  located_at ts ks m held rest law = (some m.address refl, within (l.segments - s) refl)
+    where
+      s : ℕ
+      s = (m.address - 1) / l.blocks
+
+      out : 0 < weigh (marks_in (is same_mark m)) rest
+      out = let count = law.tickets (is same_mark m) in omega arith
+
+      home : weigh (stray_in l.blocks) rest ≡ 0
+      home = home_alone (Hand ts ks ∷ []) rest law
+
+      some : (a : ℕ) → m.address ≡ a → 0 < m.address
+      some zero e = let none = no_mark_at_none l.blocks m e rest home in let o = out in absurd (omega arith)
+      some (suc a) e = omega arith
+
+      alone : l.segments ≤ s → weigh (segment_in (at s)) rest ≡ 0
+      alone high = let p = law.segments (at s) in let q = none_past l.segments s high in omega arith
+
+      within : (d : ℕ) → l.segments - s ≡ d → s < l.segments
+      within zero e =
+          let high : l.segments ≤ s = omega arith in
+          let none = no_mark_elsewhere l.blocks s m refl rest (alone high) home in let o = out in absurd (omega arith)
+      within (suc d) e = omega arith
+
+  pub located : (ts : List Mark) (ks : List Entry) (m : Mark) → 0 < times same_mark m ts
+      → Follows (Lawful l) (Hand ts ks ∷ []) (Hand ts ks ∷ []) ((0 < m.address) × ((m.address - 1) / l.blocks < l.segments))
+  located ts ks m held rest law = (law, located_at ts ks m held rest law)
+
   pub takes : (k : ℕ) (es ks : List Entry) (ts : List Mark) (e : Entry) → e.number % 16 ≡ k → e.address ≡ 0
       → Follows (Lawful l) (Shard k es ∷ Hand ts ks ∷ []) (Shard k (e ∷ es) ∷ Hand ts (e ∷ ks) ∷ []) (Unit {0})
   takes k es ks ts e here bare rest law = (
@@ -127,6 +162,11 @@ module _ (l : Layout) where
       let alone = shard_alone mine rest k law (omega arith) in
       let none = no_entry_elsewhere l.blocks k e here rest alone (home_alone mine rest law) in
       let count = law.tokens (is same_entry e) in omega arith
+
+  -- a number whose token is in hand is taken
+  pub finds : (k : ℕ) (es ks : List Entry) (ts : List Mark) (e : Entry) → e.number % 16 ≡ k → 0 < times same_entry e ks
+      → Follows (Lawful l) (Shard k es ∷ Hand ts ks ∷ []) (Shard k es ∷ Hand ts ks ∷ []) (0 < times same_entry e es)
+  finds k es ks ts e here held rest law = (law, taken_here k es ks ts e here held rest law)
 
   pub gives : (k : ℕ) (es ks : List Entry) (ts : List Mark) (e : Entry) → e.number % 16 ≡ k → 0 < times same_entry e ks
       → Follows (Lawful l) (Shard k es ∷ Hand ts ks ∷ []) (Shard k (without same_entry e es) ∷ Hand (with_lodged e ts) (without same_entry e ks) ∷ []) (0 < times same_entry e es)
@@ -247,6 +287,25 @@ module _ (l : Layout) where
     tt,
   )
 
+  -- tickets and tokens go from a file to a hand or back
+  pub lodges_all : (i : ℕ) (fts ts fts' ts' : List Mark) (fks ks fks' ks' : List Entry) (f : Option Content)
+      → ((h : Mark → ℕ) → weigh h fts' + weigh h ts' ≡ weigh h fts + weigh h ts) → ((h : Entry → ℕ) → weigh h fks' + weigh h ks' ≡ weigh h fks + weigh h ks)
+      → Follows (Lawful l) (File i fts fks f ∷ Hand ts ks ∷ []) (File i fts' fks' f ∷ Hand ts' ks' ∷ []) (Unit {0})
+  lodges_all i fts ts fts' ts' fks ks fks' ks' f marks entries rest law = (
+    record {
+      tickets = λ h. let p = law.tickets h in let a = marks h in omega arith;
+      tokens = λ h. let p = law.tokens h in let a = entries h in omega arith;
+      passes = law.passes;
+      segments = law.segments;
+      files = law.files;
+      shards = law.shards;
+      hands = law.hands;
+      copies = λ h. let p = law.hands in let q = no_census h rest (omega arith) in omega arith;
+      home = law.home;
+    },
+    tt,
+  )
+
   -- 1 for this content of this file
   abbrev hit : ℕ → Content → ℕ → Content → ℕ
   hit i f j g = if j == i then is same_content f g else 0
@@ -293,9 +352,8 @@ module _ (l : Layout) where
         same,
       )
 
-  pub compares : (i : ℕ) (ts : List Mark) (ks : List Entry) (o : Option Content) (f : Content)
-      → Follows (Lawful l) (File i ts ks o ∷ Pass i f ∷ []) (File i ts ks o ∷ Pass i f ∷ []) (o ≡ Some f)
-  compares i ts ks o f rest law = (law, passed i ts ks o f rest law)
+  pub compares : (i j : ℕ) (ts : List Mark) (ks : List Entry) (o : Option Content) (f : Content) → i ≡ j → Tells (Lawful l) (File i ts ks o ∷ Pass j f ∷ []) (o ≡ Some f)
+  compares i j ts ks o f e = subst (λ (j' : ℕ). Tells (Lawful l) (File i ts ks o ∷ Pass j' f ∷ []) (o ≡ Some f)) e (passed i ts ks o f)
 
   pub issues : (i : ℕ) (ts : List Mark) (ks : List Entry) (f : Content)
       → Follows (Lawful l) (File i ts ks None ∷ []) (File i ts ks (Some f) ∷ Pass i f ∷ []) (Unit {0})
@@ -336,10 +394,6 @@ module _ (l : Layout) where
   pub notes_at : (i j : ℕ) (ts : List Mark) (ks : List Entry) (o : Option Content) (f g : Content) → i ≡ j
       → Follows (Lawful l) (File i ts ks o ∷ Pass j f ∷ []) (File i ts ks (Some g) ∷ Pass j g ∷ []) (o ≡ Some f)
   notes_at i j ts ks o f g e = subst (λ (j' : ℕ). Follows (Lawful l) (File i ts ks o ∷ Pass j' f ∷ []) (File i ts ks (Some g) ∷ Pass j' g ∷ []) (o ≡ Some f)) e (notes i ts ks o f g)
-
-  pub compares_at : (i j : ℕ) (ts : List Mark) (ks : List Entry) (o : Option Content) (f : Content) → i ≡ j
-      → Follows (Lawful l) (File i ts ks o ∷ Pass j f ∷ []) (File i ts ks o ∷ Pass j f ∷ []) (o ≡ Some f)
-  compares_at i j ts ks o f e = subst (λ (j' : ℕ). Follows (Lawful l) (File i ts ks o ∷ Pass j' f ∷ []) (File i ts ks o ∷ Pass j' f ∷ []) (o ≡ Some f)) e (compares i ts ks o f)
 
   pub spends_at : (i j : ℕ) (ts : List Mark) (ks : List Entry) (o : Option Content) (f : Content) → i ≡ j
       → Follows (Lawful l) (File i ts ks o ∷ Pass j f ∷ []) (File i ts ks None ∷ []) (o ≡ Some f)

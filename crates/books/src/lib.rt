@@ -20,6 +20,7 @@ pub mod books;
 pub mod claim;
 pub mod deal;
 pub mod enough;
+pub mod lodging;
 pub mod looks;
 pub mod marks;
 pub mod numbers;

@@ -171,7 +171,7 @@ fn a_file_is_written_and_deleted(rt: HostRuntime) -> Result<(), Fail> {
     assert_eq!(rt; seen, (1, 2, true));
     let mut pass = books.issue::<Longer>(&mut file);
     let mut second = books.issue::<Longer>(&mut other);
-    books.compare(&mut file, &mut pass);
+    books.compare(&file, &pass);
     books.differ(&mut pass, &mut second);
     books.note::<Longer>(&mut file, &mut pass);
     books.spend(&mut file, pass);

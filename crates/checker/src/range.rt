@@ -2,12 +2,13 @@
 ghost use Rattle.std.specs.Prelude.{◌≡◌, ◌≢◌, ◌<◌, ◌≤◌, ◌↔◌, ◌*◌, ◌+◌, ◌^◌, ℕ, [], IsTrue, All, IfSome, length};
 ghost use Rattle.geometry.specs.Area.{block_count};
 ghost use Rattle.geometry.specs.Shape.{segment_blocks};
-ghost use Rattle.image.specs.Node.{HasEntries};
-ghost use Rattle.image.specs.Rules.{IsPlace, IsEntry, HasRange, IsInRange, IsNodeOf, TableHoldsNodes};
+ghost use Rattle.image.specs.Image.{no_node, entry_of, node_of};
+ghost use Rattle.image.specs.Node.{HasEntries, IsPlain};
+ghost use Rattle.image.specs.Rules.{IsPlace, IsEntry, HasRange, NodesHaveEntries, IsInRange, IsNodeOf, TableHoldsNodes};
 ghost use Rattle.image.specs.View.{image_view, node_view, node_or_none};
 ghost use Rattle.geometry.specs.Class.{class_code};
 
-use geometry::{Class, Geometry, Shape};
+use geometry::{Class, Geometry, Kind, Shape};
 use image::class::class_code;
 use image::{Image, Node, NodeEntry, Place, SegmentInfo};
 
@@ -25,12 +26,19 @@ pub fn places_in_range(geometry: &Geometry, logs: &[Option<Place>]) -> bool
     true
 }
 
-/// Whether each entry of the table names a number and a block that there are.
+// Whether an entry names a number and a block that there are, or neither.
+fn is_entry(geometry: &Geometry, entry: NodeEntry) -> bool
+    ensures { IsTrue result ↔ IsEntry geometry.now entry }
+{
+    let is_whole = (entry.inode == 0) == (entry.address == 0);
+    entry.inode <= geometry.nodes && entry.address <= geometry.blocks() && is_whole
+}
+
+/// Whether each entry of the table names a number and a block that there are, or neither.
 pub fn entries_in_range(geometry: &Geometry, table: &[NodeEntry]) -> bool
     ensures { IsTrue result ↔ All (IsEntry geometry.now) table.now }
 {
-    let last = geometry.blocks();
-    table.iter().all(|entry| entry.inode <= geometry.nodes && entry.address <= last)
+    table.iter().all(|entry| is_entry(geometry, *entry))
 }
 
 /// Whether each segment has a bit for each of its blocks.
@@ -62,6 +70,16 @@ pub fn has_entries(shape: Shape, node: &Node) -> bool
     }
 }
 
+// Whether a node has no length and no kind of its own, or is an inode.
+fn is_plain(node: &Node) -> bool
+    ensures { IsTrue result ↔ IsPlain (node_view node.now) }
+{
+    match node.class {
+        Class::Inode => true,
+        _ => node.length == 0 && node.kind == Kind::File,
+    }
+}
+
 /// Whether a node's numbers are in range.
 pub fn node_in_range(geometry: &Geometry, node: &Node) -> bool
     ensures { IsTrue result ↔ HasRange geometry.now (node_view node.now) }
@@ -71,18 +89,45 @@ pub fn node_in_range(geometry: &Geometry, node: &Node) -> bool
     let children = all_up_to(&node.children, geometry.nodes);
     let length = node.length <= geometry.shape.largest_length();
     let inode = node.inode <= geometry.nodes;
-    inode && entries && addresses && children && length
+    inode && entries && addresses && children && length && is_plain(node)
+}
+
+// Whether there is no node, or one whose numbers are in range.
+fn slot_in_range(geometry: &Geometry, slot: &Option<Node>) -> bool
+    ensures { IsTrue result ↔ HasRange geometry.now (node_or_none slot.now) }
+{
+    match slot {
+        Some(node) => node_in_range(geometry, node),
+        None => true,
+    }
 }
 
 /// Whether all nodes' numbers are in range.
 pub fn nodes_in_range(geometry: &Geometry, nodes: &[Option<Node>]) -> bool
     ensures { IsTrue result ↔ All (λ node. HasRange geometry.now (node_or_none node)) nodes.now }
 {
-    for node in nodes {
-        if let Some(found) = node {
-            if !node_in_range(geometry, found) {
-                return false;
-            }
+    for slot in nodes {
+        if !slot_in_range(geometry, slot) {
+            return false;
+        }
+    }
+    true
+}
+
+// Whether a number has an entry in the table, or no node.
+fn is_owned(image: &Image, nid: u32) -> bool
+    ensures { IsTrue result ↔ ((entry_of (image_view image.now) nid).address ≡ 0 → node_of (image_view image.now) nid ≡ no_node) }
+{
+    image.entry(nid).address != 0 || image.node(nid).is_none()
+}
+
+/// Whether each node has an entry in the table.
+pub fn nodes_have_entries(geometry: &Geometry, image: &Image) -> bool
+    ensures { IsTrue result ↔ NodesHaveEntries geometry.now (image_view image.now) }
+{
+    for nid in 0..geometry.nodes + 1 {
+        if !is_owned(image, nid) {
+            return false;
         }
     }
     true
@@ -101,7 +146,7 @@ pub fn lengths_agree(geometry: &Geometry, image: &Image) -> bool
         && image.nodes.len() == geometry.nodes as usize
 }
 
-/// Whether the tables have their lengths and all numbers are in range.
+/// Whether the tables have their lengths, all numbers are in range, and nodes and entries belong together.
 pub fn is_in_range(geometry: &Geometry, image: &Image) -> bool
     ensures { IsTrue result ↔ IsInRange geometry.now (image_view image.now) }
 {
@@ -117,7 +162,10 @@ pub fn is_in_range(geometry: &Geometry, image: &Image) -> bool
     if !bits_in_range(geometry, &image.sit) {
         return false;
     }
-    nodes_in_range(geometry, &image.nodes)
+    if !nodes_in_range(geometry, &image.nodes) {
+        return false;
+    }
+    nodes_have_entries(geometry, image)
 }
 
 /// Whether the block of an entry is a node of its number and inode, of a class that the number may have.

@@ -10,6 +10,11 @@ enum Damage {
     NoVersion,
     InodeOfThree,
     InodeNumberTooHigh,
+    EntryWithoutAddress,
+    EntryWithoutInode,
+    NodeWithoutItsEntry,
+    DirectNodeWithLength,
+    DirectNodeOfDirectory,
     TwoLogsInOneSegment,
     WrongNode,
     NodeWithoutEntry,
@@ -104,20 +109,36 @@ fn inode(alloc: Global, damage: Damage) -> Result<Node, AllocError> {
     })
 }
 
-fn direct_node(alloc: Global) -> Result<Node, AllocError> {
+fn direct_node(alloc: Global, damage: Damage) -> Result<Node, AllocError> {
+    let has_length = damage == Damage::DirectNodeWithLength;
+    let has_kind = damage == Damage::DirectNodeOfDirectory;
     Ok(Node {
         nid: 5,
         inode: 1,
         class: Class::Direct,
-        length: 0,
-        kind: Kind::File,
+        length: if has_length { 1 } else { 0 },
+        kind: if has_kind { Kind::Dir } else { Kind::File },
         addresses: vec![in alloc; 0; 10]?,
         children: Vec::new(alloc),
     })
 }
 
+/// The entry of number 5, and whether there is a node of that number.
+fn second_entry(damage: Damage) -> (NodeEntry, bool) {
+    let (inode, address, has_node) = match damage {
+        Damage::NodeOutsideTheTree => (1, 10, true),
+        Damage::DirectNodeWithLength => (1, 10, true),
+        Damage::DirectNodeOfDirectory => (1, 10, true),
+        Damage::EntryWithoutAddress => (1, 0, false),
+        Damage::EntryWithoutInode => (0, 10, true),
+        Damage::NodeWithoutItsEntry => (0, 0, true),
+        _ => (0, 0, false),
+    };
+    (NodeEntry { inode, address }, has_node)
+}
+
 fn image_with(alloc: Global, damage: Damage) -> Result<Image, AllocError> {
-    let stray = damage == Damage::NodeOutsideTheTree;
+    let (second, has_node) = second_entry(damage);
     let mut nat = Vec::new(alloc);
     let mut nodes = Vec::new(alloc);
     for nid in 1..9 {
@@ -126,10 +147,7 @@ fn image_with(alloc: Global, damage: Damage) -> Result<Image, AllocError> {
                 inode: 1,
                 address: 9,
             },
-            5 if stray => NodeEntry {
-                inode: 1,
-                address: 10,
-            },
+            5 => second,
             _ => NodeEntry {
                 inode: 0,
                 address: 0,
@@ -137,7 +155,7 @@ fn image_with(alloc: Global, damage: Damage) -> Result<Image, AllocError> {
         })?;
         nodes.push(match nid {
             1 => Some(inode(alloc, damage)?),
-            5 if stray => Some(direct_node(alloc)?),
+            5 if has_node => Some(direct_node(alloc, damage)?),
             _ => None,
         })?;
     }
@@ -170,6 +188,11 @@ fn each_damage_has_the_number_of_its_rule(rt: HostRuntime) {
         (Damage::NoVersion, 1),
         (Damage::InodeOfThree, 1),
         (Damage::InodeNumberTooHigh, 1),
+        (Damage::EntryWithoutAddress, 1),
+        (Damage::EntryWithoutInode, 1),
+        (Damage::NodeWithoutItsEntry, 1),
+        (Damage::DirectNodeWithLength, 1),
+        (Damage::DirectNodeOfDirectory, 1),
         (Damage::TwoLogsInOneSegment, 2),
         (Damage::WrongNode, 3),
         (Damage::NodeWithoutEntry, 4),

@@ -8,11 +8,12 @@ use Rattle.device.specs.Disk.{Leaves}
 use Rattle.image.specs.Image.{Image}
 use Rattle.image.specs.Node.{numbers}
 use Rattle.image.specs.Pack.{pack_body, log_bytes, entry_bytes, segment_bytes, summary_bytes}
-use Rattle.packs.specs.Pack.{version_of, picked}
+use Rattle.image.specs.Slots.{version_of}
+use Rattle.packs.specs.Pack.{slots_in, picked}
 use Rattle.packs.specs.Area.{reading_of, body_bytes}
 use Rattle.packs.specs.Device.{AreSettled}
 use Rattle.packs.specs.declared.packs.Packs.{Packs}
-use Rattle.packs.proofs.Picking.{settled_picks}
+use Rattle.image.proofs.Picking.{settled_picks}
 use Rattle.tables.specs.Grammar.{SpellsTables}
 use Rattle.checkpoint.specs.Holding.{HoldsTables}
 
@@ -29,6 +30,6 @@ pub settled_holds : {D : Type 0} (seen : D → List ℕ) (may_leave : D → List
     → Leaves may_leave packs.meta (HoldsTables geometry image)
 settled_holds seen may_leave geometry image packs body size spelled settled area left = record {
   body = body;
-  picked = subst (λ len. picked (reading_of len) area ≡ Some body) size (settled_picks (reading_of packs.len) area body (settled.left area left).packs);
+  picked = subst (λ len. picked (reading_of len) area ≡ Some body) size (settled_picks (slots_in (reading_of packs.len) area) body (settled.left area left).packs);
   spelled = spelled;
 }

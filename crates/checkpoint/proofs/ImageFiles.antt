@@ -65,26 +65,32 @@ module _ (blocks : ℕ → Block) where
       | inr ne ↦ found_before (entries n) n (address n) i ne (past_entries n n (omega arith)) ∙ in_entries n i (omega arith)
     ]
 
-module _ {B L : Type 0} (image : Image) (state : FileState B L) (is : IsStateOf image state) (file : IsFile state) (blocks : ℕ → Block) (held : HoldContents blocks state) where
-  abbrev address : ℕ → ℕ
-  address i = data_address state.shape image state.token.number i
-
+-- the blocks that a state shows, by the addresses of its tickets
+module _ {B L : Type 0} (state : FileState B L) (file : IsFile state) (blocks : ℕ → Block) (held : HoldContents blocks state)
+    (address : ℕ → ℕ) (slots : (i : ℕ) → i < state.length → address i ≡ address_of (ticket_at state i)) where
   same_blocks : (i : ℕ) → get (from_entries {R = nat_cmp} (entries blocks address state.length)) i ≡ get (file_of state).blocks i
   same_blocks i =
       get-from_entries nat_cmp_total (entries blocks address state.length) i
       ∙ elim (cases_lt i state.length) [
         | inl lt ↦ in_entries blocks address state.length i lt
-            ∙ ap (content blocks) (sym (is.slots i lt))
+            ∙ ap (content blocks) (slots i lt)
             ∙ same_content blocks (ticket_at state i) (λ t e. held i t e)
         | inr ge ↦ past_entries blocks address state.length i ge ∙ sym (ap content_of (file.within i ge))
       ]
       ∙ sym ((shows_file_of state file).blocks i)
 
+  pub shown_at : from_entries {R = nat_cmp} (filter_map (λ i. block_at blocks i (address i)) (below state.length)) ≡ (file_of state).blocks
+  shown_at = same_map nat_cmp_total nat_cmp-IsAntisymmetric _ _ same_blocks
+
+module _ {B L : Type 0} (image : Image) (state : FileState B L) (is : IsStateOf image state) (file : IsFile state) (blocks : ℕ → Block) (held : HoldContents blocks state) where
+  abbrev address : ℕ → ℕ
+  address i = data_address state.shape image state.token.number i
+
   pub shown_is_of_image : image_file state.shape image blocks state.token.number ≡ file_of state
   shown_is_of_image =
       let length : (node_of image state.token.number).length ≡ state.length = sym is.length in
       let blocks_same : from_entries {R = nat_cmp} (entries blocks address state.length) ≡ (file_of state).blocks
-      = same_map nat_cmp_total nat_cmp-IsAntisymmetric _ _ same_blocks in
+      = shown_at state file blocks held address (λ i lt. sym (is.slots i lt)) in
       let all : from_entries {R = nat_cmp} (entries blocks address (node_of image state.token.number).length) ≡ (file_of state).blocks
       = ap (λ n. from_entries {R = nat_cmp} (entries blocks address n)) length ∙ blocks_same in
       λ k. record { kind = sym is.kind k; length = length k; blocks = all k }

@@ -8,7 +8,6 @@ ghost use Rattle.image.specs.View.{image_view};
 ghost use Rattle.packs.specs.Pack.{picked, Between};
 ghost use Rattle.packs.specs.Area.{reading_of, body_bytes};
 ghost use Rattle.packs.specs.Device.{IsSameArea, KeepsArea};
-ghost use Rattle.tables.specs.Grammar.{HasWholeEntries};
 ghost use Rattle.checkpoint.specs.Holding.{AreWhole, HoldsTables, counting_body};
 
 use crate::{ImagePacks, Stored, Taken};
@@ -64,7 +63,6 @@ impl<M: Meta> ImagePacks<M> {
     ) -> Result<(ImagePacks<M>, Stored<M, B>), (Error, M)>
         requires area { length (M.seen meta) ≡ meta_bytes geometry }
         requires range { IsInRange geometry (image_view taken.image) }
-        requires entries { HasWholeEntries (image_view taken.image) }
         requires first { taken.image.version ≡ 1 }
 
         ensures whole { IfOk result (λ made. AreWhole M.seen M.may_leave made.0) }

@@ -3,7 +3,7 @@ ghost use Rattle.std.specs.Prelude.{◌≡◌, ◌⊎◌, ◌<◌, [], OnErr, If
 ghost use Rattle.geometry.specs.declared.error.Error.TheVariants.{NoMemory, Device, BadImage};
 ghost use Rattle.device.specs.Disk.{IsQuiet};
 ghost use Rattle.image.specs.View.{image_view};
-ghost use Rattle.packs.specs.Pack.{slot_of};
+ghost use Rattle.image.specs.Slots.{slot_of};
 ghost use Rattle.packs.specs.Area.{slot_at};
 ghost use Rattle.tables.specs.Grammar.{SpellsTables, SpellsNoTables};
 ghost use Rattle.checkpoint.specs.Holding.{AreWhole, counting_body};

@@ -6,7 +6,6 @@ ghost use Rattle.image.specs.View.{image_view};
 ghost use Rattle.books.specs.Lists.{times};
 ghost use Rattle.books.specs.Sameness.{same_entry};
 ghost use Rattle.nodes.specs.File.{IsBare};
-ghost use Rattle.tables.specs.Grammar.{HasWholeEntries};
 ghost use Rattle.checkpoint.specs.Holding.{AreWhole};
 
 use crate::{ImagePacks, Stored, Taken};
@@ -61,7 +60,6 @@ fn area_of(alloc: Global, file: &[u8]) -> Result<MemMeta, Error> {
 
 fn read_image(alloc: Global, file: &[u8]) -> Result<(Geometry, Image), Error>
     ensures range { IfOk result (λ pair. IsInRange pair.0 (image_view pair.1)) }
-    ensures entries { IfOk result (λ pair. HasWholeEntries (image_view pair.1)) }
 {
     let (geometry, image) = Image::read(alloc, file)?;
     Ok((geometry, image))
@@ -75,7 +73,6 @@ fn opened<M: Meta + Drop>(
 ) -> Result<(ImagePacks<M>, Image), Error>
     ensures whole { IfOk result (λ pair. AreWhole M.Meta.seen M.Meta.may_leave pair.0) }
     ensures range { IfOk result (λ pair. IsInRange pair.0.geometry (image_view pair.1)) }
-    ensures entries { IfOk result (λ pair. HasWholeEntries (image_view pair.1)) }
 {
     let (geometry, image) = read_image(alloc, file)?;
     if meta.len() != geometry.meta_bytes() {
@@ -96,10 +93,8 @@ fn write_total<M: Meta>(
 ) -> Result<Image, Error>
     requires whole { AreWhole M.seen M.may_leave packs.old }
     requires range { IsInRange packs.old.geometry (image_view image) }
-    requires entries { HasWholeEntries (image_view image) }
     ensures whole { OnOk result (AreWhole M.seen M.may_leave packs.new) }
     ensures range { IfOk result (λ image. IsInRange packs.new.geometry (image_view image)) }
-    ensures entries { IfOk result (λ image. HasWholeEntries (image_view image)) }
 {
     if packs.area.version > 1_000 {
         return Err(Error::Exhausted);

@@ -10,7 +10,7 @@ ghost use Rattle.image.specs.View.{image_view};
 ghost use Rattle.packs.specs.Pack.{Between};
 ghost use Rattle.packs.specs.Area.{reading_of};
 ghost use Rattle.packs.specs.Device.{IsSameArea, KeepsArea};
-ghost use Rattle.tables.specs.Grammar.{HasWholeEntries, SpellsTables};
+ghost use Rattle.tables.specs.Grammar.{SpellsTables};
 ghost use Rattle.checkpoint.specs.Holding.{AreWhole, HoldsTables, counting_body, read_with};
 
 use crate::{ImagePacks, Stored, Taken};
@@ -29,7 +29,6 @@ impl<M: Meta> ImagePacks<M> {
     pub fn write<B: Block>(&mut self, alloc: Global, taken: Taken<B>) -> Result<Stored<M, B>, Error>
         requires whole { AreWhole M.seen M.may_leave self.old }
         requires range { IsInRange self.old.geometry (image_view taken.image) }
-        requires entries { HasWholeEntries (image_view taken.image) }
         requires next { taken.image.version ≡ self.old.area.version + 1 }
 
         ensures whole { OnOk result (AreWhole M.seen M.may_leave self.new) }
@@ -64,7 +63,6 @@ impl<M: Meta> ImagePacks<M> {
     fn store(&mut self, alloc: Global, image: &Image) -> Result<packs::Stored<M>, Error>
         requires whole { AreWhole M.seen M.may_leave self.old }
         requires range { IsInRange self.old.geometry (image_view image.now) }
-        requires entries { HasWholeEntries (image_view image.now) }
         requires next { image.now.version ≡ self.old.area.version + 1 }
 
         ensures whole { OnOk result (AreWhole M.seen M.may_leave self.new) }

@@ -1,11 +1,14 @@
 -- What a step, a cut and a join of holders keep.
-use Rattle.std.proofs.Common.{◌≡◌, ℕ, List, [], ◌∷◌, ◌++◌, set, take, drop, flat_map, refl, sym, subst, arith}
-use mathlib.Core.Option.{some}
+use Rattle.std.proofs.Common.{◌≡◌, ◌≢◌, ℕ, ap, ◌∙◌, inl, inr, List, [], ◌∷◌, ◌++◌, set, take, drop, flat_map, refl, sym, subst, arith}
+use mathlib.Core.Option.{some, some-injective}
+use Rattle.std.proofs.lemmas.Bool.{cases_eq}
+use Rattle.atomic_table.proofs.Lists.{set_else}
+use Rattle.shown.specs.Shown.{Tells as SeatsTell}
 use lib.ListN.{get_elem?}
 use Rattle.atomic_table.specs.Table.{Allows, Splits, Joins, keeps, Me}
 use Rattle.sums.specs.Weights.{weigh}
 use Rattle.sums.proofs.Weighing.{weigh-append}
-use Rattle.claims.specs.Rules.{together, Follows, Kept}
+use Rattle.claims.specs.Rules.{together, Follows, Tells, Kept}
 use Rattle.claims.proofs.Weighing.{weigh-cut, weigh-set_found, weigh-flat}
 
 -- what the others have
@@ -58,3 +61,14 @@ module _ {S C : Type 0} (lawful : ((C → ℕ) → ℕ) → Type 0) where
       let b = weigh-set_found (λ x. weigh h x) (set s.views id (v ++ w)) other w [] there in
       let c = weigh-append h v w in omega arith)
       holds
+
+  -- two holders with different claims are two, and the others have the rest
+  pub tells : (i j : ℕ) (v w : List C) (told : Type 0) → v ≢ w → Tells lawful (v ++ w) told → SeatsTell {S = S} {V = List C} (Kept lawful) i (v ∷ []) j (w ∷ []) told
+  tells i j v w told apart rule s holds one other = elim (cases_eq j i) [
+    | inl e ↦ absurd (apart (some-injective v w (sym one ∙ (ap (λ k. get_elem? s.views k) (sym e) ∙ other))))
+    | inr ne ↦ rule (others (set s.views i []) j) (same_weights lawful _ (together (v ++ w) (others (set s.views i []) j)) (λ h.
+        let a = weigh-mine h s.views i v one in
+        let b = weigh-flat h (set s.views i []) in
+        let c = weigh-mine h (set s.views i []) j w (set_else s.views i j [] ne ∙ other) in
+        let d = weigh-append h v w in omega arith) holds)
+  ]

@@ -1,12 +1,13 @@
 //! A book, and the steps of its holders.
-ghost use Rattle.std.specs.Prelude.{◌≡◌, ℕ, ◌++◌, ◌<◌, take, drop, IfOk};
+ghost use Rattle.std.specs.Prelude.{◌≡◌, ◌≢◌, ℕ, ◌++◌, ◌<◌, take, drop, IfOk};
 ghost use Rattle.sums.specs.Weights.{weigh};
-ghost use Rattle.claims.specs.Rules.{Follows};
+ghost use Rattle.claims.specs.Rules.{Follows, Tells};
 
 use crate::holder::Holder;
-use crate::law::{Change, Law};
-use crate::plays::{Both, Changes, Count, Cut, Obeys};
+use crate::law::{Change, Law, Lesson};
+use crate::plays::{Both, Changes, Count, Cut, Learned, Obeys};
 use atomic_table::Table;
+use shown::{Shown, agree};
 use std::alloc::{AllocError, Global};
 use std::collections::LinkedList;
 use std::marker::{Brand, Model};
@@ -36,6 +37,7 @@ impl<C, K, L: Law<C, K>> Book<C, K, L> {
         ensures holder { IfOk result (λ r. (r.1.book ≡ r.0.book) × (r.1.claims ≡ L.first key.now)) }
     {
         let (table, seat) = Table::of_words(alloc, &[0], key)?;
+        let seat = Shown::of_seat(seat);
         Ok((Book { table }, Holder { seat }))
     }
 
@@ -47,9 +49,24 @@ impl<C, K, L: Law<C, K>> Book<C, K, L> {
         ensures claims { holder.new.claims ≡ M.after }
         ensures told { M.told }
     {
-        self.table
-            .shared
-            .fetch_add::<Changes<M>>(&mut holder.seat, 0, 1);
+        let mut seat = holder.seat.take_seat::<()>();
+        self.table.shared.fetch_add::<Changes<M>>(&mut seat, 0, 1);
+        holder.seat = Shown::of_seat(seat);
+    }
+
+    /// Tells what the law says of two holders' claims, whatever the others have. Nothing runs and nothing changes, so both
+    /// may be lent to many at once. They have different claims, so they are two.
+    pub fn tell<M: Lesson>(&self, one: &Holder<C>, other: &Holder<C>)
+        requires books { (one.now.book ≡ self.now.book) × (other.now.book ≡ self.now.book) }
+        requires apart { one.now.claims ≢ other.now.claims }
+        requires rule { Tells (L.lawful self.now.key) (one.now.claims ++ other.now.claims) M.told }
+        ensures told { M.told }
+    {
+        agree::<(), LinkedList<C>, K, Obeys<L>, Learned<M>>(
+            &self.table.shared,
+            &one.seat,
+            &other.seat,
+        );
     }
 
     fn cut<N: Count>(&self, from: &mut Holder<C>) -> Holder<C>
@@ -57,8 +74,12 @@ impl<C, K, L: Law<C, K>> Book<C, K, L> {
         ensures books { (from.new.book ≡ from.old.book) × (result.book ≡ from.old.book) }
         ensures claims { (from.new.claims ≡ take N.kept from.old.claims) × (result.claims ≡ drop N.kept from.old.claims) }
     {
-        let seat = self.table.shared.split_seat::<Cut<N>>(&mut from.seat);
-        Holder { seat }
+        let mut seat = from.seat.take_seat::<()>();
+        let cut = self.table.shared.split_seat::<Cut<N>>(&mut seat);
+        from.seat = Shown::of_seat(seat);
+        Holder {
+            seat: Shown::of_seat(cut),
+        }
     }
 
     fn part_by<N: Count>(&self, from: &mut Holder<C>, keep: usize) -> Holder<C>
@@ -86,8 +107,12 @@ impl<C, K, L: Law<C, K>> Book<C, K, L> {
         ensures book { holder.new.book ≡ holder.old.book }
         ensures claims { holder.new.claims ≡ holder.old.claims ++ other.claims }
     {
-        let Holder { seat } = other;
-        self.table.shared.join_seat::<Both>(&mut holder.seat, seat);
+        let Holder { seat: mut others } = other;
+        let mut seat = holder.seat.take_seat::<()>();
+        self.table
+            .shared
+            .join_seat::<Both>(&mut seat, others.take_seat::<()>());
+        holder.seat = Shown::of_seat(seat);
     }
 
     /// Puts all claims past the first `keep` behind those of `to`.

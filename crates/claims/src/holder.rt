@@ -1,5 +1,5 @@
 //! Who has claims.
-use atomic_table::Seat;
+use shown::Shown;
 use std::collections::LinkedList;
 use std::marker::Model;
 
@@ -7,16 +7,16 @@ use std::marker::Model;
 /// book, and nobody has them any more.
 #[derive(Drop)]
 pub struct Holder<C> {
-    pub(crate) seat: Seat<(), LinkedList<C>>,
+    pub(crate) seat: Shown<LinkedList<C>>,
 }
 
 impl<C> Model for Holder<C> {
-    ghost use Rattle.std.specs.Prelude.{◌≡◌, []};
-    ghost use Rattle.claims.specs.Rules.{Held};
+    ghost use Rattle.std.specs.Prelude.{◌≡◌, [], ◌∷◌};
+    ghost use Rattle.claims.specs.Rules.{Held, first_view};
 
     ghost Value = { Held C };
 
-    ghost view = { λ h. record { book = h.seat.table_id; claims = h.seat.me.0 } };
+    ghost view = { λ h. record { book = h.seat.table_id; claims = first_view h.seat.views } };
 
-    ghost invariant = { λ h. h.seat.me.1 ≡ [] };
+    ghost invariant = { λ h. h.seat.views ≡ first_view h.seat.views ∷ [] };
 }

@@ -28,3 +28,13 @@ impl<C> Change<C> for Brand {
 
     ghost told = { Unit {0} };
 }
+
+/// What is learned of two holders' claims, for the proof alone. A type of the caller's names it, or a call at `Brand` picks
+/// it.
+pub trait Lesson {
+    ghost told: { Type 0 };
+}
+
+impl Lesson for Brand {
+    ghost told = { Unit {0} };
+}

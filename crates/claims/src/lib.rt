@@ -17,4 +17,4 @@ mod tests;
 
 pub use book::Book;
 pub use holder::Holder;
-pub use law::{Change, Law};
+pub use law::{Change, Law, Lesson};

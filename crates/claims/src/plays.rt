@@ -1,8 +1,9 @@
 //! The law of a book as a rule of its table, and what each step of the table does to the claims.
 ghost use Rattle.std.specs.Prelude.{◌≡◌, ℕ, [], ◌++◌, take, drop};
 
-use crate::law::{Change, Law};
+use crate::law::{Change, Law, Lesson};
 use atomic_table::{Join, Play, Split, TableRule};
+use shown::Fact;
 use std::collections::LinkedList;
 use std::marker::{Brand, PhantomData};
 
@@ -55,4 +56,13 @@ impl<C> Join<LinkedList<C>> for Both {
     ghost both = { λ v w. v ++ w };
 
     ghost spent = { [] };
+}
+
+/// What is learned of two holders.
+pub struct Learned<M> {
+    lesson: PhantomData<M>,
+}
+
+impl<C, M: Lesson> Fact<LinkedList<C>> for Learned<M> {
+    ghost told = { λ vs ws. M.told };
 }

@@ -6,6 +6,8 @@ use Rattle.geometry.specs.declared.kind.Kind.{Kind}
 use Rattle.image.specs.declared.image.Node.{Node as NodeValue}
 use Rattle.image.specs.Node.{Node, Spells, numbers, kind_code}
 use Rattle.image.specs.View.{node_view}
+use Rattle.geometry.specs.declared.class.Class.{Class}
+use Rattle.geometry.specs.Class.{class_code}
 
 -- what an inode has before its addresses, in so many bytes
 unfoldable pub head_of : ℕ → ℕ → Kind → List ℕ
@@ -14,6 +16,18 @@ head_of size length kind = little_bytes 4 length ++ kind_code kind ∷ replicate
 -- what stands at the end of each node: its number, its file's inode, its class, and zeros
 unfoldable pub tail_of : ℕ → ℕ → ℕ → List ℕ
 tail_of nid inode class = numbers (nid ∷ inode ∷ class ∷ []) ++ replicate 12 0
+
+-- the node of these fields
+abbrev pub lent_node : ℕ → ℕ → Class → ℕ → Kind → List ℕ → List ℕ → Node
+lent_node nid inode class length kind addresses children = record {
+  nid = nid;
+  inode = inode;
+  class = class_code class;
+  length = length;
+  kind = kind;
+  addresses = addresses;
+  children = children;
+}
 
 -- no node has this block
 abbrev pub SpellsNone : Shape → List ℕ → Type 0

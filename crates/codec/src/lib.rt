@@ -9,7 +9,7 @@ mod encode;
 mod kind;
 
 pub use decode::decode_node;
-pub use encode::encode_node;
+pub use encode::{LentNode, encode_lent, encode_node};
 
 #[cfg(test)]
 mod tests;

@@ -11,8 +11,9 @@ use Rattle.image.specs.Node.{node_bytes}
 use Rattle.image.specs.Image.{Image, no_entry, no_node, no_summary, is_marked, summary_at}
 use Rattle.geometry.specs.declared.owner.Owner.TheVariants.{Node, Data}
 use Rattle.image.specs.Rules.{IsLawful, MarkedIsNamed}
-use Rattle.image.specs.Reading.{image_in, number_at}
+use Rattle.image.specs.Reading.{image_in}
 use Rattle.image.specs.Pack.{pack_body}
+use Rattle.image.specs.Slots.{version_of}
 use Rattle.geometry.specs.declared.state.State.TheVariants.{Free, Open}
 use Rattle.geometry.specs.Address.{segment_of, offset_of}
 use Rattle.geometry.specs.Segment.{unfilled, filled, IsVacant}
@@ -46,6 +47,7 @@ empty_is_lawful = lawful_by_tests small empty_image (record {
   summaries = refl;
   as_many = refl;
   nodes = refl;
+  owned = refl;
   apart = refl;
   holds = refl;
   fit = refl;
@@ -97,7 +99,7 @@ none_named offset =
     ]
 
 pub begins : IsFormatted small begin
-unfolding begin empty_body small empty_image plain_segment
+unfolding begin empty_body small empty_image plain_segment version_of
 begins = record {
   phase = refl;
   version = refl;
@@ -172,8 +174,8 @@ told a owner e =
     subst (λ (x : ℕ). Told x owner) at (refl, ap (λ (o : Option Owner). summary_of (unwrap_or o owner)) first.1))
     (λ isn't has. absurd (none_some _ owner (none_named (offset_of Tiny a)) has))) named.1
 
-version_of_body : number_at next_body 0 ≡ 2
-unfolding next_body one_file
+version_of_body : version_of next_body ≡ 2
+unfolding next_body one_file version_of
 version_of_body = refl
 
 may_write : MayWrite small with_node next_body

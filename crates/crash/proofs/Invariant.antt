@@ -7,8 +7,8 @@ use Rattle.geometry.specs.Address.{segment_of, offset_of}
 use Rattle.geometry.specs.File.{Block}
 use Rattle.image.specs.Image.{is_marked}
 use Rattle.image.specs.Rules.{IsLawful}
-use Rattle.image.specs.Reading.{image_in, number_at}
-use Rattle.image.specs.Pack.{Slot}
+use Rattle.image.specs.Reading.{image_in}
+use Rattle.image.specs.Slots.{Slot, version_of}
 use Rattle.geometry.specs.declared.state.State.{State}
 use Rattle.geometry.specs.declared.state.State.TheVariants.{Free, Open, Sealed, Prefree}
 use Rattle.crash.specs.Core.{Segment, Written, Phase, idle, body_written, body_synced, footer_written, footer_synced, mending, Core, current, other, owner_at}
@@ -53,7 +53,7 @@ IsLive shape segments address =
 pub record IsStored (geometry : Geometry) (written : List Written) (slot : Slot) (version : ℕ) (w : Written) : Type 0 where
   pub was_written : Contains written w
   pub lawful : IsLawful geometry (image_in geometry w.body w.blocks)
-  pub header : number_at w.body 0 ≡ version
+  pub header : version_of w.body ≡ version
   pub body : slot.body ≡ w.body
 
 -- the marked blocks are as they were

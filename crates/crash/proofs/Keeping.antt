@@ -9,7 +9,7 @@ use Rattle.geometry.specs.declared.shape.Shape.{Shape}
 use Rattle.geometry.specs.declared.geometry.Geometry.{Geometry}
 use Rattle.geometry.specs.Address.{address_of, segment_of, offset_of}
 use Rattle.geometry.specs.File.{Block}
-use Rattle.image.specs.Pack.{Slot}
+use Rattle.image.specs.Slots.{Slot}
 use Rattle.geometry.specs.declared.state.State.{State}
 use Rattle.geometry.specs.declared.state.State.TheVariants.{Free, Open, Sealed, Prefree}
 use Rattle.geometry.specs.Life.{Stage, StepFrom, LifeStep}

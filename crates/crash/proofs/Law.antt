@@ -2,15 +2,17 @@
 use Rattle.std.proofs.Common.{◌≡◌, refl, sym, ◌∙◌, ap, subst, ℕ, ◌<◌, List, [], ◌∷◌, arith}
 use Rattle.std.specs.Prelude.{Contains}
 use Rattle.geometry.specs.declared.geometry.Geometry.{Geometry}
-use Rattle.image.specs.Reading.{image_in, number_at}
-use Rattle.image.specs.Pack.{Slot}
+use Rattle.image.specs.Reading.{image_in}
+use Rattle.image.specs.Slots.{Slot, version_of}
+use Rattle.image.proofs.Picking.{slot_chosen}
+use Rattle.crash.specs.Disk.{SlotsLaw}
 use Rattle.image.specs.Files.{files}
 use Rattle.crash.specs.Core.{Written, Core, Left, Event, append, spoil, release, migrate, move, write_body, sync, write_footer, advance, crash, CoreStep, Run, IsFormatted, image_of, current, other, appended}
 use Rattle.crash.specs.Crash.{CrashLaw, IsKept}
 use Rattle.crash.proofs.Invariant.{marks_are, are_marks, Pending, Invariant}
 use Rattle.crash.proofs.Keeping.{none_owned, append_keeps, spoil_keeps, release_keeps, move_keeps, write_keeps, sync_keeps, footer_keeps, advance_keeps}
 use Rattle.image.proofs.Frame.{same_files}
-use Rattle.crash.proofs.Mounting.{IsFound, mount_keeps, picked_found, some_picked, found_image, picks}
+use Rattle.crash.proofs.Mounting.{IsFound, mount_keeps, picked_found, some_picked, found_image, left_packs}
 
 step_keeps : (geometry : Geometry) (m : Core) (event : Event) (n : Core) → CoreStep geometry m event n → Invariant geometry m → Invariant geometry n
 step_keeps geometry m (append segment owner block) n (room, is) inv =
@@ -62,15 +64,15 @@ format_begins geometry m is =
       live = λ segment offset h. absurd (none_owned _ (is.no_owner segment offset) h);
     }
 
-version_of_image : (geometry : Geometry) (body : List ℕ) (blocks : ℕ → List ℕ) → (image_in geometry body blocks).version ≡ number_at body 0
-unfolding image_in
+version_of_image : (geometry : Geometry) (body : List ℕ) (blocks : ℕ → List ℕ) → (image_in geometry body blocks).version ≡ version_of body
+unfolding image_in version_of
 version_of_image geometry body blocks = refl
 
 kept : (geometry : Geometry) (m : Core) (left : Left) (slot : ℕ) (w : Written) → IsFound geometry m left slot w → IsKept geometry m left slot w
 kept geometry m left slot w found =
     let image = found_image geometry m left slot w found in
     let version : (image_of geometry left slot).version ≡ (left.slots slot).footer
-    = version_of_image geometry (left.slots slot).body left.blocks ∙ ap (λ b. number_at b 0) found.stored.body ∙ found.stored.header in
+    = version_of_image geometry (left.slots slot).body left.blocks ∙ ap version_of found.stored.body ∙ found.stored.header in
     record {
       was_written = found.stored.was_written;
       lawful = found.stored.lawful;
@@ -86,4 +88,8 @@ crash_law_holds geometry start m events left formatted run may =
     let inv = run_keeps geometry start events m run (format_begins geometry start formatted) in
     let picked = some_picked geometry m left inv may in
     let found = picked_found geometry m left picked.0 inv may picked.1 in
-    (picked.0, picks left.slots picked.0 picked.1, found.0, kept geometry m left picked.0 found.0 found.1)
+    (picked.0, slot_chosen left.slots picked.0 picked.1, found.0, kept geometry m left picked.0 found.0 found.1)
+
+pub slots_law_holds : SlotsLaw
+slots_law_holds geometry start m events left formatted run may =
+    left_packs geometry m left (run_keeps geometry start events m run (format_begins geometry start formatted)) may

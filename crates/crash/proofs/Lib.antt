@@ -2,6 +2,5 @@ pub mod Invariant
 pub mod Keeping
 pub mod Mounting
 pub mod Law
-pub mod Between
 pub mod Threading
 pub mod CrashExample

@@ -2,7 +2,7 @@
 use Rattle.geometry.specs.declared.owner.Owner.{Owner}
 use Rattle.geometry.specs.declared.owner.Summary.{Summary}
 use Rattle.image.specs.declared.image.Place.{Place}
-use Rattle.std.proofs.Common.{◌≡◌, ◌≢◌, refl, sym, ◌∙◌, ap, subst, ℕ, zero, suc, ◌+◌, ◌%◌, ◌<◌, ◌≤◌, ◌⊎◌, inl, inr, Bool, true, false, ◌&&◌, IsTrue, List, [], ◌∷◌, length, get_or, arith}
+use Rattle.std.proofs.Common.{◌≡◌, ◌≢◌, refl, sym, ◌∙◌, ap, subst, ℕ, zero, suc, ◌+◌, ◌-◌, ◌%◌, ◌<◌, ◌≤◌, ◌⊎◌, inl, inr, Bool, true, false, ◌&&◌, IsTrue, List, [], ◌∷◌, length, get_or, arith}
 use Rattle.std.proofs.lemmas.List.{get_or_past}
 use Rattle.std.proofs.lemmas.List.FromFn.{length-map-range_with_len, get_or-map-range_with_len}
 use Rattle.std.proofs.lemmas.List.Sums.{length-filter}
@@ -13,8 +13,10 @@ use Rattle.geometry.specs.declared.geometry.Geometry.{Geometry}
 use Rattle.geometry.specs.Address.{address_of, segment_of, offset_of}
 use Rattle.image.specs.Image.{Image, SegmentInfo, no_segment, is_marked, summary_at}
 use Rattle.image.specs.Rules.{IsLawful, Rule}
-use Rattle.image.specs.Reading.{image_in, number_at}
-use Rattle.image.specs.Pack.{Slot, is_sound, pick}
+use Rattle.image.specs.Reading.{image_in}
+use Rattle.image.specs.Slots.{Slot, version_of, slot_of, IsSound, IsPicked}
+use Rattle.image.proofs.Picking.{is_picked, picked_or_none}
+use Rattle.crash.specs.Disk.{HoldsPacks}
 use Rattle.crash.specs.Core.{Written, Phase, idle, body_written, body_synced, footer_written, footer_synced, mending, Core, Left, current, other, footed, LeavesSlot, MayLeave, IsPicked as IsPick, image_of, log_in, mounted_stage, mounted_owner, mounted_owners, mounted_segment, mounted_when, mounted}
 use Rattle.crash.proofs.Invariant.{marks_are, are_marks, IsLiveAs, IsLive, NamesLive, IsStored, Same, Settled, Pending, Invariant}
 use Rattle.crash.proofs.Keeping.{changed_elsewhere, changed_there, live_is_safe, live_at, none_owned, current_not_other}
@@ -22,78 +24,6 @@ use Rattle.geometry.proofs.Addresses.{address_of-parts}
 use Rattle.image.proofs.Frame.{same_image}
 use Rattle.image.proofs.Marking.{true_or_false, segment_within, bit_of_mark}
 use Rattle.geometry.specs.Shape.{segment_blocks}
-
-both_true : (a b : Bool) → (a && b) ≡ true → (a ≡ true) × (b ≡ true)
-both_true true b h = (refl, h)
-both_true false b h = (cc, cc)
-
--- what a sound slot holds
-pub sound_tells : (number : ℕ) (s : Slot) → IsTrue (is_sound number s)
-    → (number_at s.body 0 ≡ s.footer) × (1 ≤ s.footer) × (s.footer % 2 ≡ number)
-sound_tells number s h =
-    let outer = both_true _ _ h in
-    let inner = both_true _ _ outer.0 in
-    (eqb-true _ _ inner.0, ltb-true _ _ inner.1, eqb-true _ _ outer.1)
-
-pub sound_from : (number : ℕ) (s : Slot) → number_at s.body 0 ≡ s.footer → 1 ≤ s.footer → s.footer % 2 ≡ number
-    → IsTrue (is_sound number s)
-sound_from number s header positive parity =
-    rw (eq-eqb _ _ header, lt-ltb 0 s.footer positive, eq-eqb _ _ parity)
-
--- a sound slot, where the other one is not sound or of a lower version
-pub record IsPicked (slots : ℕ → Slot) (slot : ℕ) : Type 0 where
-  pub number : slot < 2
-  pub sound : IsTrue (is_sound slot (slots slot))
-  pub higher : IsTrue (is_sound (other slot) (slots (other slot))) → (slots (other slot)).footer < (slots slot).footer
-
-pick_cases : (zeroth first later : Bool) (slot : ℕ)
-    → (if zeroth then (if first && later then Some 1 else Some 0) else (if first then Some 1 else None)) ≡ Some slot
-    → ((slot ≡ 0) × (zeroth ≡ true) × (first ≡ true → later ≡ false)) ⊎ ((slot ≡ 1) × (first ≡ true) × (zeroth ≡ true → later ≡ true))
-pick_cases true true true slot e = inr (cc, refl, λ h. refl)
-pick_cases true true false slot e = inl (cc, refl, λ h. refl)
-pick_cases true false later slot e = inl (cc, refl, λ h. absurd cc)
-pick_cases false true later slot e = inr (cc, refl, λ h. absurd cc)
-pick_cases false false later slot e = absurd cc
-
-differing : (a b : ℕ) → a % 2 ≡ 0 → b % 2 ≡ 1 → a ≢ b
-differing a b e f same = omega arith
-
-pub pick_tells : (slots : ℕ → Slot) (slot : ℕ) → pick (slots 0) (slots 1) ≡ Some slot → IsPicked slots slot
-pick_tells slots slot e =
-    elim (pick_cases (is_sound 0 (slots 0)) (is_sound 1 (slots 1)) (nat_lt (slots 0).footer (slots 1).footer) slot e) [
-      | inl (is, sound, rest) ↦ subst (IsPicked slots) (sym is) (record {
-        number = omega arith;
-        sound = sound;
-        higher = λ other_sound.
-            let low = ltb-false _ _ (rest other_sound) in
-            let differ = differing (slots 0).footer (slots 1).footer (sound_tells 0 (slots 0) sound).2 (sound_tells 1 (slots 1) other_sound).2 in
-            omega arith;
-      })
-      | inr (is, sound, rest) ↦ subst (IsPicked slots) (sym is) (record {
-        number = omega arith;
-        sound = sound;
-        higher = λ other_sound. ltb-true _ _ (rest other_sound);
-      })
-    ]
-
-if_sound : (b c : Bool) (x y : Option ℕ) → (b ≡ true → c ≡ false) → (if b && c then x else y) ≡ y
-if_sound true true x y h = absurd (let e : true ≡ false = h refl in cc)
-if_sound true false x y h = refl
-if_sound false c x y h = refl
-
-if_picked : (b c : Bool) (x y z : Option ℕ) → (b ≡ true → c ≡ true) → (if b then (if true && c then x else y) else (if true then x else z)) ≡ x
-if_picked true true x y z h = refl
-if_picked true false x y z h = absurd (let e : false ≡ true = h refl in cc)
-if_picked false c x y z h = refl
-
-pub picks : (slots : ℕ → Slot) (slot : ℕ) → IsPicked slots slot → pick (slots 0) (slots 1) ≡ Some slot
-picks slots zero picked =
-    rw (picked.sound) (if_sound (is_sound 1 (slots 1)) (nat_lt (slots 0).footer (slots 1).footer) (Some 1) (Some 0)
-    (λ sound. le-ltb (slots 0).footer (slots 1).footer (let h : (slots 1).footer < (slots 0).footer = picked.higher sound in omega arith)))
-picks slots (suc zero) picked =
-    rw (picked.sound) (if_picked (is_sound 0 (slots 0)) (nat_lt (slots 0).footer (slots 1).footer) (Some 1) (Some 0) None
-    (λ sound. lt-ltb (slots 0).footer (slots 1).footer (picked.higher sound)))
-picks slots (suc (suc slot)) picked = absurd (let h = picked.number in omega arith)
 
 -- what the slot that is not current may hold after a crash: an old footer, or the next pack's body
 abbrev pub OldOrNext : Geometry → Core → Left → ℕ → ℕ → Type 0
@@ -153,14 +83,14 @@ current_body : (geometry : Geometry) (m : Core) (left : Left) (inv : Invariant g
     → (left.slots (current m.version)).body ≡ inv.now.body
 current_body geometry m left inv may = ap (λ (s : Slot). s.body) may.current_slot ∙ inv.stored.body
 
-current_sound : (geometry : Geometry) (m : Core) (left : Left) (inv : Invariant geometry m) → MayLeave m left
-    → IsTrue (is_sound (current m.version) (left.slots (current m.version)))
+current_sound : (geometry : Geometry) (m : Core) (left : Left) (inv : Invariant geometry m) → MayLeave m left → IsSound left.slots (current m.version)
 current_sound geometry m left inv may =
-    let footer = current_footer geometry m left inv may in
-    let header : number_at (left.slots (current m.version)).body 0 ≡ (left.slots (current m.version)).footer
-    = ap (λ b. number_at b 0) (current_body geometry m left inv may) ∙ inv.stored.header ∙ sym footer in
-    let positive : 1 ≤ (left.slots (current m.version)).footer = let p = inv.positive in omega arith in
-    sound_from (current m.version) (left.slots (current m.version)) header positive (ap current footer)
+    let header : version_of (left.slots (current m.version)).body ≡ m.version = ap version_of (current_body geometry m left inv may) ∙ inv.stored.header in
+    record {
+      same = header ∙ sym (current_footer geometry m left inv may);
+      positive = (let p = inv.positive in omega arith);
+      parity = ap current header;
+    }
 
 current_found : (geometry : Geometry) (m : Core) (left : Left) (inv : Invariant geometry m) → MayLeave m left
     → IsFound geometry m left (current m.version) inv.now
@@ -187,29 +117,32 @@ other_found : (geometry : Geometry) (m : Core) (left : Left) → Invariant geome
     → (w : Written) × IsFound geometry m left (other (current m.version)) w
 other_found geometry m left inv may picked =
     let footer = current_footer geometry m left inv may in
-    let sound = sound_tells (other (current m.version)) (left.slots (other (current m.version))) picked.sound in
+    let sound = picked.sound in
+    let here = current_sound geometry m left inv may in
     let back = other_other m.version in
-    let higher : (left.slots (current m.version)).footer < (left.slots (other (current m.version))).footer
-    = subst (λ (k : ℕ). (left.slots k).footer < (left.slots (other (current m.version))).footer) back
-    (picked.higher (subst (λ (k : ℕ). IsTrue (is_sound k (left.slots k))) (sym back) (current_sound geometry m left inv may))) in
+    let same : (left.slots (current m.version)).footer ≡ version_of (left.slots (current m.version)).body = sym here.same in
+    let lower : version_of (left.slots (current m.version)).body < version_of (left.slots (other (current m.version))).body
+    = subst (λ (k : ℕ). version_of (left.slots k).body < version_of (left.slots (other (current m.version))).body) back
+    (picked.highest (subst (IsSound left.slots) (sym back) here)) in
+    let higher : (left.slots (current m.version)).footer < (left.slots (other (current m.version))).footer = let is = sound.same in omega arith in
     elim (left_other geometry m left m.phase may inv.pending may.other_slot) [
       | inl old ↦ absurd (omega arith)
       | inr (w, stored, same) ↦
           let header : (left.slots (other (current m.version))).footer ≡ m.version + 1
-          = sym sound.0 ∙ ap (λ b. number_at b 0) stored.body ∙ stored.header in (
+          = sym sound.same ∙ ap version_of stored.body ∙ stored.header in (
             w,
             record {
               stored = record { was_written = stored.was_written; lawful = stored.lawful; header = stored.header ∙ sym header; body = stored.body };
               same = same;
               later = omega arith;
-              parity = sound.2;
-              positive = sound.1;
+              parity = ap current (sym sound.same) ∙ sound.parity;
+              positive = (let p = sound.positive in let is = sound.same in omega arith);
               rest = inl (subst (λ (k : ℕ). (left.slots k).footer < (left.slots (other (current m.version))).footer) (sym back) higher);
             },
           )
     ]
 
-one_of_two : (slot version : ℕ) → slot < 2 → slot ≢ current version → slot ≡ other (current version)
+one_of_two : (slot version : ℕ) → slot ≤ 1 → slot ≢ current version → slot ≡ other (current version)
 one_of_two slot version below isn't = omega arith
 
 pub picked_found : (geometry : Geometry) (m : Core) (left : Left) (slot : ℕ) → Invariant geometry m → MayLeave m left
@@ -218,54 +151,52 @@ picked_found geometry m left slot inv may picked =
     elim (eqb_tells slot (current m.version)) [
       | inl (e, is) ↦ (inv.now, subst (λ (k : ℕ). IsFound geometry m left k inv.now) (sym is) (current_found geometry m left inv may))
       | inr (e, isn't) ↦
-          let is = one_of_two slot m.version picked.number isn't in
+          let is = one_of_two slot m.version picked.within isn't in
           let found = other_found geometry m left inv may (subst (IsPicked left.slots) is picked) in
           (found.0, subst (λ (k : ℕ). IsFound geometry m left k found.0) (sym is) found.1)
     ]
 
-pub other_below : (version : ℕ) → other (current version) < 2
-other_below version = omega arith
-
--- some slot is picked
+-- some slot is picked, since the current one is sound
 pub some_picked : (geometry : Geometry) (m : Core) (left : Left) → Invariant geometry m → MayLeave m left
     → (slot : ℕ) × IsPicked left.slots slot
 some_picked geometry m left inv may =
-    let footer = current_footer geometry m left inv may in
-    elim (true_or_false (is_sound (other (current m.version)) (left.slots (other (current m.version))))) [
-      | inr unsound ↦ (
-        current m.version,
-        record {
-          number = current_below m.version;
-          sound = current_sound geometry m left inv may;
-          higher = λ sound. let clash : true ≡ false = sym sound ∙ unsound in absurd cc;
-        },
-      )
-      | inl sound ↦
-          let s = sound_tells (other (current m.version)) (left.slots (other (current m.version))) sound in
-          elim (leb_tells (left.slots (other (current m.version))).footer m.version) [
-            | inl (e, low) ↦ (
-              current m.version,
-              record {
-                number = current_below m.version;
-                sound = current_sound geometry m left inv may;
-                higher = λ again.
-                    let differ : (left.slots (other (current m.version))).footer ≢ m.version
-                    = λ same. current_not_other m.version (sym (ap current same) ∙ s.2) in
-                    omega arith;
-              },
-            )
-            | inr (e, high) ↦ (
-              other (current m.version),
-              record {
-                number = other_below m.version;
-                sound = sound;
-                higher = λ again.
-                    subst (λ (k : ℕ). (left.slots k).footer < (left.slots (other (current m.version))).footer) (sym (other_other m.version))
-                    (let low : (left.slots (current m.version)).footer < (left.slots (other (current m.version))).footer = omega arith in low);
-              },
-            )
-          ]
+    elim (picked_or_none left.slots) [
+      | inl found ↦ found
+      | inr none ↦ absurd (none.1 (current m.version) (omega arith) (current_sound geometry m left inv may))
     ]
+
+-- the slots are settled, or between two packs
+pub left_packs : (geometry : Geometry) (m : Core) (left : Left) → Invariant geometry m → MayLeave m left → HoldsPacks m left.slots
+left_packs geometry m left inv may =
+    let is = inv.stored.header in
+    let at : slot_of (version_of inv.now.body) ≡ current m.version = ap slot_of is in
+    let positive : 0 < version_of inv.now.body = let p = inv.positive in omega arith in
+    let body : (left.slots (slot_of (version_of inv.now.body))).body ≡ inv.now.body = ap (λ (k : ℕ). (left.slots k).body) at ∙ current_body geometry m left inv may in
+    let footer : (left.slots (slot_of (version_of inv.now.body))).footer ≡ version_of inv.now.body = ap (λ (k : ℕ). (left.slots k).footer) at ∙ current_footer geometry m left inv may ∙ sym is in
+    record {
+      old = inv.now;
+      was_written = inv.stored.was_written;
+      completed = is;
+      packs = elim (left_other geometry m left m.phase may inv.pending may.other_slot) [
+        | inl low ↦ inl (record {
+          positive = positive;
+          body = body;
+          footer = footer;
+          below = subst (λ (v : ℕ). (left.slots (1 - slot_of v)).footer < v) (sym is) low;
+        })
+        | inr (w, stored, same) ↦ inr (
+          w,
+          stored.was_written,
+          record {
+            positive = positive;
+            next = stored.header ∙ ap (λ (v : ℕ). v + 1) (sym is);
+            body = body;
+            footer = footer;
+            other = inr (ap (λ (v : ℕ). (left.slots (1 - slot_of v)).body) is ∙ stored.body);
+          },
+        )
+      ];
+    }
 
 -- a marked block lies below its log's next offset, and in a segment whose count isn't 0
 live_of : (log : Option ℕ) (count offset : ℕ) → IfSome log (λ next. offset < next) → 1 ≤ count
@@ -418,6 +349,6 @@ mounted_keeps_when geometry m left slot w is_below found below above =
 pub mount_keeps : (geometry : Geometry) (m : Core) (left : Left) (slot : ℕ) → MayLeave m left → IsPick left.slots slot
     → Invariant geometry m → Invariant geometry (mounted geometry m left slot)
 mount_keeps geometry m left slot may picked inv =
-    let found = picked_found geometry m left slot inv may (pick_tells left.slots slot picked) in
+    let found = picked_found geometry m left slot inv may (is_picked left.slots slot picked) in
     mounted_keeps_when geometry m left slot found.0 (nat_lt (left.slots (other slot)).footer (left.slots slot).footer) found.1
     (ltb-true _ _) (ltb-false _ _)

@@ -1,5 +1,7 @@
 -- The core machine: a volume without threads, over a disk that keeps nothing for certain until it is synced (Rosenblum
 -- and Ousterhout 1991, a log and checkpoints; Lee and others, FAST 2015, two packs in turn).
+use Rattle.geometry.specs.Version.{next_version}
+pub use Rattle.geometry.specs.Blocks.{changed}
 use Rattle.geometry.specs.declared.owner.Owner.{Owner}
 use Rattle.geometry.specs.declared.owner.Summary.{Summary}
 use Rattle.geometry.specs.Summary.{summary_of, owner_in}
@@ -12,8 +14,8 @@ use Rattle.geometry.specs.Address.{address_of, segment_of, offset_of}
 use Rattle.geometry.specs.File.{Block}
 use Rattle.image.specs.Image.{Image, is_marked, summary_at, info_of}
 use Rattle.image.specs.Rules.{IsLawful}
-use Rattle.image.specs.Reading.{image_in, number_at}
-use Rattle.image.specs.Pack.{Slot, pick}
+use Rattle.image.specs.Reading.{image_in}
+use Rattle.image.specs.Slots.{Slot, version_of, picked_slot}
 use Rattle.geometry.specs.declared.state.State.TheVariants.{Free, Open, Sealed, Prefree}
 use Rattle.geometry.specs.Life.{Stage, LifeStep}
 use Rattle.geometry.specs.Segment.{Fill, filled, vacated, fill_after, IsVacant}
@@ -72,10 +74,6 @@ pub data Event : Type 0 where
   write_footer : Event
   advance : Event
   crash : (left : Left) → Event
-
--- f with another value at one place
-abbrev pub changed : {X : Type 0} → (ℕ → X) → ℕ → X → ℕ → X
-changed f at value k = if k == at then value else f k
 
 -- the slot of the last completed pack, and the one that the next pack goes into
 abbrev pub current : ℕ → ℕ
@@ -141,7 +139,7 @@ moved machine segment stage =
 pub record MayWrite (geometry : Geometry) (machine : Core) (body : List ℕ) : Type 0 where
   pub phase : machine.phase ≡ idle
   pub lawful : IsLawful geometry (image_in geometry body machine.blocks)
-  pub version : number_at body 0 ≡ machine.version + 1
+  pub version : version_of body ≡ machine.version + 1
   pub marks : (address : ℕ) → IsTrue (is_marked geometry (image_in geometry body machine.blocks) address) → IsSome (owner_at geometry.shape machine.segments address)
   pub owners : (address : ℕ) (owner : Owner) → owner_at geometry.shape machine.segments address ≡ Some owner
       → IsTrue (is_marked geometry (image_in geometry body machine.blocks) address) × (summary_at (image_in geometry body machine.blocks) address ≡ summary_of owner)
@@ -176,7 +174,7 @@ abbrev pub synced : Core → Core
 synced machine = record machine { loose = λ address. false; phase = phase_after_sync machine.phase }
 
 abbrev pub advanced : Core → Core
-advanced machine = record machine { version = machine.version + 1; phase = idle }
+advanced machine = record machine { version = next_version machine.version; phase = idle }
 
 -- what a crash leaves of the slot that is being written
 abbrev pub LeavesSlot : Phase → Slot → Slot → Type 0
@@ -193,9 +191,9 @@ pub record MayLeave (machine : Core) (left : Left) : Type 0 where
   pub current_slot : left.slots (current machine.version) ≡ machine.slots (current machine.version)
   pub other_slot : LeavesSlot machine.phase (machine.slots (other (current machine.version))) (left.slots (other (current machine.version)))
 
--- the sound slot of the higher version
+-- the slot of the pack that counts
 abbrev pub IsPicked : (ℕ → Slot) → ℕ → Type 0
-IsPicked slots slot = pick (slots 0) (slots 1) ≡ Some slot
+IsPicked slots slot = picked_slot slots ≡ Some slot
 
 -- the image in a slot, over the blocks
 abbrev pub image_of : Geometry → Left → ℕ → Image
@@ -281,7 +279,7 @@ Run geometry machine (event ∷ events) after = (mid : Core) × CoreStep geometr
 pub record IsFormatted (geometry : Geometry) (machine : Core) : Type 0 where
   pub phase : machine.phase ≡ idle
   pub version : machine.version ≡ 1
-  pub header : number_at (machine.slots 1).body 0 ≡ 1
+  pub header : version_of (machine.slots 1).body ≡ 1
   pub footer : (machine.slots 1).footer ≡ 1
   pub empty_slot : (machine.slots 0).footer ≡ 0
   pub lawful : IsLawful geometry (image_in geometry (machine.slots 1).body machine.blocks)

@@ -1,6 +1,6 @@
 -- A run of a script: what each command makes of the volume's files, and the line that it writes. A command that is refused
 -- leaves the files as they were, but for a range, which is filled up to the refusal.
-use Rattle.std.specs.Prelude.{◌≡◌, ◌⊎◌, ℕ, zero, suc, ◌+◌, ◌-◌, ◌<◌, ◌≤◌, Bool, true, false, List, [], ◌∷◌, ◌++◌, length, Option, Some, None, Result, Ok, Err, codes, replicate}
+use Rattle.std.specs.Prelude.{◌≡◌, ◌≢◌, ◌⊎◌, ℕ, zero, suc, ◌+◌, ◌-◌, ◌<◌, ◌≤◌, Bool, true, false, List, [], ◌∷◌, ◌++◌, length, Option, Some, None, Result, Ok, Err, codes, replicate}
 use Rattle.std.specs.Io.KnownBytes.{Appends}
 use Rattle.geometry.specs.Shape.{block_bytes}
 use Rattle.geometry.specs.File.{Block, File, bytes_at, cut_to, new_file, written}
@@ -20,9 +20,13 @@ use Rattle.f2fsim.specs.declared.stop.Stop.TheVariants.{BadLine, Failed, Refused
 use Rattle.f2fsim.specs.Contents.{content_of}
 use Rattle.f2fsim.specs.Lines.{created_line, done_line, file_lines, newline, read_line}
 
--- what a call on a file of this number answers where it is refused: NoFile where there is no such file
+-- no file has this number, and that is the refusal
+abbrev pub IsNone : Volume → ℕ → Error → Type 0
+IsNone volume number error = (¬ (HasFile volume number)) × (error ≡ NoFile)
+
+-- what a call on a file of this number answers where it is refused: NoFile where there is no such file, and there alone
 abbrev pub IsRefused : Volume → ℕ → Error → Type 0
-IsRefused volume number error = HasFile volume number ⊎ (error ≡ NoFile)
+IsRefused volume number error = (HasFile volume number × (error ≢ NoFile)) ⊎ IsNone volume number error
 
 -- a file was made, or not
 abbrev pub IsCreated : Volume → Kind → Result ℕ Error → Volume → Type 0
@@ -49,11 +53,13 @@ abbrev pub IsFilledTo : Volume → ℕ → ℕ → ℕ → ℕ → Volume → Ty
 IsFilledTo old number first count byte new =
     HasFile old number × (new ≡ with_file old number (filled (file_at old number) first count (equal_block old byte)))
 
--- such a block was written at each index from the first to the one before the last, or up to a refusal
+-- such a block was written at each index from the first to the one before the last, or up to a refusal, which is NoFile
+-- where there is no such file, and there alone
 abbrev pub IsFilled : Volume → ℕ → ℕ → ℕ → ℕ → Result (Unit {0}) Error → Volume → Type 0
 IsFilled old number first last byte (Ok done) new = IsFilledTo old number first (last - first) byte new
 IsFilled old number first last byte (Err error) new =
-    ((count : ℕ) × (first + count < last) × IsFilledTo old number first count byte new) ⊎ ((error ≡ NoFile) × (new ≡ old))
+    ((count : ℕ) × (first + count < last) × IsFilledTo old number first count byte new × (error ≢ NoFile))
+    ⊎ (IsNone old number error × (new ≡ old))
 
 -- what stands at an index of a file was read
 abbrev pub IsFound : Volume → ℕ → ℕ → Result (Option Content) Error → Type 0
@@ -66,7 +72,7 @@ IsFound volume number index (Err error) = IsRefused volume number error
 -- a file was cut, or there is none
 abbrev pub IsCut : Volume → ℕ → ℕ → Result (Unit {0}) Error → Volume → Type 0
 IsCut old number length (Ok done) new = HasFile old number × (new ≡ with_file old number (cut_to (file_at old number) length))
-IsCut old number length (Err error) new = (¬ (HasFile old number)) × (error ≡ NoFile) × (new ≡ old)
+IsCut old number length (Err error) new = IsNone old number error × (new ≡ old)
 
 -- work on a file was done or refused, and wrote its line
 abbrev pub WorkWrites : Work → Volume → Volume → List ℕ → Type 0

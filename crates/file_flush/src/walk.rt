@@ -1,5 +1,5 @@
 //! The walk over a file's marked nodes.
-ghost use Rattle.std.specs.Prelude.{◌≡◌, ◌≤◌, ◌<◌, ◌+◌, ◌++◌, ◌↔◌, IsTrue, true, false, map, length, OnOk, OnErr, IfOk, IfErr};
+ghost use Rattle.std.specs.Prelude.{Bool, ℕ, ◌≡◌, ◌≤◌, ◌<◌, ◌+◌, ◌++◌, ◌↔◌, IsTrue, true, false, map, length, OnOk, OnErr, IfOk, IfErr};
 ghost use Rattle.geometry.specs.Path.{node_entries};
 ghost use Rattle.books.specs.declared.claim.Entry.{Entry};
 ghost use Rattle.tickets.specs.Placed.{Placed};
@@ -7,6 +7,8 @@ ghost use Rattle.tree.specs.Tree.{Same};
 ghost use Rattle.tree.specs.Change.{TreeNode, Weighing, each_marked};
 ghost use Rattle.flush.specs.Writing.{IsAmong, WritesOne};
 ghost use Rattle.nodes.specs.File.{address_of, nid_of, IsFile, ticket_at, inode_of, below_weight, weight_of};
+ghost use Rattle.nodes.specs.Owners.{namer_at};
+ghost use Rattle.nodes.specs.Useful.{IsUseful};
 ghost use Rattle.file_flush.specs.Unmarked.{unmarked};
 
 use device::Block;
@@ -36,6 +38,8 @@ pub fn flush_next<B: Block, W: NodeWriter>(
     ensures refused { IfErr result (λ e. (file.new ≡ file.old) × (n : TreeNode) × (n.dirty ≡ true)
         × IsAmong (weight_of file.old) n × W.refused writer.old n e writer.new) }
     ensures same { Same (ticket_at file.old) (ticket_at file.new) }
+    ensures namer { Same (namer_at file.old) (namer_at file.new) }
+    ensures useful { (asked : ℕ → ℕ → Bool) → IsUseful asked file.old → IsUseful asked file.new }
     ensures number { file.new.token.number ≡ file.old.token.number }
     ensures length { file.new.length ≡ file.old.length }
     ensures shape { file.new.shape ≡ file.old.shape }
@@ -100,6 +104,7 @@ fn write_inode<B: Block, W: NodeWriter>(
     ensures refused { IfErr result (λ e. W.refused writer.old (inode_of file.old) e writer.new) }
     ensures clean { OnOk result (file.new ≡ unmarked (record file.old { token = file.new.token })) }
     ensures same { OnErr result (file.new ≡ file.old) }
+    ensures useful { (asked : ℕ → ℕ → Bool) → IsUseful asked file.old → IsUseful asked file.new }
     ensures number { file.new.token.number ≡ file.old.token.number }
     ensures room { length numbers.new ≡ length numbers.old }
 {
@@ -139,6 +144,8 @@ fn flush_below<B: Block, W: NodeWriter>(
     ensures refused { IfErr result (λ e. (file.new ≡ file.old) × (n : TreeNode) × (n.dirty ≡ true)
         × IsAmong (below_weight file.old) n × W.refused writer.old n e writer.new) }
     ensures same { Same (ticket_at file.old) (ticket_at file.new) }
+    ensures namer { Same (namer_at file.old) (namer_at file.new) }
+    ensures useful { (asked : ℕ → ℕ → Bool) → IsUseful asked file.old → IsUseful asked file.new }
     ensures inode { inode_of file.new ≡ inode_of file.old }
     ensures length { file.new.length ≡ file.old.length }
     ensures shape { file.new.shape ≡ file.old.shape }

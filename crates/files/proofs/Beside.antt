@@ -2,10 +2,13 @@
 use Rattle.std.proofs.Common.{◌≡◌, ℕ, ◌+◌, ◌<◌, ◌≤◌, refl, sym, ap, subst, ◌∙◌, arith}
 use Rattle.sums.specs.Weights.{weigh}
 use Rattle.geometry.specs.declared.geometry.Geometry.{Geometry}
-use Rattle.geometry.specs.Path.{node_entries}
+use Rattle.geometry.specs.Path.{node_entries, largest_length}
 use Rattle.books.specs.Accounts.{HandView}
 use Rattle.books.specs.declared.claim.Entry.{Entry}
 use Rattle.tree.specs.Tree.{Same}
+use Rattle.spares.specs.Spares.{KeepsNames}
+use Rattle.nodes.specs.Owners.{namer_at}
+use Rattle.files.proofs.Names.{named_planted}
 use Rattle.tree.specs.Change.{TreeNode, nothing, unnumbered}
 use Rattle.nodes.specs.declared.file.FileState.{FileState}
 use Rattle.nodes.specs.declared.spare.SparePath.{SparePath}
@@ -85,9 +88,10 @@ module _ {B L : Type 0} (old new : FileState B L) (s t : SparePath B L) where
     numbered = let more = tokens unnumbered in let none = spare.numbered in omega arith;
   }
 
-  pub stored_planted : IsStored old → IsSpareFor old s → IsFile new → new.shape ≡ old.shape → new.kind ≡ old.kind → new.length ≡ old.length → Same (ticket_at old) (ticket_at new)
+  pub stored_planted : IsStored old → IsSpareFor old s → IsFile new → new.shape ≡ old.shape → new.kind ≡ old.kind → new.length ≡ old.length → Same (ticket_at old) (ticket_at new) → KeepsNames (namer_at old) (namer_at new)
       → (n : TreeNode) → MarksNode unchanged old new nothing (λ w. w.node n) → ((h : Entry → ℕ) → spare_tokens h t + h n.token ≡ spare_tokens h s) → IsStored new
-  stored_planted is spare now shape kind length same n change tokens = stored_same old new is now shape kind length same
+  stored_planted is spare now shape kind length same keeps n change tokens = stored_same old new is now shape kind length same
+      (named_planted old new is.named now (let s = is.short in let top = ap largest_length shape in omega arith) shape same keeps)
       (let all = weigh_tickets unchanged old new nothing (λ w. w.node n) change (λ m. 1) in omega arith)
       (let all = weigh_tokens unchanged old new nothing (λ w. w.node n) change unnumbered in
       let was = is.numbered in
@@ -95,10 +99,10 @@ module _ {B L : Type 0} (old new : FileState B L) (s t : SparePath B L) where
       let none = spare.numbered in omega arith)
 
   pub beside_planted : (x : Area) → IsStored old → IsSpareFor old s → IsFile new → new.shape ≡ old.shape → new.kind ≡ old.kind → new.length ≡ old.length
-      → Same (ticket_at old) (ticket_at new) → AreEmptyNodes (node_entries old.shape) t → (n : TreeNode) → MarksNode unchanged old new nothing (λ w. w.node n)
+      → Same (ticket_at old) (ticket_at new) → KeepsNames (namer_at old) (namer_at new) → AreEmptyNodes (node_entries old.shape) t → (n : TreeNode) → MarksNode unchanged old new nothing (λ w. w.node n)
       → ((h : Entry → ℕ) → spare_tokens h t + h n.token ≡ spare_tokens h s) → ServesBeside old new s t x x
-  beside_planted x is spare now shape kind length same empty n change tokens = record {
-    stored = stored_planted is spare now shape kind length same n change tokens;
+  beside_planted x is spare now shape kind length same keeps empty n change tokens = record {
+    stored = stored_planted is spare now shape kind length same keeps n change tokens;
     spare = spare_planted spare shape empty n tokens;
     shape = shape;
     number = ap (λ (e : Entry). e.number) change.token;

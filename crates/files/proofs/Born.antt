@@ -22,6 +22,7 @@ module _ {B L : Type 0} (f : FileState B L) (k : Entry) (token : f.token ≡ k) 
         let below = bare_weighs f bare (of_tokens unnumbered) in
         let here = ap unnumbered token in
         let some = has_number k number in omega arith;
+    named = λ i t at. absurd (let nothing = is.within i (omega arith) in let there : ticket_at f i ≡ Some t = at in cc);
     whole = λ i t at. absurd (let nothing = is.within i (omega arith) in let there : ticket_at f i ≡ Some t = at in cc);
     counted =
         let below = bare_weighs f bare (of_tickets (λ t. 1)) in

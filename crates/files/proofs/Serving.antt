@@ -1,5 +1,5 @@
 -- What a call on one file does to the file and to what is in hand.
-use Rattle.std.proofs.Common.{◌≡◌, ℕ, ◌+◌, ◌<◌, max, min, List, ◌∷◌, Option, Some, None, false, cond, if◌then◌else◌, length, refl, sym, ap, subst, ◌∙◌, inl, inr, ne_eqb, arith}
+use Rattle.std.proofs.Common.{◌≤◌, ◌≡◌, ℕ, ◌+◌, ◌<◌, max, min, List, ◌∷◌, Option, Some, None, false, cond, if◌then◌else◌, length, refl, sym, ap, subst, ◌∙◌, inl, inr, ne_eqb, arith}
 use Rattle.std.specs.Prelude.{is_some, nat_lt}
 use Rattle.std.proofs.lemmas.Bool.{cases_eq, cases_lt}
 use borrow.Author.Tests.{le-ltb}
@@ -9,7 +9,7 @@ use Rattle.std.specs.FinMap.{FinMap, get, insert, len, retain_keys, len-insert, 
 use Rattle.geometry.specs.declared.geometry.Geometry.{Geometry}
 use Rattle.geometry.specs.declared.owner.Mark.{Mark}
 use Rattle.geometry.specs.Mark.{same_mark}
-use Rattle.geometry.specs.Path.{largest_length}
+use Rattle.geometry.specs.Path.{largest_length, path}
 use Rattle.geometry.specs.Shape.{block_bytes}
 use Rattle.geometry.specs.File.{File, Block, written, cut_to}
 use Rattle.books.specs.Accounts.{HandView}
@@ -20,12 +20,12 @@ use Rattle.books.proofs.Sameness.{entry_self}
 use Rattle.books.proofs.Steps.{without_entry_first}
 use Rattle.tickets.specs.Placed.{Placed}
 use Rattle.tree.specs.declared.spare.Spare.TheVariants.{Ticket, Token}
-use Rattle.tree.specs.Tree.{SetsAt, Same, HandsOut}
+use Rattle.tree.specs.Tree.{SetsAt, KeepsNamers, Same, HandsOut}
 use Rattle.tree.specs.Change.{Weighing, WeighsAs, nothing, ticket_weight, of_tickets, of_tokens, unnumbered}
 use Rattle.nodes.specs.declared.file.FileState.{FileState}
 use Rattle.nodes.specs.File.{IsFile, Shows, ticket_at, content_of, weight_of, below_weight, file_of}
 use Rattle.nodes.specs.Marks.{MarksNode, unchanged, lengthened}
-use Rattle.nodes.specs.Owners.{HasNumbers}
+use Rattle.nodes.specs.Owners.{HasNumbers, AreNamed, owner_at, namer_at}
 use Rattle.nodes.specs.Held.{Others, AreHeldBeside}
 use Rattle.nodes.proofs.Shown.{same_shows, got, kept}
 use Rattle.nodes.proofs.Files.{shows_file_of, only_file}
@@ -33,6 +33,7 @@ use Rattle.nodes.proofs.Held.{weigh_tickets, weigh_tokens, held_put, held_over, 
 use Rattle.nat.specs.Taken.{IsFree}
 use Rattle.nat.specs.Table.{TableNodes}
 use Rattle.area.specs.Area.{Area, KeepsFree}
+use Rattle.files.proofs.Names.{named_still, named_put}
 use Rattle.files.specs.Contents.{IsStored, InHand, Serves}
 
 -- 1 for each ticket
@@ -94,10 +95,14 @@ module _ {B L : Type 0} (old new : FileState B L) (is : IsStored old) (now : IsF
   same_file length same =
       sym (only_file new now (file_of old) (same_shows old new (file_of old) (shows_file_of old is.file) kind length (λ i. ap content_of (same i))))
 
-  pub stored_same : new.length ≡ old.length → Same (ticket_at old) (ticket_at new) → weight_of new each_ticket ≡ weight_of old each_ticket → HasNumbers new → IsStored new
-  stored_same length same weight numbered = record {
+  short_same : new.length ≡ old.length → new.length ≤ largest_length new.shape
+  short_same length = let s = is.short in let top = ap largest_length shape in omega arith
+
+  pub stored_same : new.length ≡ old.length → Same (ticket_at old) (ticket_at new) → AreNamed new → weight_of new each_ticket ≡ weight_of old each_ticket → HasNumbers new → IsStored new
+  stored_same length same named weight numbered = record {
+    named = named;
     file = now;
-    short = let s = is.short in let top = ap largest_length shape in omega arith;
+    short = short_same length;
     numbered = numbered;
     whole = λ i t at. is.whole i t (sym (same i) ∙ at) ∙ ap block_bytes (sym shape);
     counted = weight ∙ (is.counted ∙ ap (λ (f : File). len f.blocks) (sym (same_file length same)));
@@ -142,10 +147,11 @@ module _ {B L : Type 0} (old new : FileState B L) (x y : Area) (index : ℕ) (t 
       let m = (file_of old).blocks in
       let more = len-insert nat_cmp_total m index t.content ∙ ap (λ b. cond b (len m) (len m + 1)) (there (Some b) at) in omega arith
 
-  stored_put : (before : Option Placed) → before ≡ ticket_at old index → MarksNode (lengthened index) old new (λ w. ticket_weight w before) (λ w. w.ticket t) → IsStored new
-  stored_put before at change = record {
+  stored_put : Same (namer_at old) (namer_at new) → owner_at old (path old.shape index) ≡ Some t.mark.owner → (before : Option Placed) → before ≡ ticket_at old index → MarksNode (lengthened index) old new (λ w. ticket_weight w before) (λ w. w.ticket t) → IsStored new
+  stored_put names owner before at change = record {
     file = now;
-    short = let s = is.short in let top = ap largest_length shape in omega arith;
+    short = short_put;
+    named = named_put old new is.named now short_put shape index t sets names owner;
     numbered =
         let all = weigh_tokens (lengthened index) old new (λ w. ticket_weight w before) (λ w. w.ticket t) change unnumbered in
         let was = is.numbered in omega arith;
@@ -158,13 +164,16 @@ module _ {B L : Type 0} (old new : FileState B L) (x y : Area) (index : ℕ) (t 
         ∙ ap (λ (f : File). len f.blocks) (sym put_file);
   }
     where
+      short_put : new.length ≤ largest_length new.shape
+      short_put = let s = is.short in let top = ap largest_length shape in omega arith
+
       long_of : Option Placed → ℕ
       long_of None = 0
       long_of (Some v) = long v
 
-  pub serves_put : None ≡ ticket_at old index → MarksNode (lengthened index) old new (λ w. ticket_weight w None) (λ w. w.ticket t) → y.hand ≡ with_ticket t.mark x.hand → Serves old new x y
-  serves_put at change hand = record {
-    stored = stored_put None at change;
+  pub serves_put : Same (namer_at old) (namer_at new) → owner_at old (path old.shape index) ≡ Some t.mark.owner → None ≡ ticket_at old index → MarksNode (lengthened index) old new (λ w. ticket_weight w None) (λ w. w.ticket t) → y.hand ≡ with_ticket t.mark x.hand → Serves old new x y
+  serves_put names owner at change hand = record {
+    stored = stored_put names owner None at change;
     shape = shape;
     number = ap (λ (e : Entry). e.number) change.token;
     others = λ others was. subst (λ (h : HandView). AreHeldBeside others new h.tickets h.tokens) (sym hand)
@@ -173,10 +182,10 @@ module _ {B L : Type 0} (old new : FileState B L) (x y : Area) (index : ℕ) (t 
     geometry = geometry;
   }
 
-  pub serves_over : (b : Placed) → Some b ≡ ticket_at old index → MarksNode (lengthened index) old new (λ w. ticket_weight w (Some b)) (λ w. w.ticket t)
+  pub serves_over : Same (namer_at old) (namer_at new) → owner_at old (path old.shape index) ≡ Some t.mark.owner → (b : Placed) → Some b ≡ ticket_at old index → MarksNode (lengthened index) old new (λ w. ticket_weight w (Some b)) (λ w. w.ticket t)
       → y.hand ≡ less_ticket b.mark (with_ticket t.mark x.hand) → Serves old new x y
-  serves_over b at change hand = record {
-    stored = stored_put (Some b) at change;
+  serves_over names owner b at change hand = record {
+    stored = stored_put names owner (Some b) at change;
     shape = shape;
     number = ap (λ (e : Entry). e.number) change.token;
     others = λ others was. subst (λ (h : HandView). AreHeldBeside others new h.tickets h.tokens) (sym hand)
@@ -195,6 +204,9 @@ over_there old new x index t b was change =
 
 module _ {B L : Type 0} (old new : FileState B L) (x y : Area) (n : ℕ) (is : IsStored old) (now : IsFile new) (shape : new.shape ≡ old.shape) (kind : new.kind ≡ old.kind)
     (length : new.length ≡ old.length) (geometry : y.geometry ≡ x.geometry) where
+  short_as : new.length ≤ largest_length new.shape
+  short_as = let s = is.short in let top = ap largest_length shape in omega arith
+
   were : (q : ℕ) → get (file_of old).blocks q ≡ content_of (ticket_at old q)
   were = (shows_file_of old is.file).blocks
 
@@ -246,16 +258,20 @@ module _ {B L : Type 0} (old new : FileState B L) (x y : Area) (n : ℕ) (is : I
     pub out_there : {others : Others} → InHand others old x → 0 < times same_mark t.mark x.hand.tickets
     out_there was = ticket_there new t.mark x.hand.tickets x.hand.tokens (held_ticket old new x.hand.tickets x.hand.tokens was unchanged t out weighs change)
 
-    pub serves_out : y.hand ≡ less_ticket t.mark x.hand → y.numbers ≡ x.numbers → Serves old new x y
-    serves_out hand numbers = record {
+    still : (i : ℕ) (u : Placed) → ticket_at new i ≡ Some u → ticket_at old i ≡ Some u
+    still i u there = elim (cases_eq i at) [
+      | inl e ↦ let none = sym hands.3.0 ∙ (ap (ticket_at new) (sym e) ∙ there) in absurd (cc)
+      | inr ne ↦ sym (hands.3.1 i ne) ∙ there
+    ]
+
+    pub serves_out : KeepsNamers (ticket_at new) (namer_at old) (namer_at new) → y.hand ≡ less_ticket t.mark x.hand → y.numbers ≡ x.numbers → Serves old new x y
+    serves_out keeps hand numbers = record {
       stored = record {
         file = now;
-        short = let s = is.short in let top = ap largest_length shape in omega arith;
+        short = short_as;
+        named = named_still old new is.named now short_as shape still keeps;
         numbered = let all = weigh_tokens unchanged old new out nothing change unnumbered in let was = is.numbered in omega arith;
-        whole = λ i u there. elim (cases_eq i at) [
-          | inl e ↦ let none = sym hands.3.0 ∙ (ap (ticket_at new) (sym e) ∙ there) in absurd (cc)
-          | inr ne ↦ is.whole i u (sym (hands.3.1 i ne) ∙ there) ∙ ap block_bytes (sym shape)
-        ];
+        whole = λ i u there. is.whole i u (still i u there) ∙ ap block_bytes (sym shape);
         counted =
             let all = weigh_tickets unchanged old new out nothing change (λ m. 1) in
             let one = weighs each_ticket in
@@ -277,9 +293,9 @@ module _ {B L : Type 0} (old new : FileState B L) (x y : Area) (n : ℕ) (is : I
     pub node_there : {others : Others} → InHand others old x → 0 < times same_entry k x.hand.tokens
     node_there was = token_there new k x.hand.tickets x.hand.tokens (held_token old new x.hand.tickets x.hand.tokens was unchanged k out weighs change)
 
-    pub serves_node : y.hand ≡ less_token k x.hand → KeepsFree x.geometry.files x.numbers.taken y.numbers.taken → Serves old new x y
-    serves_node hand free = record {
-      stored = stored_same old new is now shape kind length same
+    pub serves_node : KeepsNamers (ticket_at new) (namer_at old) (namer_at new) → y.hand ≡ less_token k x.hand → KeepsFree x.geometry.files x.numbers.taken y.numbers.taken → Serves old new x y
+    serves_node keeps hand free = record {
+      stored = stored_same old new is now shape kind length same (named_still old new is.named now short_as shape (λ i u there. sym (same i) ∙ there) keeps)
           (let all = weigh_tickets unchanged old new out nothing change (λ m. 1) in let none = weighs.2 each_ticket in omega arith)
           (let all = weigh_tokens unchanged old new out nothing change unnumbered in let was = is.numbered in omega arith);
       shape = shape;
@@ -294,11 +310,15 @@ module _ {B L : Type 0} (old new : FileState B L) (x y : Area) (n : ℕ) (is : I
 module _ {B L : Type 0} (old new : FileState B L) (x : Area) (n : ℕ) (is : IsStored old) (now : IsFile new) (shape : new.shape ≡ old.shape)
     (length : new.length ≡ min old.length n) (same : Same (ticket_at old) (ticket_at new)) (below : (w : Weighing Placed) → below_weight new w ≡ below_weight old w)
     (token : new.token ≡ old.token) where
-  pub serves_cut : Serves old new x x
-  serves_cut = record {
+  short_cut : new.length ≤ largest_length new.shape
+  short_cut = let s = is.short in let top = ap largest_length shape in omega arith
+
+  pub serves_cut : KeepsNamers (ticket_at new) (namer_at old) (namer_at new) → Serves old new x x
+  serves_cut keeps = record {
     stored = record {
       file = now;
-      short = let s = is.short in let top = ap largest_length shape in omega arith;
+      short = short_cut;
+      named = named_still old new is.named now short_cut shape (λ i u there. sym (same i) ∙ there) keeps;
       numbered =
           let weight = below (of_tokens unnumbered) in
           let same = ap unnumbered token in

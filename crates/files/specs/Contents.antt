@@ -8,7 +8,7 @@ use Rattle.tickets.specs.Placed.{Placed}
 use Rattle.tree.specs.Change.{of_tickets}
 use Rattle.nodes.specs.declared.file.FileState.{FileState}
 use Rattle.nodes.specs.File.{IsFile, ticket_at, weight_of, file_of}
-use Rattle.nodes.specs.Owners.{HasNumbers}
+use Rattle.nodes.specs.Owners.{HasNumbers, AreNamed}
 use Rattle.nodes.specs.Held.{Others, AreHeldBeside}
 use Rattle.area.specs.Area.{Area, KeepsFree}
 
@@ -16,11 +16,13 @@ use Rattle.area.specs.Area.{Area, KeepsFree}
 abbrev pub AreWhole : ℕ → (ℕ → Option Placed) → Type 0
 AreWhole bytes at = (i : ℕ) (t : Placed) → at i ≡ Some t → length t.content ≡ bytes
 
--- A file of whole blocks, as many as it has tickets, no longer than its tree reaches. Each of its nodes has a number.
+-- A file of whole blocks, as many as it has tickets, no longer than its tree reaches. Each of its nodes has a number,
+-- and who owns a block is who names it.
 pub record IsStored {B L : Type 0} (f : FileState B L) : Type 0 where
   pub file : IsFile f
   pub short : f.length ≤ largest_length f.shape
   pub numbered : HasNumbers f
+  pub named : AreNamed f
   pub whole : AreWhole (block_bytes f.shape) (ticket_at f)
   pub counted : weight_of f (of_tickets (λ t. 1)) ≡ len (file_of f).blocks
 

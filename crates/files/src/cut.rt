@@ -6,6 +6,7 @@ ghost use Rattle.books.specs.declared.claim.Entry.{Entry};
 ghost use Rattle.sums.specs.Weights.{weigh};
 ghost use Rattle.nodes.specs.File.{IsBare, file_of};
 ghost use Rattle.nodes.specs.Held.{Others};
+ghost use Rattle.nodes.specs.Useful.{IsUseful, each_node};
 ghost use Rattle.area.specs.Area.{Area};
 ghost use Rattle.files.specs.Contents.{IsStored, InHand, Serves};
 
@@ -21,6 +22,7 @@ pub fn cut_blocks<B: Block + Drop>(area: &mut MainArea<B>, file: &mut FileState<
     requires held { (others : Others) × InHand others file.old area.old }
     ensures serves { Serves file.old file.new area.old area.new }
     ensures file { file_of file.new ≡ cut_to (file_of file.old) length }
+    ensures useful { IsUseful each_node file.old → IsUseful each_node file.new }
     ensures bare { length ≡ 0 → IsBare file.new }
 {
     'spares: while let Some(spare) = file.cut(length) {

@@ -1,11 +1,14 @@
 //! The nodes that the way to an index of a file lacks.
-ghost use Rattle.std.specs.Prelude.{◌≡◌, ℕ, ◌+◌, ◌<◌, ◌≤◌, ◌⊎◌, OnOk, IfErr};
+ghost use Rattle.std.specs.Prelude.{◌≡◌, ℕ, ◌+◌, ◌<◌, ◌≤◌, ◌⊎◌, Some, OnOk, IfErr};
 ghost use Rattle.sums.specs.Weights.{weigh};
 ghost use Rattle.books.specs.declared.claim.Entry.{Entry};
 ghost use Rattle.geometry.specs.declared.error.Error.TheVariants.{NoMemory, NoNode};
 ghost use Rattle.geometry.specs.Path.{largest_length};
 ghost use Rattle.nodes.specs.File.{file_of, missing_to};
-ghost use Rattle.nodes.specs.Lacking.{lacking_to, spare_tokens, AreEmptyNodes};
+ghost use Rattle.spares.specs.Spares.{KeepsNames};
+ghost use Rattle.nodes.specs.Lacking.{lacking_to, spare_tokens, AreEmptyNodes, end_number};
+ghost use Rattle.nodes.specs.Owners.{namer_at};
+ghost use Rattle.nodes.specs.Useful.{IsUseful, is_off};
 ghost use Rattle.area.specs.Area.{Area, KeepsFree};
 ghost use Rattle.files.specs.Contents.{IsStored};
 ghost use Rattle.files.specs.Beside.{IsSpareFor, ServesBeside};
@@ -54,6 +57,9 @@ pub(crate) fn plant_path<B: Block>(file: &mut FileState<B>, spares: &mut SparePa
     ensures serves { (area : Area) → ServesBeside file.old file.new spares.old spares.new area area }
     ensures file { file_of file.new ≡ file_of file.old }
     ensures path { missing_to file.new index ≡ 0 }
+    ensures names { KeepsNames (namer_at file.old) (namer_at file.new) }
+    ensures useful { IsUseful (is_off index) file.old → IsUseful (is_off index) file.new }
+    ensures end { 0 < missing_to file.old index → namer_at file.new index ≡ Some (end_number spares.old) }
 {
     'ready: while file.plant(index, spares) {}
 }

@@ -7,6 +7,7 @@ ghost use Rattle.geometry.specs.Shape.{block_bytes};
 ghost use Rattle.nodes.specs.File.{file_of};
 ghost use Rattle.nodes.specs.Held.{Others, with_spares};
 ghost use Rattle.nodes.specs.Lacking.{lacking_to};
+ghost use Rattle.nodes.specs.Useful.{IsUseful, each_node};
 ghost use Rattle.files.specs.Contents.{IsStored, InHand, Serves};
 ghost use Rattle.files.specs.Beside.{IsSpareFor, ServesBeside};
 
@@ -38,6 +39,7 @@ pub fn write_block<B: Block + Drop>(
     requires held { (others : Others) × InHand others file.old area.old }
     ensures serves { Serves file.old file.new area.old area.new }
     ensures file { OnOk result (file_of file.new ≡ written (file_of file.old) index bytes.now) }
+    ensures useful { IsUseful each_node file.old → IsUseful each_node file.new }
     ensures err { OnErr result (file.new ≡ file.old) }
     ensures error { IfErr result (λ error. (error ≡ NoMemory) ⊎ ((error ≡ NoNode) ⊎ ((error ≡ NoSpace) ⊎ (error ≡ Device)))) }
 {
@@ -65,6 +67,7 @@ fn write_with<B: Block + Drop>(
     requires held { (others : Others) × InHand (with_spares spares.old others) file.old area.old }
     ensures serves { ServesBeside file.old file.new spares.old spares.new area.old area.new }
     ensures file { OnOk result (file_of file.new ≡ written (file_of file.old) index bytes.now) }
+    ensures useful { IsUseful each_node file.old → IsUseful each_node file.new }
     ensures err { OnErr result (file.new ≡ file.old) }
     ensures error { IfErr result (λ error. (error ≡ NoMemory) ⊎ ((error ≡ NoNode) ⊎ ((error ≡ NoSpace) ⊎ (error ≡ Device)))) }
 {
@@ -90,6 +93,7 @@ fn append_at<B: Block + Drop>(
     requires held { (others : Others) × InHand (with_spares spares.old others) file.old area.old }
     ensures serves { ServesBeside file.old file.new spares.old spares.new area.old area.new }
     ensures file { OnOk result (file_of file.new ≡ written (file_of file.old) index bytes.now) }
+    ensures useful { IsUseful each_node file.old → IsUseful each_node file.new }
     ensures err { OnErr result (file.new ≡ file.old) }
     ensures error { IfErr result (λ error. (error ≡ Device) ⊎ (error ≡ NoSpace)) }
 {

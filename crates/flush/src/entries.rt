@@ -1,8 +1,8 @@
 //! The walk over the entries of a node.
-ghost use Rattle.std.specs.Prelude.{◌≡◌, ◌≤◌, ◌<◌, true, false, map, slice_set, length, OnOk, OnErr, IfOk, IfErr};
+ghost use Rattle.std.specs.Prelude.{Bool, ℕ, None, ◌≡◌, ◌≤◌, ◌<◌, ◌+◌, ◌*◌, true, false, map, slice_set, length, OnOk, OnErr, IfOk, IfErr};
 ghost use Rattle.sums.specs.Weights.{weigh};
 ghost use Rattle.books.specs.declared.claim.Entry.{Entry};
-ghost use Rattle.tree.specs.Tree.{Same, ShapedIn, entry_at, find_in};
+ghost use Rattle.tree.specs.Tree.{Same, ShapedIn, UsefulIn, AreNone, entry_at, find_in};
 ghost use Rattle.tree.specs.Change.{TreeNode, tree_node, each_marked};
 ghost use Rattle.flush.specs.Writing.{IsAmong, WritesOne, marked_node};
 
@@ -92,6 +92,9 @@ fn flush_at<C: Walk, W: NodeWriter>(
         × IsAmong (λ w. weigh (C.weight w) below.old.slots.items) n × W.refused writer.old n e writer.new) }
     ensures entry { below.new.slots.items ≡ slice_set below.old.slots.items place (entry_at below.new.slots.items place) }
     ensures same { Same (C.find entries (entry_at below.old.slots.items place)) (C.find entries (entry_at below.new.slots.items place)) }
+    ensures namer { Same (C.namer entries (entry_at below.old.slots.items place)) (C.namer entries (entry_at below.new.slots.items place)) }
+    ensures there { entry_at below.new.slots.items place ≡ None → entry_at below.old.slots.items place ≡ None }
+    ensures useful { (asked : ℕ → ℕ → Bool) (first : ℕ) → C.useful entries asked first (entry_at below.old.slots.items place) → C.useful entries asked first (entry_at below.new.slots.items place) }
     ensures shaped { C.shaped entries (entry_at below.new.slots.items place) }
     ensures numbers { map C.number below.new.slots.items ≡ map C.number below.old.slots.items }
     ensures mark { below.new.dirty ≡ below.old.dirty }
@@ -117,6 +120,9 @@ pub fn flush_entries<C: Walk, W: NodeWriter>(
     ensures refused { IfErr result (λ e. (below.new ≡ below.old) × (n : TreeNode) × (n.dirty ≡ true)
         × IsAmong (λ w. weigh (C.weight w) below.old.slots.items) n × W.refused writer.old n e writer.new) }
     ensures same { Same (find_in (C.find entries) (C.span_of entries) below.old.slots.items) (find_in (C.find entries) (C.span_of entries) below.new.slots.items) }
+    ensures namer { Same (find_in (C.namer entries) (C.span_of entries) below.old.slots.items) (find_in (C.namer entries) (C.span_of entries) below.new.slots.items) }
+    ensures some { AreNone below.new.slots.items → AreNone below.old.slots.items }
+    ensures useful { (asked : ℕ → ℕ → Bool) (first : ℕ) → UsefulIn (C.useful entries) (C.span_of entries) asked first below.old.slots.items → UsefulIn (C.useful entries) (C.span_of entries) asked first below.new.slots.items }
     ensures shaped { ShapedIn (C.shaped entries) count below.new.slots.items }
     ensures numbers { map C.number below.new.slots.items ≡ map C.number below.old.slots.items }
     ensures mark { below.new.dirty ≡ below.old.dirty }

@@ -1,5 +1,5 @@
 //! The walk below one entry.
-ghost use Rattle.std.specs.Prelude.{◌≡◌, ◌≤◌, true, false, length, IfOk, IfErr};
+ghost use Rattle.std.specs.Prelude.{Bool, ℕ, None, ◌≡◌, ◌≤◌, true, false, length, IfOk, IfErr};
 ghost use Rattle.books.specs.declared.claim.Entry.{Entry};
 ghost use Rattle.tree.specs.Tree.{Same};
 ghost use Rattle.tree.specs.Change.{TreeNode, each_marked};
@@ -34,6 +34,9 @@ pub trait Walk: Subtree {
         ensures refused { IfErr result (λ e. (slot.new ≡ slot.old) × (n : TreeNode) × (n.dirty ≡ true)
             × IsAmong (λ w. Self.weight w slot.old) n × W.refused writer.old n e writer.new) }
         ensures same { Same (Self.find entries slot.old) (Self.find entries slot.new) }
+        ensures namer { Same (Self.namer entries slot.old) (Self.namer entries slot.new) }
+        ensures there { slot.new ≡ None → slot.old ≡ None }
+        ensures useful { (asked : ℕ → ℕ → Bool) (first : ℕ) → Self.useful entries asked first slot.old → Self.useful entries asked first slot.new }
         ensures shaped { Self.shaped entries slot.new }
         ensures number { Self.number slot.new ≡ Self.number slot.old }
         ensures room { length numbers.new ≡ length numbers.old };

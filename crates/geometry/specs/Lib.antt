@@ -11,3 +11,5 @@ pub mod Life
 pub mod Class
 pub mod Segment
 pub mod Path
+pub mod Version
+pub mod Blocks

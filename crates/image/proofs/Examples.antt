@@ -122,6 +122,7 @@ one_file_is_lawful = lawful_by_tests small one_file (record {
   summaries = refl;
   as_many = refl;
   nodes = refl;
+  owned = refl;
   apart = refl;
   holds = refl;
   fit = refl;

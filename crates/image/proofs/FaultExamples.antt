@@ -54,6 +54,7 @@ two_blocks_are_lawful = lawful_by_tests small two_blocks (record {
   summaries = refl;
   as_many = refl;
   nodes = refl;
+  owned = refl;
   apart = refl;
   holds = refl;
   fit = refl;
@@ -73,6 +74,16 @@ two_blocks_are_lawful = lawful_by_tests small two_blocks (record {
 log_out_of_range : ¬ Rule small (changed_image (set base 8 0x20) inode_bytes) 1
 unfolding small two_blocks two_inode plain_segment segment_with_first base inode_bytes changed_image image_in
 log_out_of_range kept = let first = kept.places 0 None (omega arith) in let low : 32 < 32 = first.0 in omega arith
+
+-- node 2 has an inode number and no address
+half_an_entry : ¬ Rule small (changed_image (set base 64 1) inode_bytes) 1
+unfolding small two_blocks two_inode plain_segment segment_with_first base inode_bytes changed_image image_in
+half_an_entry kept = let half = (kept.entries 1 no_entry (omega arith)).2 in let none : ◌≡◌ {A = ℕ} 1 0 = half.1 refl in omega arith
+
+-- node 5 is no number of the table
+unowned_node : ¬ Rule small (record two_blocks { nodes = two_inode ∷ (replicate 3 no_node ++ record no_node { nid = 5 } ∷ replicate 59 no_node) }) 1
+unfolding small two_blocks two_inode plain_segment segment_with_first
+unowned_node kept = let is : ◌≡◌ {A = ℕ} 5 0 = ap (λ (n : Node). n.nid) (kept.owned 5 (omega arith) refl) in omega arith
 
 -- logs 0 and 1 in segment 1
 logs_collide : ¬ Rule small (changed_image (set base 8 1) inode_bytes) 2

@@ -1,5 +1,6 @@
 pub mod Shapes
 pub mod Marking
+pub mod Picking
 pub mod Frame
 pub mod RoundTrip
 pub mod NodeRoundTrip

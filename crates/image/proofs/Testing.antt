@@ -1,6 +1,6 @@
 -- A test of an image that computes, and tells that the image is lawful.
 use Rattle.std.proofs.Common.{◌≡◌, ◌≢◌, refl, sym, ◌∙◌, ap, subst, ℕ, zero, suc, ◌+◌, ◌-◌, ◌*◌, ◌<◌, ◌≤◌, ◌⊎◌, inl, inr, Bool, true, false, not, ◌&&◌, ◌||◌, IsTrue, List, [], ◌∷◌, ◌++◌, map, length, get_or, arith}
-use Rattle.std.specs.Prelude.{Option, Some, None, IfSome, All, AllPairs, Contains, count_by, sum_by, ◌==◌, nat_lt, nat_le}
+use Rattle.std.specs.Prelude.{◌↔◌, Option, Some, None, IfSome, All, AllPairs, Contains, count_by, sum_by, ◌==◌, nat_lt, nat_le}
 use Rattle.std.specs.List.{list_all}
 use Rattle.std.proofs.lemmas.Bool.Decides.{leb_tells}
 use Rattle.std.proofs.lemmas.Bool.{ltb-true, leb-true, le-leb, lt-ltb, le-ltb, eqb-true, eqb-false, ne_eqb}
@@ -13,8 +13,10 @@ use Rattle.geometry.specs.declared.geometry.Geometry.{Geometry}
 use Rattle.geometry.specs.Path.{largest_length, node_entries, inode_entries, path}
 use Rattle.geometry.specs.Address.{address_of, segment_of, offset_of}
 use Rattle.geometry.specs.Area.{block_count}
-use Rattle.image.specs.Node.{Node, HasEntries}
-use Rattle.image.specs.Image.{Image, SegmentInfo, entry_of, node_of, is_marked, summary_at, no_summary, no_segment}
+use Rattle.geometry.specs.declared.kind.Kind.{Kind}
+use Rattle.geometry.specs.declared.kind.Kind.TheVariants.{File, Dir, Media}
+use Rattle.image.specs.Node.{Node, HasEntries, IsPlain}
+use Rattle.image.specs.Image.{Image, SegmentInfo, entry_of, node_of, is_marked, summary_at, no_summary, no_segment, no_node}
 use Rattle.geometry.specs.declared.owner.Owner.TheVariants.{Node as OfNode}
 use Rattle.image.specs.Walk.{has_address, names, inodes, is_taken, misfits, up_to}
 use Rattle.image.specs.Files.{data_address, below, at_end}
@@ -24,7 +26,7 @@ use Rattle.geometry.proofs.Addresses.{address_of-parts}
 use Rattle.geometry.proofs.MarkTests.{mark_eq}
 use Rattle.geometry.specs.Mark.{same_mark}
 use Rattle.geometry.specs.Summary.{summary_of}
-use Rattle.image.specs.Rules.{IsPlace, IsEntry, HasRange, IsInRange, AreApart, IsNodeOf, TableHoldsNodes, NodesAreMet, MarkedIsNamed, IsLawful}
+use Rattle.image.specs.Rules.{IsPlace, IsEntry, HasRange, NodesHaveEntries, IsInRange, AreApart, IsNodeOf, TableHoldsNodes, NodesAreMet, MarkedIsNamed, IsLawful}
 use Rattle.geometry.specs.Shape.{segment_blocks}
 
 and_left : (a b : Bool) → (a && b) ≡ true → a ≡ true
@@ -38,6 +40,10 @@ and_right false b h = absurd cc
 either_true : (a b : Bool) → (not a || b) ≡ true → a ≡ true → b ≡ true
 either_true true b h e = h
 either_true false b h e = absurd cc
+
+or_cases : (a b : Bool) → (a || b) ≡ true → (a ≡ true) ⊎ (b ≡ true)
+or_cases true b h = inl refl
+or_cases false b h = inr h
 
 all_cons : {X : Type 0} (P : X → Type 0) (x : X) (xs : List X) → P x → All P xs → All P (x ∷ xs)
 all_cons P x xs first rest zero d within = first
@@ -99,11 +105,26 @@ place_sound : (geometry : Geometry) (log : Option Place) → place_test geometry
 place_sound geometry None h = tt
 place_sound geometry (Some p) h = (ltb-true _ _ (and_left _ _ h), ltb-true _ _ (and_right (nat_lt p.segment geometry.segments) _ h))
 
+abbrev pub both_or_neither : Bool → Bool → Bool
+both_or_neither true b = b
+both_or_neither false b = not b
+
+both_cases : (a b : ℕ) (x y : Bool) → (a == 0) ≡ x → (b == 0) ≡ y → both_or_neither x y ≡ true → (a ≡ 0) ↔ (b ≡ 0)
+both_cases a b true true ex ey h = (λ e. eqb-true b 0 ey, λ e. eqb-true a 0 ex)
+both_cases a b true false ex ey h = absurd cc
+both_cases a b false true ex ey h = absurd cc
+both_cases a b false false ex ey h = (λ e. absurd (eqb-false a 0 ex e), λ e. absurd (eqb-false b 0 ey e))
+
+both_sound : (a b : ℕ) → both_or_neither (a == 0) (b == 0) ≡ true → (a ≡ 0) ↔ (b ≡ 0)
+both_sound a b h = both_cases a b (a == 0) (b == 0) refl refl h
+
 abbrev pub entry_test : Geometry → NodeEntry → Bool
-entry_test geometry e = nat_le e.inode geometry.nodes && nat_le e.address (block_count geometry)
+entry_test geometry e = nat_le e.inode geometry.nodes && (nat_le e.address (block_count geometry) && both_or_neither (e.inode == 0) (e.address == 0))
 
 entry_sound : (geometry : Geometry) (e : NodeEntry) → entry_test geometry e ≡ true → IsEntry geometry e
-entry_sound geometry e h = (leb-true _ _ (and_left _ _ h), leb-true _ _ (and_right (nat_le e.inode geometry.nodes) _ h))
+entry_sound geometry e h =
+    let rest = and_right (nat_le e.inode geometry.nodes) _ h in
+    (leb-true _ _ (and_left _ _ h), leb-true _ _ (and_left _ _ rest), both_sound e.inode e.address (and_right (nat_le e.address (block_count geometry)) _ rest))
 
 abbrev pub entries_test : Shape → Node → ℕ → Bool
 entries_test shape n zero = (length n.addresses == inode_entries shape) && (length n.children == 5)
@@ -122,6 +143,46 @@ entries_sound shape n (suc zero) h =
 entries_sound shape n (suc (suc zero)) h = (no_items n.addresses (and_left _ _ h), eqb-true _ _ (and_right (length n.addresses == 0) _ h))
 entries_sound shape n (suc (suc (suc class))) h = (no_items n.addresses (and_left _ _ h), no_items n.children (and_right (length n.addresses == 0) _ h))
 
+abbrev pub is_file : Kind → Bool
+is_file File = true
+is_file Dir = false
+is_file Media = false
+
+file_sound : (kind : Kind) → is_file kind ≡ true → kind ≡ File
+file_sound File h = refl
+file_sound Dir h = absurd cc
+file_sound Media h = absurd cc
+
+abbrev pub plain_test : Node → Bool
+plain_test n = (n.class == 0) || ((n.length == 0) && is_file n.kind)
+
+plain_sound : (n : Node) → plain_test n ≡ true → IsPlain n
+plain_sound n h = elim (or_cases (n.class == 0) _ h) [
+  | inl inode ↦ inl (eqb-true _ _ inode)
+  | inr none ↦ inr (eqb-true _ _ (and_left _ _ none), file_sound n.kind (and_right (n.length == 0) _ none))
+]
+
+-- no node: each field is that of none
+abbrev pub none_test : Node → Bool
+none_test n =
+    (n.nid == 0) && ((n.inode == 0) && ((n.class == 4) && ((n.length == 0) && (is_file n.kind && ((length n.addresses == 0) && (length n.children == 0))))))
+
+none_sound : (n : Node) → none_test n ≡ true → n ≡ no_node
+none_sound n h =
+    let h1 = and_right (n.nid == 0) _ h in
+    let h2 = and_right (n.inode == 0) _ h1 in
+    let h3 = and_right (n.class == 4) _ h2 in
+    let h4 = and_right (n.length == 0) _ h3 in
+    let h5 = and_right (is_file n.kind) _ h4 in
+    let nid : n.nid ≡ 0 = eqb-true _ _ (and_left _ _ h) in
+    let inode : n.inode ≡ 0 = eqb-true _ _ (and_left _ _ h1) in
+    let class : n.class ≡ 4 = eqb-true _ _ (and_left _ _ h2) in
+    let long : n.length ≡ 0 = eqb-true _ _ (and_left _ _ h3) in
+    let kind : n.kind ≡ File = file_sound n.kind (and_left _ _ h4) in
+    let addresses : n.addresses ≡ [] = no_items n.addresses (and_left _ _ h5) in
+    let children : n.children ≡ [] = no_items n.children (and_right (length n.addresses == 0) _ h5) in
+    λ i. record { nid = nid i; inode = inode i; class = class i; length = long i; kind = kind i; addresses = addresses i; children = children i }
+
 abbrev pub numbers_test : Geometry → Node → Bool
 numbers_test geometry n =
     list_all (λ a. nat_le a (block_count geometry)) n.addresses
@@ -129,12 +190,13 @@ numbers_test geometry n =
 
 abbrev pub node_test : Geometry → Node → Bool
 node_test geometry n =
-    entries_test geometry.shape n n.class && (nat_le n.inode geometry.nodes && numbers_test geometry n)
+    entries_test geometry.shape n n.class && (nat_le n.inode geometry.nodes && (plain_test n && numbers_test geometry n))
 
 node_sound : (geometry : Geometry) (n : Node) → node_test geometry n ≡ true → HasRange geometry n
 node_sound geometry n both =
     let all = and_right (entries_test geometry.shape n n.class) _ both in
-    let h = and_right (nat_le n.inode geometry.nodes) _ all in
+    let more = and_right (nat_le n.inode geometry.nodes) _ all in
+    let h = and_right (plain_test n) _ more in
     let rest = and_right (list_all (λ a. nat_le a (block_count geometry)) n.addresses) _ h in
     record {
       inode = leb-true _ _ (and_left _ _ all);
@@ -142,6 +204,7 @@ node_sound geometry n both =
       addresses = all_by_test _ (λ a. nat_le a (block_count geometry)) (λ a t. leb-true _ _ t) n.addresses (and_left _ _ h);
       children = all_by_test _ (λ k. nat_le k geometry.nodes) (λ k t. leb-true _ _ t) n.children (and_left _ _ rest);
       length = leb-true _ _ (and_right (list_all (λ k. nat_le k geometry.nodes) n.children) _ rest);
+      plain = plain_sound n (and_left _ _ more);
     }
 
 -- 2
@@ -189,10 +252,6 @@ name_test a k n = same_mark n (record { address = a; owner = OfNode k })
 abbrev pub has_name : ℕ → ℕ → List Mark → Bool
 has_name a k [] = false
 has_name a k (n ∷ ns) = name_test a k n || has_name a k ns
-
-or_cases : (a b : Bool) → (a || b) ≡ true → (a ≡ true) ⊎ (b ≡ true)
-or_cases true b h = inl refl
-or_cases false b h = inr h
 
 one_later : {X : Type 0} (x y : X) (xs : List X) → Contains xs y → Contains (x ∷ xs) y
 one_later x y xs (k, within, is) = (suc k, omega arith, is)
@@ -303,6 +362,7 @@ pub record Passes (geometry : Geometry) (image : Image) : Type 0 where
   pub summaries : length image.summaries ≡ block_count geometry
   pub as_many : length image.nodes ≡ geometry.nodes
   pub nodes : list_all (node_test geometry) image.nodes ≡ true
+  pub owned : list_all (λ nid. is_taken image nid || none_test (node_of image nid)) (up_to geometry.nodes) ≡ true
   pub apart : pairs apart_test image.logs ≡ true
   pub holds : list_all (λ nid. not (is_taken image nid) || node_of_test geometry image nid) (up_to geometry.nodes) ≡ true
   pub fit : list_all (λ inode. length (misfits image inode) == 0) (inodes geometry image) ≡ true
@@ -317,6 +377,15 @@ pub record Passes (geometry : Geometry) (image : Image) : Type 0 where
   pub free_places : list_all (log_test geometry image) image.logs ≡ true
   pub lengths : list_all (length_test geometry image) (inodes geometry image) ≡ true
 
+nodes_owned : (geometry : Geometry) (image : Image) → Passes geometry image → NodesHaveEntries geometry image
+nodes_owned geometry image t zero within none = refl
+nodes_owned geometry image t (suc k) within none =
+    elim (or_cases (is_taken image (suc k)) _
+    (up_to_by_test (λ nid. is_taken image nid || none_test (node_of image nid)) geometry.nodes t.owned (suc k) (omega arith) within)) [
+      | inl taken ↦ absurd (eqb-false (entry_of image (suc k)).address 0 (not_true _ taken) none)
+      | inr is ↦ none_sound (node_of image (suc k)) is
+    ]
+
 in_range : (geometry : Geometry) (image : Image) → Passes geometry image → IsInRange geometry image
 in_range geometry image t = record {
   version = leb-true _ _ t.version;
@@ -329,6 +398,7 @@ in_range geometry image t = record {
   summaries = t.summaries;
   as_many = t.as_many;
   nodes = all_by_test _ (node_test geometry) (node_sound geometry) image.nodes t.nodes;
+  owned = nodes_owned geometry image t;
 }
 
 not_taken_0 : (image : Image) → IsTrue (is_taken image 0) → ⊥

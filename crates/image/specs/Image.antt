@@ -26,7 +26,7 @@ pub record Image : Type 0 where
   pub summaries : List Summary
   pub nodes : List Node
 
--- what stands where there is no entry, no segment, no summary, no node: each number is 0, and the class is none
+-- what stands where there is no entry, no segment, no summary, no node: each number is 0, and the class is none that a node may have
 abbrev pub no_entry : NodeEntry
 no_entry = record { inode = 0; address = 0 }
 
@@ -37,7 +37,7 @@ abbrev pub no_summary : Summary
 no_summary = record { nid = 0; slot = 0 }
 
 abbrev pub no_node : Node
-no_node = record { nid = 0; inode = 0; class = 3; length = 0; kind = File; addresses = []; children = [] }
+no_node = record { nid = 0; inode = 0; class = 4; length = 0; kind = File; addresses = []; children = [] }
 
 -- the entry of a node number, and its node
 abbrev pub entry_of : Image → ℕ → NodeEntry

@@ -4,6 +4,7 @@ pub mod Walk
 pub mod Files
 pub mod Rules
 pub mod Faults
+pub mod Slots
 pub mod Pack
 pub mod Reading
 pub mod View

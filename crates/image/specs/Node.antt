@@ -47,6 +47,10 @@ HasEntries shape node (suc zero) = (length node.addresses ≡ node_entries shape
 HasEntries shape node (suc (suc zero)) = (node.addresses ≡ []) × (length node.children ≡ node_entries shape)
 HasEntries shape node (suc (suc (suc class))) = (node.addresses ≡ []) × (node.children ≡ [])
 
+-- a file's length and kind stand in its inode alone
+abbrev pub IsPlain : Node → Type 0
+IsPlain node = (node.class ≡ 0) ⊎ ((node.length ≡ 0) × (node.kind ≡ File))
+
 -- a node that has a spelling
 pub record IsNode (shape : Shape) (node : Node) : Type 0 where
   pub nid : (1 ≤ node.nid) × (node.nid < 2 ^ 32)
@@ -56,7 +60,7 @@ pub record IsNode (shape : Shape) (node : Node) : Type 0 where
   pub entries : HasEntries shape node node.class
   pub addresses : All (λ a. a < 2 ^ 32) node.addresses
   pub children : All (λ k. k < 2 ^ 32) node.children
-  pub plain : (node.class ≡ 0) ⊎ ((node.length ≡ 0) × (node.kind ≡ File))
+  pub plain : IsPlain node
 
 -- a block spells this node
 abbrev pub Spells : Shape → List ℕ → Node → Type 0

@@ -1,5 +1,5 @@
--- The bytes of the superblock and of a checkpoint pack, and which of two packs holds (Linux filesystems/f2fs, checkpoint area; how the bytes lie is this project's own).
-use Rattle.std.specs.Prelude.{ℕ, zero, suc, ◌+◌, ◌-◌, ◌*◌, ◌/◌, ◌%◌, ◌^◌, Bool, true, false, ◌&&◌, ◌==◌, nat_lt, if◌then◌else◌, List, [], ◌∷◌, ◌++◌, take, drop, replicate, Option, Some, None, codes}
+-- The bytes of the superblock and of a checkpoint pack (Linux filesystems/f2fs, checkpoint area; how the bytes lie is this project's own).
+use Rattle.std.specs.Prelude.{ℕ, zero, suc, ◌+◌, ◌-◌, ◌*◌, ◌/◌, ◌^◌, Bool, true, false, List, [], ◌∷◌, ◌++◌, take, drop, replicate, Option, Some, None, codes}
 use Rattle.std.specs.List.{flat_map}
 use Rattle.byteorder.specs.Endian.{little_bytes, little_number}
 use Rattle.geometry.specs.declared.shape.Shape.{Shape}
@@ -12,6 +12,7 @@ use Rattle.image.specs.declared.image.NodeEntry.{NodeEntry}
 use Rattle.image.specs.declared.image.Place.{Place}
 use Rattle.image.specs.Node.{numbers}
 use Rattle.image.specs.Image.{Image, SegmentInfo}
+use Rattle.image.specs.Slots.{Slot}
 
 abbrev pub shape_code : Shape → ℕ
 shape_code Tiny = 0
@@ -66,28 +67,9 @@ body_bytes geometry = pack_bytes geometry - 4
 abbrev pub slot_start : Geometry → ℕ → ℕ
 slot_start geometry slot = 64 + slot * pack_bytes geometry
 
--- A slot's bytes, cut where the footer begins.
-pub record Slot : Type 0 where
-  pub body : List ℕ
-  pub footer : ℕ
-
-abbrev pub slot_of : Geometry → List ℕ → Slot
-slot_of geometry bytes = record {
+-- a slot's bytes, cut where the footer begins
+abbrev pub cut_slot : Geometry → List ℕ → Slot
+cut_slot geometry bytes = record {
   body = take (body_bytes geometry) bytes;
   footer = little_number 4 (drop (body_bytes geometry) bytes);
 }
-
-abbrev pub header_version : Slot → ℕ
-header_version slot = little_number 4 slot.body
-
--- header and footer hold one version that is at least 1 and belongs into this slot
-abbrev pub is_sound : ℕ → Slot → Bool
-is_sound number slot =
-    (header_version slot == slot.footer) && nat_lt 0 slot.footer && (slot.footer % 2 == number)
-
--- the number of the sound slot of the higher version
-abbrev pub pick : Slot → Slot → Option ℕ
-pick zeroth first =
-    if is_sound 0 zeroth
-    then (if is_sound 1 first && nat_lt zeroth.footer first.footer then Some 1 else Some 0)
-    else (if is_sound 1 first then Some 1 else None)

@@ -1,6 +1,6 @@
 -- The ten rules of an image, in the order in which a check tests them. An image is lawful if it keeps all; its fault
 -- is the first that it breaks. (Linux filesystems/f2fs says what each table records; the list of rules is this project's own.)
-use Rattle.std.specs.Prelude.{◌≡◌, ◌≢◌, ◌<◌, ◌≤◌, ◌⊎◌, ℕ, zero, suc, IsTrue, List, [], length, map, sum_by, count_by, Option, Some, None, IfSome, All, AllPairs, Contains, ⊤}
+use Rattle.std.specs.Prelude.{◌≡◌, ◌≢◌, ◌<◌, ◌≤◌, ◌⊎◌, ◌↔◌, ℕ, zero, suc, IsTrue, List, [], length, map, sum_by, count_by, Option, Some, None, IfSome, All, AllPairs, Contains, ⊤}
 use Rattle.geometry.specs.declared.geometry.Geometry.{Geometry}
 use Rattle.geometry.specs.declared.owner.Mark.{Mark}
 use Rattle.geometry.specs.Shape.{segment_blocks}
@@ -10,16 +10,17 @@ use Rattle.geometry.specs.Area.{block_count}
 use Rattle.geometry.specs.Summary.{summary_of}
 use Rattle.image.specs.declared.image.NodeEntry.{NodeEntry}
 use Rattle.image.specs.declared.image.Place.{Place}
-use Rattle.image.specs.Node.{Node, HasEntries}
-use Rattle.image.specs.Image.{Image, no_summary, entry_of, node_of, is_marked, summary_at}
+use Rattle.image.specs.Node.{Node, HasEntries, IsPlain}
+use Rattle.image.specs.Image.{Image, no_summary, no_node, entry_of, node_of, is_marked, summary_at}
 use Rattle.image.specs.Walk.{names, node_name, inodes, is_taken, misfits}
 use Rattle.image.specs.Files.{data_address}
 
 abbrev pub IsPlace : Geometry → Place → Type 0
 IsPlace geometry place = (place.segment < geometry.segments) × (place.next < segment_blocks geometry.shape)
 
+-- both numbers are in range, and either both are 0 or neither is
 abbrev pub IsEntry : Geometry → NodeEntry → Type 0
-IsEntry geometry entry = (entry.inode ≤ geometry.nodes) × (entry.address ≤ block_count geometry)
+IsEntry geometry entry = (entry.inode ≤ geometry.nodes) × (entry.address ≤ block_count geometry) × ((entry.inode ≡ 0) ↔ (entry.address ≡ 0))
 
 pub record HasRange (geometry : Geometry) (node : Node) : Type 0 where
   pub inode : node.inode ≤ geometry.nodes
@@ -27,8 +28,13 @@ pub record HasRange (geometry : Geometry) (node : Node) : Type 0 where
   pub addresses : All (λ a. a ≤ block_count geometry) node.addresses
   pub children : All (λ k. k ≤ geometry.nodes) node.children
   pub length : node.length ≤ largest_length geometry.shape
+  pub plain : IsPlain node
 
--- 1: tables and nodes of the right length, and each number in its range
+-- a number without an entry has no node
+abbrev pub NodesHaveEntries : Geometry → Image → Type 0
+NodesHaveEntries geometry image = (nid : ℕ) → nid ≤ geometry.nodes → (entry_of image nid).address ≡ 0 → node_of image nid ≡ no_node
+
+-- 1: tables and nodes of the right length, each number in its range, no half of an entry, and no node without one
 pub record IsInRange (geometry : Geometry) (image : Image) : Type 0 where
   pub version : 1 ≤ image.version
   pub logs : length image.logs ≡ 6
@@ -40,6 +46,7 @@ pub record IsInRange (geometry : Geometry) (image : Image) : Type 0 where
   pub summaries : length image.summaries ≡ block_count geometry
   pub as_many : length image.nodes ≡ geometry.nodes
   pub nodes : All (HasRange geometry) image.nodes
+  pub owned : NodesHaveEntries geometry image
 
 -- 2: no two logs name one segment
 abbrev pub AreApart : Option Place → Option Place → Type 0

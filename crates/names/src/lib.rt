@@ -71,6 +71,19 @@ impl TurnName for Brand {
     ghost key = { no_turns };
 }
 
+/// Names the numbers of a volume: its shape, and how many segments, files and node numbers it has.
+pub trait GeometryName {
+    ghost use Rattle.geometry.specs.declared.geometry.Geometry.{Geometry};
+
+    ghost geometry: { Geometry };
+}
+
+impl GeometryName for Brand {
+    ghost use Rattle.names.specs.Names.{no_geometry};
+
+    ghost geometry = { no_geometry };
+}
+
 /// Names all tables of one volume.
 pub trait VolumeName {
     /// The name of its books.
@@ -84,14 +97,18 @@ pub trait VolumeName {
 
     /// The name of its channel of permits.
     type Turns: TurnName;
+
+    /// The name of its numbers.
+    type Numbers: GeometryName;
 }
 
 /// Names that were picked one after the other, put together in one.
-pub struct Named<B, W, P, T> {
-    names: PhantomData<(B, W, P, T)>,
+pub struct Named<B, W, P, T, N> {
+    names: PhantomData<(B, W, P, T, N)>,
 }
 
-impl<B: BooksName, W: WordsName, P: PoolName, T: TurnName> VolumeName for Named<B, W, P, T> {
+impl<B: BooksName, W: WordsName, P: PoolName, T: TurnName, N: GeometryName> VolumeName
+    for Named<B, W, P, T, N> {
     type Books = B;
 
     type Words = W;
@@ -99,4 +116,6 @@ impl<B: BooksName, W: WordsName, P: PoolName, T: TurnName> VolumeName for Named<
     type Pool = P;
 
     type Turns = T;
+
+    type Numbers = N;
 }

@@ -1,17 +1,20 @@
 //! One shard of the node address table.
-ghost use Rattle.std.specs.Prelude.{◌≡◌, ℕ, ◌<◌, ◌≤◌, ◌%◌, ◌∷◌, [], MatchOption, IfOk, IfErr};
+ghost use Rattle.std.specs.Prelude.{◌≡◌, ℕ, ◌<◌, ◌≤◌, ◌%◌, ◌∷◌, [], length, MatchOption, OnOk, IfOk, IfErr};
 ghost use Rattle.geometry.specs.declared.error.Error.TheVariants.{NoMemory};
 ghost use Rattle.geometry.specs.declared.owner.Owner.TheVariants as owner;
 ghost use Rattle.geometry.specs.Mark.{same_mark};
 ghost use Rattle.books.specs.Lists.{times, without};
 ghost use Rattle.books.specs.Sameness.{same_entry};
 ghost use Rattle.books.specs.Rules.{bare_entry, moved_to, with_lodged};
+ghost use Rattle.sums.specs.Weights.{weigh};
+ghost use Rattle.books.specs.Weights.{shard_copy, past};
+ghost use Rattle.books.specs.declared.claim.Copied.TheVariants.{ShardCopy};
 ghost use Rattle.nat.specs.Taken.{IsFree, IsTaken, IsLocated, placed_of};
 ghost use Rattle.nat.specs.Shard.{HasOwnNodes};
 
 use crate::slot::Slot;
-use books::{Books, Permit, ShardAccount};
-use device::Block;
+use books::{Audit, Books, Permit, ShardAccount};
+use device::{Block, DeviceError};
 use geometry::Error;
 use std::alloc::Global;
 use std::marker::Model;
@@ -143,6 +146,32 @@ impl<B: Block + Drop> Shard<B> {
         }
     }
 
+    /// Reads the block of a node whose token is in hand into `out`, which has as many bytes. After a failure of the device
+    /// `out` has any bytes, and the block its own.
+    pub fn read(
+        &mut self,
+        books: &Books,
+        permit: &mut Permit,
+        token: &NidToken,
+        out: &mut [u8],
+    ) -> Result<(), DeviceError>
+        requires books { (self.old.book ≡ books.now.book) × (permit.old.book ≡ books.now.book) }
+        requires home { token.now.number % 16 ≡ self.old.shard }
+        requires held { 0 < times same_entry token.now permit.old.tokens }
+        requires out { length out.old ≡ length token.now.bytes }
+        ensures shard { self.new ≡ self.old }
+        ensures hand { permit.new ≡ permit.old }
+        ensures bytes { OnOk result (out.new ≡ token.now.bytes) }
+        ensures own { HasOwnNodes self.new }
+    {
+        let place = (token.number() / SHARDS) as usize;
+        books.find(&mut self.account, permit, token);
+        match &mut self.slots[place] {
+            Some(slot) => slot.read(out),
+            None => unreachable!(),
+        }
+    }
+
     /// Spends a token that is in hand: its number is free again. The node's block, where it had one, comes out with its
     /// ticket.
     pub fn give(&mut self, books: &Books, permit: &mut Permit, token: NidToken) -> Option<Ticket<B>>
@@ -164,5 +193,15 @@ impl<B: Block + Drop> Shard<B> {
             Some(slot) => slot.into_ticket(claimed),
             None => unreachable!(),
         }
+    }
+
+    /// An audit of the books learns its taken numbers. It goes by ascending numbers of shards.
+    pub fn learn(&mut self, books: &Books, audit: &mut Audit)
+        requires books { (self.old.book ≡ books.now.book) × (audit.old.book ≡ books.now.book) }
+        requires ascending { weigh (shard_copy (past self.old.shard)) audit.old.copies ≡ 0 }
+        ensures same { self.new ≡ self.old }
+        ensures audit { audit.new ≡ record audit.old { copies = ShardCopy self.old.shard self.old.taken ∷ audit.old.copies } }
+    {
+        books.learn_shard(audit, &mut self.account);
     }
 }

@@ -1,9 +1,9 @@
 //! The slot of a taken node number.
-ghost use Rattle.std.specs.Prelude.{◌≡◌, ◌<◌, [], MatchOption};
+ghost use Rattle.std.specs.Prelude.{◌≡◌, ◌<◌, [], length, MatchOption, OnOk};
 ghost use Rattle.nat.specs.Slots.{address_in, bytes_in, placed_in};
 
 use books::Ticket as Claimed;
-use device::Block;
+use device::{Block, DeviceError};
 use std::marker::Model;
 use tickets::Ticket;
 
@@ -44,6 +44,19 @@ impl<B: Block + Drop> Slot<B> {
         match &self.block {
             Some(block) => block.address(),
             None => 0,
+        }
+    }
+
+    /// Reads the block into `out`, which has as many bytes; nothing where there is none. After a failure of the device
+    /// `out` has any bytes.
+    pub(crate) fn read(&mut self, out: &mut [u8]) -> Result<(), DeviceError>
+        requires { length out.old ≡ length self.old.bytes }
+        ensures same { self.new ≡ self.old }
+        ensures bytes { OnOk result (out.new ≡ self.old.bytes) }
+    {
+        match &mut self.block {
+            Some(block) => block.read(out),
+            None => Ok(()),
         }
     }
 

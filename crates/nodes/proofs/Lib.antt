@@ -12,3 +12,5 @@ pub mod Files
 pub mod Owners
 pub mod Numbered
 pub mod Lacking
+pub mod Namers
+pub mod Useful

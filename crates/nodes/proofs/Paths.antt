@@ -38,7 +38,7 @@ module _ (k e : ℕ) (p : 0 < e) where
   pub second : (k % (e * e)) / e ≡ (k / e) % e
   second = ap (λ z. z / e) last_two ∙ div-mul-add ((k / e) % e) e (k % e) (mod_below k e p)
 
-  first : (k % (e * e)) % e ≡ k % e
+  pub first : (k % (e * e)) % e ≡ k % e
   first = ap (λ z. z % e) last_two ∙ mod-mul-add ((k / e) % e) e (k % e) (mod_below k e p)
 
 module _ (e : ℕ) (p : 0 < e) where

@@ -3,3 +3,4 @@ pub mod Marks
 pub mod Held
 pub mod Owners
 pub mod Lacking
+pub mod Useful

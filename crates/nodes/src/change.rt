@@ -1,9 +1,9 @@
 //! How a file's tickets come, and its tickets and nodes go.
-ghost use Rattle.std.specs.Prelude.{◌≡◌, ℕ, ◌+◌, ◌-◌, ◌^◌, ◌<◌, max, min, Some, MatchOption};
+ghost use Rattle.std.specs.Prelude.{Bool, ◌≡◌, ℕ, ◌+◌, ◌-◌, ◌^◌, ◌<◌, max, min, Some, MatchOption};
 ghost use Rattle.geometry.specs.Path.{inode_entries, node_entries, largest_length};
 ghost use Rattle.geometry.specs.File.{File, written, cut_to};
 ghost use Rattle.tickets.specs.Placed.{Placed};
-ghost use Rattle.tree.specs.Tree.{SetsAt, Same, EmptyFrom, HandsOut};
+ghost use Rattle.tree.specs.Tree.{SetsAt, Same, KeepsNamers, EmptyFrom, HandsOut, SparesIndex, SparesPast, AsksPast};
 ghost use Rattle.tree.specs.Change.{Weighing, ticket_weight, WeighsAs, nothing};
 ghost use Rattle.nodes.specs.Marks.{unchanged, lengthened, shortened};
 
@@ -14,7 +14,9 @@ use tree::Spare;
 
 impl<B: Block> FileState<B> {
     ghost use Rattle.nodes.specs.File.{IsFile, IsBare, Shows, ticket_at, missing_to, count_of, inode_of, below_weight};
+    ghost use Rattle.nodes.specs.Owners.{namer_at};
     ghost use Rattle.nodes.specs.Marks.{MarksNode};
+    ghost use Rattle.nodes.specs.Useful.{IsUseful, each_node, is_off, reaches, ends_by};
 
     /// Puts a ticket at the index, and hands out the one that stood there: the file is the written file. Marks the node that
     /// holds the slot, and the inode where the file becomes longer.
@@ -24,6 +26,8 @@ impl<B: Block> FileState<B> {
         requires path { missing_to self.old index ≡ 0 }
         ensures old { result ≡ ticket_at self.old index }
         ensures sets { SetsAt (ticket_at self.old) (ticket_at self.new) index (Some ticket) }
+        ensures namer { Same (namer_at self.old) (namer_at self.new) }
+        ensures useful { IsUseful (is_off index) self.old → IsUseful each_node self.new }
         ensures written { (file : File) → Shows self.old file → Shows self.new (written file index ticket.content) }
         ensures change { MarksNode (lengthened index) self.old self.new (λ w. ticket_weight w result) (λ w. w.ticket ticket) }
         ensures length { self.new.length ≡ max self.old.length (index + 1) }
@@ -53,6 +57,8 @@ impl<B: Block> FileState<B> {
         requires path { missing_to self.old index ≡ 0 }
         ensures old { result ≡ ticket_at self.old index }
         ensures sets { SetsAt (ticket_at self.old) (ticket_at self.new) index (Some ticket) }
+        ensures namer { Same (namer_at self.old) (namer_at self.new) }
+        ensures useful { (asked : ℕ → ℕ → Bool) → SparesIndex asked index → IsUseful asked self.old → IsUseful asked self.new }
         ensures change { MarksNode unchanged self.old self.new (λ w. ticket_weight w result) (λ w. w.ticket ticket) }
         ensures length { self.new.length ≡ self.old.length }
         ensures shape { self.new.shape ≡ self.old.shape }
@@ -79,7 +85,8 @@ impl<B: Block> FileState<B> {
     }
 
     /// Hands out one ticket at or past the length, or the token of a node that names nothing, and marks the node that named
-    /// it. None: the file is cut to the length, which marks the inode where that is less than it was.
+    /// it. None: the file is cut to the length, which marks the inode where that is less than it was, and each node that
+    /// reaches past the length names something.
     pub fn cut(&mut self, length: u32) -> Option<Spare<Ticket<B>>>
         requires file { IsFile self.old }
         ensures none { MatchOption result
@@ -90,6 +97,9 @@ impl<B: Block> FileState<B> {
             (((w : Weighing Placed) → below_weight self.new w ≡ below_weight self.old w) × (inode_of self.new ≡ shortened length (inode_of self.old)) × (self.new.token ≡ self.old.token))
             (λ _. Unit {0}) }
         ensures out { MatchOption result (Unit {0}) (λ spare. HandsOut (ticket_at self.old) (ticket_at self.new) length spare) }
+        ensures namer { KeepsNamers (ticket_at self.new) (namer_at self.old) (namer_at self.new) }
+        ensures useful { IsUseful (ends_by length) self.old → IsUseful (ends_by length) self.new }
+        ensures past { MatchOption result (IsUseful (reaches length) self.new) (λ _. Unit {0}) }
         ensures change { MatchOption result (Unit {0})
             (λ spare. (out : Weighing Placed → ℕ) × WeighsAs spare out × MarksNode unchanged self.old self.new out nothing) }
         ensures fewer { MatchOption result (Unit {0}) (λ _. count_of self.new + 1 ≡ count_of self.old) }
@@ -121,6 +131,9 @@ impl<B: Block> FileState<B> {
             ((self.new ≡ self.old) × EmptyFrom (ticket_at self.old) length × (length ≡ 0 → IsBare self.old))
             (λ _. Unit {0}) }
         ensures out { MatchOption result (Unit {0}) (λ spare. HandsOut (ticket_at self.old) (ticket_at self.new) length spare) }
+        ensures namer { KeepsNamers (ticket_at self.new) (namer_at self.old) (namer_at self.new) }
+        ensures useful { (asked : ℕ → ℕ → Bool) → SparesPast asked length → IsUseful asked self.old → IsUseful asked self.new }
+        ensures past { MatchOption result (IsUseful (reaches length) self.new) (λ _. Unit {0}) }
         ensures change { MatchOption result (Unit {0})
             (λ spare. (out : Weighing Placed → ℕ) × WeighsAs spare out × MarksNode unchanged self.old self.new out nothing) }
         ensures length { self.new.length ≡ self.old.length }

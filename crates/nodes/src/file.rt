@@ -13,15 +13,23 @@ use tree::{Branch, Entries};
 /// To contracts `kind` and `length` are the file's, `ticket_at` gives the ticket at each index, and `weight_of` what all
 /// tickets and nodes weigh. `IsFile` holds from `new` on.
 pub struct FileState<B: Block> {
+    /// Which says how many entries a node has.
     pub shape: Shape,
+    /// What the file holds.
     pub kind: Kind,
+    /// In blocks.
     pub length: u32,
     /// Whether the length was changed since the inode's block was written.
     pub resized: bool,
+    /// The token of the inode's number.
     pub token: NidToken,
+    /// The tickets that the inode names itself.
     pub tickets: Entries<Ticket<B>>,
+    /// The two direct nodes.
     pub direct: Entries<Branch<Ticket<B>>>,
+    /// The two indirect nodes.
     pub indirect: Entries<Branch<Branch<Ticket<B>>>>,
+    /// The one double indirect node.
     pub double: Entries<Branch<Branch<Branch<Ticket<B>>>>>,
 }
 

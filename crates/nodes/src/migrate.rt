@@ -1,8 +1,8 @@
 //! How a block is moved: its ticket is another, its bytes are the same.
-ghost use Rattle.std.specs.Prelude.{◌≡◌, ℕ, ◌<◌, true, false, Some, OnOk, OnErr, IfOk, IfErr};
+ghost use Rattle.std.specs.Prelude.{Bool, ◌≡◌, ℕ, ◌<◌, true, false, Some, OnOk, OnErr, IfOk, IfErr};
 ghost use Rattle.geometry.specs.File.{File};
 ghost use Rattle.tickets.specs.Placed.{Placed};
-ghost use Rattle.tree.specs.Tree.{SwapsOne};
+ghost use Rattle.tree.specs.Tree.{Same, SwapsOne};
 ghost use Rattle.tree.specs.Change.{names, each_naming};
 ghost use Rattle.nodes.specs.Marks.{unchanged};
 
@@ -12,7 +12,9 @@ use tickets::Ticket;
 
 impl<B: Block> FileState<B> {
     ghost use Rattle.nodes.specs.File.{IsFile, Shows, ticket_at, inode_of, below_weight, weight_of};
+    ghost use Rattle.nodes.specs.Owners.{namer_at};
     ghost use Rattle.nodes.specs.Marks.{MarksNode};
+    ghost use Rattle.nodes.specs.Useful.{IsUseful};
 
     /// Where a node of this number has the address `from` at its entry `at`, puts in the ticket, whose block has the same
     /// bytes, marks the node, and hands out the old ticket (Rosenblum and Ousterhout 1991: cleaning moves a block and
@@ -30,6 +32,8 @@ impl<B: Block> FileState<B> {
         ensures named { OnOk result (0 < weight_of self.old (each_naming nid at from)) }
         ensures address { IfOk result (λ before. before.mark.address ≡ from) }
         ensures swaps { IfOk result (λ before. SwapsOne (ticket_at self.old) (ticket_at self.new) before ticket) }
+        ensures namer { Same (namer_at self.old) (namer_at self.new) }
+        ensures useful { (asked : ℕ → ℕ → Bool) → IsUseful asked self.old → IsUseful asked self.new }
         ensures change { IfOk result (λ before. MarksNode unchanged self.old self.new (λ w. w.ticket before) (λ w. w.ticket ticket)) }
         ensures same { (file : File) → Shows self.old file → Shows self.new file }
         ensures elsewhere { OnErr result (weight_of self.old (each_naming nid at from) ≡ 0) }
@@ -59,6 +63,8 @@ impl<B: Block> FileState<B> {
         ensures named { OnOk result (names nid at from (inode_of self.old) ≡ true) }
         ensures address { IfOk result (λ before. before.mark.address ≡ from) }
         ensures swaps { IfOk result (λ before. SwapsOne (ticket_at self.old) (ticket_at self.new) before ticket) }
+        ensures namer { Same (namer_at self.old) (namer_at self.new) }
+        ensures useful { (asked : ℕ → ℕ → Bool) → IsUseful asked self.old → IsUseful asked self.new }
         ensures change { IfOk result (λ before. MarksNode unchanged self.old self.new (λ w. w.ticket before) (λ w. w.ticket ticket)) }
         ensures elsewhere { OnErr result (names nid at from (inode_of self.old) ≡ false) }
         ensures refused { OnErr result (self.new ≡ self.old) }
@@ -92,6 +98,8 @@ impl<B: Block> FileState<B> {
         ensures named { OnOk result (0 < below_weight self.old (each_naming nid at from)) }
         ensures address { IfOk result (λ before. before.mark.address ≡ from) }
         ensures swaps { IfOk result (λ before. SwapsOne (ticket_at self.old) (ticket_at self.new) before ticket) }
+        ensures namer { Same (namer_at self.old) (namer_at self.new) }
+        ensures useful { (asked : ℕ → ℕ → Bool) → IsUseful asked self.old → IsUseful asked self.new }
         ensures change { IfOk result (λ before. MarksNode unchanged self.old self.new (λ w. w.ticket before) (λ w. w.ticket ticket)) }
         ensures elsewhere { OnErr result (below_weight self.old (each_naming nid at from) ≡ 0) }
         ensures refused { OnErr result (self.new ≡ self.old) }

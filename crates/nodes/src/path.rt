@@ -1,11 +1,12 @@
 //! The nodes on the way to an index are made beside the file, and come into it once a write can no longer be refused.
-ghost use Rattle.std.specs.Prelude.{◌≡◌, ℕ, ◌+◌, ◌<◌, IsTrue, ◌↔◌, true, false, OnOk, OnErr, IfErr};
+ghost use Rattle.std.specs.Prelude.{Bool, ◌≡◌, ℕ, ◌+◌, ◌<◌, IsTrue, ◌↔◌, true, false, Some, OnOk, OnErr, IfErr};
 ghost use Rattle.geometry.specs.Path.{node_entries, largest_length};
 ghost use Rattle.books.specs.declared.claim.Entry.{Entry};
-ghost use Rattle.tree.specs.Tree.{Same};
+ghost use Rattle.tree.specs.Tree.{Same, SparesIndex};
 ghost use Rattle.tree.specs.Change.{TreeNode, IsNewNode, nothing};
 ghost use Rattle.nodes.specs.Marks.{unchanged};
-ghost use Rattle.nodes.specs.Lacking.{spare_tokens, AreEmptyNodes};
+ghost use Rattle.spares.specs.Spares.{KeepsNames};
+ghost use Rattle.nodes.specs.Lacking.{spare_tokens, AreEmptyNodes, end_number};
 
 use crate::file::FileState;
 use crate::spare::SparePath;
@@ -17,7 +18,9 @@ use tickets::NidToken;
 impl<B: Block> FileState<B> {
     ghost use Rattle.nodes.specs.File.{IsFile, ticket_at, missing_to};
     ghost use Rattle.nodes.specs.Marks.{MarksNode};
+    ghost use Rattle.nodes.specs.Owners.{namer_at};
     ghost use Rattle.nodes.specs.Lacking.{lacking_to};
+    ghost use Rattle.nodes.specs.Useful.{IsUseful};
 
     /// Whether each node that is missing on the way to the index has been made.
     pub fn is_ready(&self, index: u32, spares: &SparePath<B>) -> bool
@@ -101,6 +104,10 @@ impl<B: Block> FileState<B> {
         requires ready { lacking_to self.old index spares.old ≡ 0 }
         requires empty { AreEmptyNodes (node_entries self.old.shape) spares.old }
         ensures same { Same (ticket_at self.old) (ticket_at self.new) }
+        ensures namer { KeepsNames (namer_at self.old) (namer_at self.new) }
+        ensures useful { (asked : ℕ → ℕ → Bool) → SparesIndex asked index → IsUseful asked self.old → IsUseful asked self.new }
+        ensures end { 0 < missing_to self.old index → missing_to self.new index ≡ 0 → namer_at self.new index ≡ Some (end_number spares.old) }
+        ensures rest { 0 < missing_to self.new index → end_number spares.new ≡ end_number spares.old }
         ensures grown { result ≡ true → missing_to self.new index + 1 ≡ missing_to self.old index }
         ensures change { result ≡ true → (n : TreeNode) × IsNewNode n.token n × MarksNode unchanged self.old self.new nothing (λ w. w.node n)
             × ((h : Entry → ℕ) → spare_tokens h spares.new + h n.token ≡ spare_tokens h spares.old) }

@@ -12,6 +12,7 @@ use tree::Branch;
 ///
 /// To contracts `spare_tokens` is what their tokens weigh, and `AreEmptyNodes` says that each of them names nothing.
 pub struct SparePath<B: Block> {
+    /// From the double indirect node down; a way with fewer nodes uses the lower ones.
     pub nodes: SpareNodes<Branch<Branch<Ticket<B>>>>,
 }
 

@@ -2,7 +2,8 @@
 use Rattle.std.proofs.Common.{◌≡◌, ℕ, ◌-◌, List, [], ◌∷◌, length, refl, sym, ◌∙◌, ap, subst, arith}
 use Rattle.device.specs.Disk.{part, Torn, Holds}
 use Rattle.device.proofs.Ranges.{holds_torn, holds_part}
-use Rattle.packs.specs.Pack.{version_of, slot_of, IsSettled}
+use Rattle.image.specs.Slots.{version_of, slot_of}
+use Rattle.packs.specs.Pack.{IsSettled}
 use Rattle.packs.specs.Area.{slot_at, footer_at, area_bytes, reading_of}
 use Rattle.packs.proofs.Slots.{torn_body, torn_footer, slot_fits}
 use Rattle.packs.proofs.Steps.{footer_zero, footer_written}

@@ -5,7 +5,7 @@ use Rattle.packs.specs.Device.{IsSameArea, KeepsArea}
 use Rattle.packs.proofs.Slots.{torn_area, area_joined}
 
 pub same_area : (area c : List ℕ) → c ≡ area → IsSameArea area c
-same_area area c is = record { long = ap length is; front = ap (λ (l : List ℕ). take 32 l) is }
+same_area area c is = record { long = ap length is; front = ap (λ (l : List ℕ). take 64 l) is }
 
 -- what is settled is one area
 pub kept_alone : (P : List ℕ → Type 0) (area c : List ℕ) → c ≡ area → P c → KeepsArea area P c

@@ -1,6 +1,7 @@
 -- The bodies that the two slots of a device hold, once a body is staged.
 use Rattle.std.proofs.Common.{◌≡◌, ℕ, ◌-◌, List, sym, ◌∙◌, ap, subst}
-use Rattle.packs.specs.Pack.{Reading, slot_of}
+use Rattle.image.specs.Slots.{slot_of}
+use Rattle.packs.specs.Pack.{Reading}
 use Rattle.packs.specs.Device.{AreStaged, AreSettled, body_of, staged_in}
 use Rattle.packs.specs.declared.packs.Packs.{Packs}
 

@@ -35,7 +35,7 @@ torn_footer len (suc (suc slot)) old new le torn = absurd (omega arith)
 
 -- no write to a slot reaches the bytes in front
 pub torn_area : (at n : ℕ) (old new : List ℕ) → 64 ≤ at → Torn at n old new → IsSameArea old new
-torn_area at n old new le torn = record { long = torn.long; front = torn_front at n 32 old new (omega arith) torn }
+torn_area at n old new le torn = record { long = torn.long; front = torn_front at n 64 old new (omega arith) torn }
 
 pub area_joined : (a b c : List ℕ) → IsSameArea a b → IsSameArea b c → IsSameArea a c
 area_joined a b c first second = record { long = second.long ∙ first.long; front = second.front ∙ first.front }

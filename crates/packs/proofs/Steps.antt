@@ -3,7 +3,8 @@ use Rattle.std.proofs.Common.{◌≡◌, ℕ, ◌+◌, ◌-◌, ◌≤◌, List,
 use Rattle.byteorder.specs.Endian.{little_number}
 use Rattle.device.specs.Disk.{part, Torn, Holds}
 use Rattle.device.proofs.Ranges.{holds_part}
-use Rattle.packs.specs.Pack.{version_of, slot_of, IsSettled, Between, IsStaged}
+use Rattle.image.specs.Slots.{version_of, slot_of}
+use Rattle.packs.specs.Pack.{IsSettled, Between, IsStaged}
 use Rattle.packs.specs.Area.{slot_at, footer_at, area_bytes, reading_of}
 use Rattle.packs.specs.Device.{IsArea}
 use Rattle.packs.proofs.Crash.{settled_staging, staged_committing, staged_committed}

@@ -1,7 +1,8 @@
 -- What a device holds in the hand of its packs, however its slots are read.
 use Rattle.std.specs.Prelude.{◌≡◌, ℕ, ◌-◌, ◌^◌, ◌≤◌, ◌<◌, List, length, take}
 use Rattle.device.specs.Disk.{Leaves}
-use Rattle.packs.specs.Pack.{Reading, version_of, slot_of, IsSettled, IsStaged, IsPicked}
+use Rattle.image.specs.Slots.{version_of, slot_of}
+use Rattle.packs.specs.Pack.{Reading, IsSettled, IsStaged, IsPicked}
 use Rattle.packs.specs.Area.{area_bytes}
 use Rattle.packs.specs.declared.choice.Ends.{Ends}
 use Rattle.packs.specs.declared.choice.Found.{Found}
@@ -14,10 +15,10 @@ pub record IsArea (len : ℕ) (area : List ℕ) : Type 0 where
   pub long : length area ≡ area_bytes len
   pub fits : area_bytes len < 2 ^ 64
 
--- the area has its length, and the 32 bytes in front, which say what the volume is, are the same
+-- the area has its length, and the 64 bytes in front, the superblock, are the same
 pub record IsSameArea (old new : List ℕ) : Type 0 where
   pub long : length new ≡ length old
-  pub front : take 32 new ≡ take 32 old
+  pub front : take 64 new ≡ take 64 old
 
 -- c has P, and it has the length and the front of an area
 pub record KeepsArea (area : List ℕ) (P : List ℕ → Type 0) (c : List ℕ) : Type 0 where

@@ -2,7 +2,7 @@
 ghost use Rattle.std.specs.Prelude.{◌≡◌, ◌<◌, ◌+◌, [], ◌∷◌, length, IfOk, IfErr, OnOk};
 ghost use Rattle.geometry.specs.Area.{meta_bytes};
 ghost use Rattle.device.specs.Disk.{HasCause};
-ghost use Rattle.packs.specs.Pack.{version_of};
+ghost use Rattle.image.specs.Slots.{version_of};
 ghost use Rattle.packs.specs.Area.{reading_of, body_bytes};
 ghost use Rattle.packs.specs.Device.{IsArea, IsSameArea, AreSettled, body_of};
 

@@ -1,6 +1,6 @@
 //! Which of two packs counts, by their headers and footers.
 ghost use Rattle.std.specs.Prelude.{◌≡◌, ◌≢◌, Some, None, MatchOption};
-ghost use Rattle.packs.specs.Pack.{is_sound as sound, pick as choice};
+ghost use Rattle.image.specs.Slots.{is_sound as sound, pick as choice};
 
 // A pack is sound where header and footer hold one version of its slot. Version 0 is none: a slot of zeros is not sound.
 fn is_sound(slot: u32, header: u32, footer: u32) -> bool

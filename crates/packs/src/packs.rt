@@ -1,7 +1,8 @@
 //! A pack is written to the slot where the picked one does not lie: its body is settled before its footer is touched.
 ghost use Rattle.std.specs.Prelude.{◌≡◌, ◌≤◌, ◌<◌, ◌+◌, ◌^◌, [], ◌∷◌, length, OnOk, IfOk};
 ghost use Rattle.device.specs.Disk.{LeavesOnly, HasCause};
-ghost use Rattle.packs.specs.Pack.{version_of, IsSettled, Between};
+ghost use Rattle.image.specs.Slots.{version_of};
+ghost use Rattle.packs.specs.Pack.{IsSettled, Between};
 ghost use Rattle.packs.specs.Area.{reading_of};
 ghost use Rattle.packs.specs.Device.{IsSameArea, KeepsArea, AreSettled, AreStaged, body_of, staged_in};
 

@@ -2,7 +2,7 @@
 ghost use Rattle.std.specs.Prelude.{◌≡◌, length, IfOk, IfSome};
 ghost use Rattle.geometry.specs.Area.{meta_bytes};
 ghost use Rattle.packs.specs.Area.{body_bytes};
-ghost use Rattle.packs.specs.Pack.{version_of};
+ghost use Rattle.image.specs.Slots.{version_of};
 
 use crate::{Ends, Packs, pick};
 use byteorder::{ByteOrder, LittleEndian};

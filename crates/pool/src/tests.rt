@@ -188,7 +188,7 @@ fn four_threads<W: WordsName + Send + Sync, J: PoolName + Send + Sync, R: Thread
         rt,
         alloc,
         4,
-        &|i| work::<Named<Brand, W, J, Brand>, R>(rt, pool, logs.get(i), &packs),
+        &|i| work::<Named<Brand, W, J, Brand, Brand>, R>(rt, pool, logs.get(i), &packs),
     )?;
     while let Some(log) = logs.pop() {
         others.push(log.into_inner())?;

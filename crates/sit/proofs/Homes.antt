@@ -5,17 +5,18 @@ use Rattle.std.specs.Prelude.{is_some, false}
 use Rattle.sums.proofs.Weighing.{weigh-set, weigh-replicate}
 use Rattle.sit.specs.Home.{Home, failed_at, failures_of}
 
-abbrev pub home_of : ℕ → ℕ → List Bool → ℕ → Home
-home_of first block_bytes present failed = record { first = first; block_bytes = block_bytes; present = present; failed = failed }
+abbrev pub home_of : ℕ → ℕ → List Bool → List (List ℕ) → ℕ → Home
+home_of first block_bytes present contents failed = record { first = first; block_bytes = block_bytes; present = present; contents = contents; failed = failed }
 
-abbrev pub home_set : Home → ℕ → Bool → ℕ → Home
-home_set h o b failed = record { first = h.first; block_bytes = h.block_bytes; present = set h.present o b; failed = failed }
+abbrev pub home_set : Home → ℕ → Bool → List ℕ → ℕ → Home
+home_set h o b bytes failed = record { first = h.first; block_bytes = h.block_bytes; present = set h.present o b; contents = set h.contents o bytes; failed = failed }
 
 -- one place changes, and how often the blocks have failed
-pub home-set : {A : Type 0} (first block_bytes : ℕ) (f : A → Bool) (xs : List A) (o : ℕ) (x : A) (failed failed' : ℕ) (h : Home)
-    → home_of first block_bytes (map f xs) failed ≡ h → home_of first block_bytes (map f (set xs o x)) failed' ≡ home_set h o (f x) failed'
-home-set first block_bytes f xs o x failed failed' h e =
-    ap (λ p. home_of first block_bytes p failed') (map-set f xs o x) ∙ ap (λ z. home_set z o (f x) failed') e
+pub home-set : {A : Type 0} (first block_bytes : ℕ) (f : A → Bool) (content : A → List ℕ) (xs : List A) (o : ℕ) (x : A) (failed failed' : ℕ) (h : Home)
+    → home_of first block_bytes (map f xs) (map content xs) failed ≡ h
+    → home_of first block_bytes (map f (set xs o x)) (map content (set xs o x)) failed' ≡ home_set h o (f x) (content x) failed'
+home-set first block_bytes f content xs o x failed failed' h e =
+    (λ i. home_of first block_bytes (map-set f xs o x i) (map-set content xs o x i) failed') ∙ ap (λ z. home_set z o (f x) (content x) failed') e
 
 -- a block leaves or comes with its failures
 pub failures-set : {B : Type 0} (failed : B → ℕ) (blocks : List (Option B)) (o : ℕ) (x : Option B) → o < length blocks

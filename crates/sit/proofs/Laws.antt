@@ -47,18 +47,21 @@ module _ (s : Segment) (home : Home) (law : SegmentLaw s home) where
       let e = law.sized in
       ap (λ h. get_or h.present o false) law.home_is ∙ get_or-map is_clear ss o None false (omega arith) ∙ ap is_clear clear
 
-  pub placed-law : (offset mtime failed : ℕ) (state : State) (ss' : List (Option Owner)) (home' : Home) (owner : Owner) → s.state ≡ Open → offset ≡ s.next
-      → ss' ≡ set ss offset (Some owner) → home' ≡ home_set home offset false failed → IsStateAt (s.next + 1) (segment_blocks s.shape) state
-      → SegmentLaw (record s { state = state; summaries = ss'; mtime = mtime; next = s.next + 1; failed = failed }) home'
-  placed-law offset mtime failed state ss' home' owner opn place is is_home at_state =
+  pub placed-law : (offset mtime failed : ℕ) (bytes : List ℕ) (state : State) (ss' : List (Option Owner)) (home' : Home) (owner : Owner) → s.state ≡ Open → offset ≡ s.next
+      → ss' ≡ set ss offset (Some owner) → home' ≡ home_set home offset false bytes failed → IsStateAt (s.next + 1) (segment_blocks s.shape) state
+      → SegmentLaw (record s { state = state; summaries = ss'; mtime = mtime; next = s.next + 1; contents = home'.contents; failed = failed }) home'
+  placed-law offset mtime failed bytes state ss' home' owner opn place is is_home at_state =
       let fits = is_open opn in
       let at : ss' ≡ set ss s.next (Some owner) = is ∙ ap (λ o. set ss o (Some owner)) place in record {
         sized = ap length is ∙ length-set ss offset (Some owner) ∙ law.sized;
-        home_is = is_home ∙ (ap (λ h. home_set h offset false failed) law.home_is
-            ∙ ap (λ p. home_of (address_of s.shape s.number 0) (block_bytes s.shape) p failed) (sym (ap (map is_clear) is ∙ map-set is_clear ss offset (Some owner))));
+        home_is = is_home ∙ (ap (λ h. home_set h offset false bytes failed) law.home_is
+            ∙ (λ k. home_of (address_of s.shape s.number 0) (block_bytes s.shape) (sym (ap (map is_clear) is ∙ map-set is_clear ss offset (Some owner)) k) (bytes_are k) failed));
         fitting = fitting at at_state;
       }
     where
+      bytes_are : set s.contents offset bytes ≡ home'.contents
+      bytes_are = sym (ap (λ h. h.contents) is_home ∙ ap (λ h. set h.contents offset bytes) law.home_is)
+
       fitting : ss' ≡ set ss s.next (Some owner) → IsStateAt (s.next + 1) (segment_blocks s.shape) state → IsFitting state (s.next + 1) ss'
       fitting at (inl more) = subst (λ x. IsFitting x (s.next + 1) ss') (sym more.1) (
         let l = length-set ss offset (Some owner) in let m = ap length is in let e = law.sized in let r = more.0 in omega arith,
@@ -68,11 +71,12 @@ module _ (s : Segment) (home : Home) (law : SegmentLaw s home) where
           let counted = count-set ss s.next owner (is_open opn).0 ((is_open opn).1 s.next (omega arith)) in
           let same = ap count_of at in omega arith)
 
-  cleared_home : (o failed : ℕ) (home' : Home) → home' ≡ home_set home o true failed
-      → home' ≡ home_of (address_of s.shape s.number 0) (block_bytes s.shape) (map is_clear (set ss o None)) failed
-  cleared_home o failed home' is_home =
-      is_home ∙ (ap (λ h. home_set h o true failed) law.home_is
-      ∙ ap (λ p. home_of (address_of s.shape s.number 0) (block_bytes s.shape) p failed) (sym (map-set is_clear ss o None)))
+  cleared_home : (o failed : ℕ) (bytes : List ℕ) (home' : Home) → home' ≡ home_set home o true bytes failed
+      → home' ≡ home_of (address_of s.shape s.number 0) (block_bytes s.shape) (map is_clear (set ss o None)) home'.contents failed
+  cleared_home o failed bytes home' is_home =
+      let bytes_are : set s.contents o bytes ≡ home'.contents = sym (ap (λ h. h.contents) is_home ∙ ap (λ h. set h.contents o bytes) law.home_is) in
+      is_home ∙ (ap (λ h. home_set h o true bytes failed) law.home_is
+      ∙ (λ k. home_of (address_of s.shape s.number 0) (block_bytes s.shape) (sym (map-set is_clear ss o None) k) (bytes_are k) failed))
 
   -- where the state is not sealed, or a valid block is left
   still_fits : (o : ℕ) → o < length ss → is_set (get_or ss o None) ≡ true → (s.state ≡ Sealed → 0 < count_of (set ss o None)) → IsFitting s.state s.next (set ss o None)
@@ -92,12 +96,12 @@ module _ (s : Segment) (home : Home) (law : SegmentLaw s home) where
       (still_fits o within valid (λ sealed. let more = fate.1 sealed in let same = ap count_of is in omega arith)))
   fate_fits o ss' state Retired within valid is fate = subst (λ x. IsFitting x s.next ss') (sym fate.0) fate.2
 
-  pub cleared-law : (o failed : ℕ) (ss' : List (Option Owner)) (home' : Home) (state : State) (released : Released) → o < segment_blocks s.shape → is_set (get_or ss o None) ≡ true
-      → ss' ≡ set ss o None → home' ≡ home_set home o true failed → IsFate s.state (count_of ss') state released
-      → SegmentLaw (record s { state = state; summaries = ss'; failed = failed }) home'
-  cleared-law o failed ss' home' state released within valid is is_home fate = record {
+  pub cleared-law : (o failed : ℕ) (bytes : List ℕ) (ss' : List (Option Owner)) (home' : Home) (state : State) (released : Released) → o < segment_blocks s.shape → is_set (get_or ss o None) ≡ true
+      → ss' ≡ set ss o None → home' ≡ home_set home o true bytes failed → IsFate s.state (count_of ss') state released
+      → SegmentLaw (record s { state = state; summaries = ss'; contents = home'.contents; failed = failed }) home'
+  cleared-law o failed bytes ss' home' state released within valid is is_home fate = record {
     sized = ap length is ∙ length-set ss o None ∙ law.sized;
-    home_is = cleared_home o failed home' is_home ∙ ap (λ xs. home_of (address_of s.shape s.number 0) (block_bytes s.shape) (map is_clear xs) failed) (sym is);
+    home_is = cleared_home o failed bytes home' is_home ∙ ap (λ xs. home_of (address_of s.shape s.number 0) (block_bytes s.shape) (map is_clear xs) home'.contents failed) (sym is);
     fitting = fate_fits o ss' state released (let e = law.sized in omega arith) valid is fate;
   }
 
@@ -123,10 +127,10 @@ has_released s state Kept fate = (ap (in_state s) fate.0, fate.1)
 has_released s state Retired fate = (ap (in_state s) fate.0, fate.1, fate.2)
 
 -- with all its blocks at home
-pub fresh-law : (shape : Shape) (number failed : ℕ) (home : Home) → home ≡ home_of (address_of shape number 0) (block_bytes shape) (replicate (segment_blocks shape) true) failed
-    → SegmentLaw (fresh shape number failed) home
-fresh-law shape number failed home is_home = record {
+pub fresh-law : (shape : Shape) (number failed : ℕ) (contents : List (List ℕ)) (home : Home)
+    → home ≡ home_of (address_of shape number 0) (block_bytes shape) (replicate (segment_blocks shape) true) contents failed → SegmentLaw (fresh shape number contents failed) home
+fresh-law shape number failed contents home is_home = record {
   sized = length-replicate {A = Option Owner} (segment_blocks shape) None;
-  home_is = is_home ∙ ap (λ p. home_of (address_of shape number 0) (block_bytes shape) p failed) (sym (map_replicate is_clear (segment_blocks shape) None));
+  home_is = is_home ∙ ap (λ p. home_of (address_of shape number 0) (block_bytes shape) p contents failed) (sym (map_replicate is_clear (segment_blocks shape) None));
   fitting = count_none (segment_blocks shape);
 }

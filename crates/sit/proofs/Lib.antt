@@ -6,3 +6,6 @@ pub mod Laws
 pub mod Registry
 pub mod ValidLemmas
 pub mod Filling
+pub mod Loads
+pub mod Pinning
+pub mod ShownBlocks

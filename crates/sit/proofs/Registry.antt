@@ -1,5 +1,5 @@
 -- A segment stays in step with its account and its standing.
-use Rattle.std.proofs.Common.{◌≡◌, ℕ, ◌+◌, ◌<◌, [], ◌∷◌, Option, Some, None, IsSome, length, get_or, set, refl, sym, ap, ◌∙◌, inl, inr, if◌then◌else◌, arith}
+use Rattle.std.proofs.Common.{◌≡◌, ℕ, ◌+◌, ◌<◌, List, [], ◌∷◌, Option, Some, None, IsSome, length, get_or, set, refl, sym, ap, ◌∙◌, inl, inr, if◌then◌else◌, arith}
 use Rattle.std.specs.Prelude.{is_some}
 use Rattle.geometry.specs.declared.state.State.{State}
 use Rattle.geometry.specs.declared.state.State.TheVariants.{Free, Open, Sealed, Prefree}
@@ -63,13 +63,13 @@ placed_marks s s' owner now failed m has room clear is weight =
     let same = ap weight is in omega arith
 
 -- the valid blocks once one was cleared
-pub cleared_marks : (s s' : Segment) (o failed : ℕ) (released : Released) (m : Mark) → HasReleased (cleared s o failed) released s' → o < length s.summaries → get_or s.summaries o None ≡ Some m.owner
+pub cleared_marks : (s s' : Segment) (o failed : ℕ) (bytes : List ℕ) (released : Released) (m : Mark) → HasReleased (cleared s o bytes failed) released s' → o < length s.summaries → get_or s.summaries o None ≡ Some m.owner
     → m.address ≡ address_of s.shape s.number 0 + o → SameItems (m ∷ marks_of s') (marks_of s)
-cleared_marks s s' o failed released m has within valid at weight =
+cleared_marks s s' o failed bytes released m has within valid at weight =
     let new = go released has in
     let change = marks_cleared (address_of s.shape s.number 0) o s.summaries (set s.summaries o None) m within valid refl at weight in omega arith
   where
-    go : (released : Released) → HasReleased (cleared s o failed) released s' → weigh weight (marks_of s') ≡ weigh weight (marks_from (address_of s.shape s.number 0) (set s.summaries o None))
+    go : (released : Released) → HasReleased (cleared s o bytes failed) released s' → weigh weight (marks_of s') ≡ weigh weight (marks_from (address_of s.shape s.number 0) (set s.summaries o None))
     go Kept has = ap (λ x. weigh weight (marks_of x)) has.0
     go Retired has = ap (λ x. weigh weight (marks_of x)) has.0
 
@@ -110,9 +110,9 @@ module _ (s s' : Segment) (account account' : SegmentView) (post post' : Post) (
       go Prefree e lived (inr more) = absurd (let no = sym e ∙ more.1 in cc)
 
   -- once a block was cleared
-  pub cleared-registered : (o failed : ℕ) (released : Released) (m : Mark) → HasReleased (cleared s o failed) released s' → HasStood released post post'
+  pub cleared-registered : (o failed : ℕ) (bytes : List ℕ) (released : Released) (m : Mark) → HasReleased (cleared s o bytes failed) released s' → HasStood released post post'
       → account' ≡ record account { marks = without same_mark m account.marks } → 0 < times same_mark m account.marks → SameItems (m ∷ marks_of s') (marks_of s) → IsRegistered s' account' post'.life
-  cleared-registered o failed released m has stood booked held marks = go released has stood
+  cleared-registered o failed bytes released m has stood booked held marks = go released has stood
     where
       all : SameItems account'.marks (marks_of s')
       all h =
@@ -121,7 +121,7 @@ module _ (s s' : Segment) (account account' : SegmentView) (post post' : Post) (
           let e = is.marks h in
           let n = marks h in omega arith
 
-      go : (released : Released) → HasReleased (cleared s o failed) released s' → HasStood released post post' → IsRegistered s' account' post'.life
+      go : (released : Released) → HasReleased (cleared s o bytes failed) released s' → HasStood released post post' → IsRegistered s' account' post'.life
       go Kept has same = record {
         number = ap (λ x. x.number) has.0 ∙ (is.number ∙ ap (λ p. p.life.segment) (sym same));
         state = ap (λ x. x.state) has.0 ∙ (is.state ∙ ap (λ p. p.life.state) (sym same));
@@ -136,9 +136,9 @@ module _ (s s' : Segment) (account account' : SegmentView) (post post' : Post) (
       }
 
 -- once its blocks are there
-pub fresh-registered : (s : Segment) (account : SegmentView) (book : TableId) (shape : Shape) (number failed : ℕ) (life : Life) → s ≡ fresh shape number failed
+pub fresh-registered : (s : Segment) (account : SegmentView) (book : TableId) (shape : Shape) (number failed : ℕ) (contents : List (List ℕ)) (life : Life) → s ≡ fresh shape number contents failed
     → account ≡ record { book = book; segment = number; marks = [] } → life ≡ fresh_life number → IsRegistered s account life
-fresh-registered s account book shape number failed life is booked alive = record {
+fresh-registered s account book shape number failed contents life is booked alive = record {
   number = ap (λ x. x.number) is ∙ ap (λ l. l.segment) (sym alive);
   state = ap (λ x. x.state) is ∙ ap (λ l. l.state) (sym alive);
   account_number = ap (λ a. a.segment) booked ∙ ap (λ l. l.segment) (sym alive);
@@ -163,20 +163,20 @@ module _ (s : Segment) (account : SegmentView) (post : Post) (is : IsRegistered 
     pub lost-some : IsSome (get_or s.summaries (offset_of s.shape a) None)
     lost-some = some-of (get_or s.summaries (offset_of s.shape a) None) m.owner lost-valid
 
-    module _ (s' : Segment) (failed : ℕ) (released : Released) (has : HasReleased (cleared s (offset_of s.shape a) failed) released s') where
+    module _ (s' : Segment) (bytes : List ℕ) (failed : ℕ) (released : Released) (has : HasReleased (cleared s (offset_of s.shape a) bytes failed) released s') where
       pub lost-marks : SameItems (m ∷ marks_of s') (marks_of s)
       lost-marks =
           let same = ap (offset_of s.shape) block_at in
           let within = held_within s account m is.marks held home in
           let at = held_at s account m is.marks held home in
-          cleared_marks s s' (offset_of s.shape a) failed released m has (omega arith) lost-valid (omega arith)
+          cleared_marks s s' (offset_of s.shape a) failed bytes released m has (omega arith) lost-valid (omega arith)
 
       pub lost-registered : (account' : SegmentView) (post' : Post) → HasStood released post post' → account' ≡ record account { marks = without same_mark m account.marks }
           → IsRegistered s' account' post'.life
       lost-registered account' post' stood booked =
-          cleared-registered s s' account account' post post' is (offset_of s.shape a) failed released m has stood booked held lost-marks
+          cleared-registered s s' account account' post post' is (offset_of s.shape a) failed bytes released m has stood booked held lost-marks
 
 -- how often the blocks at home have failed after a release
-pub released_failed : (s s' : Segment) (o failed : ℕ) (released : Released) → HasReleased (cleared s o failed) released s' → failed ≡ s'.failed
-released_failed s s' o failed Kept has = sym (ap (λ x. x.failed) has.0)
-released_failed s s' o failed Retired has = sym (ap (λ x. x.failed) has.0)
+pub released_failed : (s s' : Segment) (o : ℕ) (bytes : List ℕ) (failed : ℕ) (released : Released) → HasReleased (cleared s o bytes failed) released s' → failed ≡ s'.failed
+released_failed s s' o bytes failed Kept has = sym (ap (λ x. x.failed) has.0)
+released_failed s s' o bytes failed Retired has = sym (ap (λ x. x.failed) has.0)

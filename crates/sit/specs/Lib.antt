@@ -2,9 +2,13 @@ pub mod Bits
 pub mod Home
 pub mod Summaries
 pub mod Segment
+pub mod ShownBlocks
 pub mod Released
 pub mod Row
 pub mod NextValid
 pub mod Room
 pub mod Valid
 pub mod Registered
+pub mod Learned
+pub mod Loading
+pub mod Pinned

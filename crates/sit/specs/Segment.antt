@@ -1,5 +1,5 @@
 -- What contracts see of a segment, and its law.
-use Rattle.std.specs.Prelude.{◌≡◌, ℕ, ◌<◌, ◌≤◌, ◌⊎◌, max, List, Option, None, map, length, slice_index_or}
+use Rattle.std.specs.Prelude.{◌≡◌, ℕ, ◌<◌, ◌≤◌, ◌⊎◌, max, List, [], Option, None, map, length, slice_index_or, slice_set}
 use Rattle.geometry.specs.declared.shape.Shape.{Shape}
 use Rattle.geometry.specs.declared.state.State.{State}
 use Rattle.geometry.specs.declared.state.State.TheVariants.{Free, Open, Sealed, Prefree}
@@ -11,7 +11,7 @@ use Rattle.geometry.specs.Segment.{Fill, unfilled, filled, vacated, fill_after}
 use Rattle.sit.specs.Home.{Home}
 use Rattle.sit.specs.Summaries.{is_clear, count_of, marks_from}
 
--- a segment: its shape and number, where it is in its life, who names each of its blocks, the largest time of an append, the place of the next one, and how often its blocks at home have failed, all together
+-- a segment: its shape and number, where it is in its life, who names each of its blocks, the largest time of an append, the place of the next one, the bytes of each block that is at home, and how often these have failed, all together
 pub record Segment : Type 0 where
   pub shape : Shape
   pub number : ℕ
@@ -19,6 +19,7 @@ pub record Segment : Type 0 where
   pub summaries : List (Option Owner)
   pub mtime : ℕ
   pub next : ℕ
+  pub contents : List (List ℕ)
   pub failed : ℕ
 
 -- What a segment's state says of its blocks: one that is free or retired has no valid block, an open one has a next place and none at or past it, a sealed one has some.
@@ -31,7 +32,7 @@ IsFitting Prefree next summaries = count_of summaries ≡ 0
 -- The law of a segment. A block is at home exactly where nobody names it.
 pub record SegmentLaw (segment : Segment) (home : Home) : Type 0 where
   pub sized : length segment.summaries ≡ segment_blocks segment.shape
-  pub home_is : home ≡ record { first = address_of segment.shape segment.number 0; block_bytes = block_bytes segment.shape; present = map is_clear segment.summaries; failed = segment.failed }
+  pub home_is : home ≡ record { first = address_of segment.shape segment.number 0; block_bytes = block_bytes segment.shape; present = map is_clear segment.summaries; contents = segment.contents; failed = segment.failed }
   pub fitting : IsFitting segment.state segment.next segment.summaries
 
 -- the valid blocks, with who names each
@@ -50,20 +51,33 @@ with_fill segment fill = record segment { summaries = fill.owners; next = fill.n
 abbrev pub in_state : Segment → State → Segment
 in_state segment state = record segment { state = state }
 
--- as a format leaves it
-abbrev pub fresh : Shape → ℕ → ℕ → Segment
-fresh shape number failed =
+-- as a format leaves it, which writes to no block
+abbrev pub fresh : Shape → ℕ → List (List ℕ) → ℕ → Segment
+fresh shape number contents failed =
     let fill = unfilled (segment_blocks shape) in
-    record { shape = shape; number = number; state = Free; summaries = fill.owners; mtime = 0; next = fill.next; failed = failed }
+    record { shape = shape; number = number; state = Free; summaries = fill.owners; mtime = 0; next = fill.next; contents = contents; failed = failed }
 
--- the next block is valid, and named by this owner; the blocks that stay at home have failed so often
+-- the next block is valid, named by this owner, and not at home any more; the blocks that stay keep their bytes, and have failed so often
 abbrev pub placed : Segment → Owner → ℕ → ℕ → Segment
 placed segment owner now failed =
-    record (with_fill segment (filled owner (fill_of segment))) { mtime = max segment.mtime now; failed = failed }
+    record (with_fill segment (filled owner (fill_of segment))) {
+      mtime = max segment.mtime now;
+      contents = slice_set segment.contents segment.next [];
+      failed = failed;
+    }
 
--- the block at this place is not valid any more; it comes home, and the blocks that are there then have failed so often
-abbrev pub cleared : Segment → ℕ → ℕ → Segment
-cleared segment offset failed = record (with_fill segment (vacated offset (fill_of segment))) { failed = failed }
+-- the device failed at the next block, which holds these bytes now; nothing else was changed
+abbrev pub spoiled : Segment → List ℕ → ℕ → Segment
+spoiled segment bytes failed = record segment { contents = slice_set segment.contents segment.next bytes; failed = failed }
+
+-- any bytes are at the next place, as many as a block has
+abbrev pub HasSpoiled : Segment → Segment → Type 0
+HasSpoiled old new = (bytes : List ℕ) × (length bytes ≡ block_bytes old.shape) × (new ≡ spoiled old bytes new.failed)
+
+-- the block at this place is not valid any more; it comes home with its bytes, and the blocks that are there then have failed so often
+abbrev pub cleared : Segment → ℕ → List ℕ → ℕ → Segment
+cleared segment offset bytes failed =
+    record (with_fill segment (vacated offset (fill_of segment))) { contents = slice_set segment.contents offset bytes; failed = failed }
 
 -- it comes into a state of its life
 abbrev pub entered : Segment → State → Segment

@@ -1,11 +1,12 @@
 //! One segment's blocks, without the rights to it: which are valid, who names each, and which are at home.
-ghost use Rattle.std.specs.Prelude.{◌≡◌, ◌+◌, ◌<◌, ◌≤◌, Some, None, length, slice_index_or, IsSome, OnOk, OnErr, IfOk, vec_len, vec_capacity};
+ghost use Rattle.std.specs.Prelude.{◌≡◌, ◌+◌, ◌<◌, ◌≤◌, ◌++◌, [], Some, None, map, length, slice_index_or, IsSome, OnOk, OnErr, IfOk, vec_len, vec_capacity};
 ghost use Rattle.device.specs.Parts.{IsBlockRun};
 ghost use Rattle.geometry.specs.declared.state.State.TheVariants.{Free, Open, Sealed, Prefree};
 ghost use Rattle.geometry.specs.Shape.{block_bytes, segment_blocks};
 ghost use Rattle.geometry.specs.Address.{address_of, segment_of, offset_of};
 ghost use Rattle.geometry.specs.Owner.{IsOwner};
 ghost use Rattle.sit.specs.Summaries.{count_of};
+ghost use Rattle.sit.specs.Segment.{IsFitting};
 ghost use Rattle.sit.specs.NextValid.{IsNextValid};
 ghost use Rattle.sit.specs.Released.{IsFate};
 
@@ -35,13 +36,13 @@ impl<B: Block + Drop> Model for Body<B> {
 
     ghost Value = { Segment };
 
-    ghost view = { λ s. record { shape = s.shape; number = s.number; state = s.state; summaries = s.valid; mtime = s.mtime; next = s.next; failed = s.blocks.failed } };
+    ghost view = { λ s. record { shape = s.shape; number = s.number; state = s.state; summaries = s.valid; mtime = s.mtime; next = s.next; contents = s.blocks.contents; failed = s.blocks.failed } };
 
-    ghost invariant = { λ s. SegmentLaw (record { shape = s.shape; number = s.number; state = s.state; summaries = s.valid; mtime = s.mtime; next = s.next; failed = s.blocks.failed }) s.blocks };
+    ghost invariant = { λ s. SegmentLaw (record { shape = s.shape; number = s.number; state = s.state; summaries = s.valid; mtime = s.mtime; next = s.next; contents = s.blocks.contents; failed = s.blocks.failed }) s.blocks };
 }
 
 impl<B: Block + Drop> Body<B> {
-    ghost use Rattle.sit.specs.Segment.{placed, cleared, entered, HasPlaced};
+    ghost use Rattle.sit.specs.Segment.{IsFitting, placed, cleared, entered, HasPlaced, HasSpoiled};
     ghost use Rattle.sit.specs.Released.{HasReleased};
     ghost use Rattle.sit.specs.Row.{row_of};
 
@@ -50,6 +51,13 @@ impl<B: Block + Drop> Body<B> {
         ensures { result ≡ self.now.state }
     {
         self.state
+    }
+
+    /// Tells what its state says of its blocks. Nothing changes.
+    pub(crate) fn show_state(&self)
+        ensures { IsFitting self.now.state self.now.next self.now.summaries }
+    {
+        let _state = self.state;
     }
 
     /// How many of its blocks are valid.
@@ -93,6 +101,14 @@ impl<B: Block + Drop> Body<B> {
         }
     }
 
+    /// Tells what its law says of its summaries.
+    pub(crate) fn law(&self)
+        ensures sized { length self.now.summaries ≡ segment_blocks self.now.shape }
+        ensures fitting { IsFitting self.now.state self.now.next self.now.summaries }
+    {
+        let _ = &self.valid;
+    }
+
     /// Writes the block at the next place of an open segment, which leaves home and is valid from then on. Where it was the
     /// last place, the segment is sealed. Where the device fails, and counts it, nothing is marked and the place stays.
     pub(crate) fn place(
@@ -114,7 +130,7 @@ impl<B: Block + Drop> Body<B> {
         ensures segment { OnOk result (HasPlaced (placed self.old owner now self.new.failed) self.new) }
         ensures count { OnOk result (count_of self.new.summaries ≡ count_of self.old.summaries + 1) }
         ensures failures { IfOk result (λ block. self.new.failed + B.failed block ≡ self.old.failed) }
-        ensures err { OnErr result (self.new ≡ record self.old { failed = self.new.failed }) }
+        ensures err { OnErr result (HasSpoiled self.old self.new) }
         ensures failure { OnErr result (self.old.failed < self.new.failed) }
     {
         let block = self.blocks.write_out(offset as usize, bytes)?;
@@ -132,7 +148,8 @@ impl<B: Block + Drop> Body<B> {
         requires valid { IsSome (slice_index_or self.old.summaries (offset_of self.old.shape (B.address_of block)) None) }
         requires bytes { length (B.content_of block) ≡ block_bytes self.old.shape }
         ensures sized { length self.old.summaries ≡ segment_blocks self.old.shape }
-        ensures segment { HasReleased (cleared self.old (offset_of self.old.shape (B.address_of block)) (self.old.failed + B.failed block)) result self.new }
+        ensures segment { HasReleased (cleared self.old (offset_of self.old.shape (B.address_of block)) (B.content_of block) (self.old.failed + B.failed block)) result self.new }
+        ensures content { slice_index_or self.new.contents (offset_of self.old.shape (B.address_of block)) [] ≡ B.content_of block }
     {
         let offset = block.address() - self.blocks.first();
         self.valid.clear(offset);
@@ -186,6 +203,7 @@ impl<B: Block + Drop> Body<B> {
         requires room { vec_len all.old + segment_blocks self.shape ≤ vec_capacity all.old }
         ensures run { IsBlockRun B.address_of B.content_of (block_bytes self.shape) 1 all.new.items }
         ensures count { vec_len all.new ≡ vec_len all.old + segment_blocks self.shape }
+        ensures contents { map B.content_of all.new.items ≡ map B.content_of all.old.items ++ self.contents }
         ensures capacity { vec_capacity all.new ≡ vec_capacity all.old }
     {
         self.blocks.empty_into(all);

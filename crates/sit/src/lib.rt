@@ -6,9 +6,11 @@
 mod bits;
 mod blocks;
 mod body;
+pub mod loading;
 pub mod room;
 pub mod segment;
 mod valid;
 
+pub use loading::Loading;
 pub use room::Room;
 pub use segment::{Released, SegmentRow, SegmentState};

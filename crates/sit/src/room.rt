@@ -1,5 +1,5 @@
 //! The memory of a segment, before its blocks are there.
-ghost use Rattle.std.specs.Prelude.{◌≡◌, ◌+◌, ◌<◌, [], IfOk, IfErr, vec_len, vec_capacity};
+ghost use Rattle.std.specs.Prelude.{◌≡◌, ◌+◌, ◌<◌, ◌++◌, [], map, IfOk, IfErr, vec_len, vec_capacity};
 ghost use Rattle.geometry.specs.declared.error.Error.TheVariants.{NoMemory};
 ghost use Rattle.device.specs.Parts.{IsBlockRun};
 ghost use Rattle.geometry.specs.Shape.{block_bytes, segment_blocks};
@@ -38,6 +38,7 @@ impl<B: Block + Drop> Model for Room<B> {
 }
 
 impl<B: Block + Drop> Room<B> {
+    ghost use Rattle.sit.specs.Room.{IsRoom};
     ghost use Rattle.sit.specs.Segment.{fresh};
     ghost use Rattle.sit.specs.Registered.{post_of};
 
@@ -70,11 +71,12 @@ impl<B: Block + Drop> Room<B> {
         requires standing { standing.life ≡ fresh_life self.number }
         requires run { IsBlockRun B.address_of B.content_of (block_bytes self.shape) 1 all.old.items }
         requires last { address_of self.shape self.number (segment_blocks self.shape) ≡ 1 + vec_len all.old }
-        ensures segment { result.segment ≡ fresh self.shape self.number result.segment.failed }
+        ensures segment { result.segment ≡ fresh self.shape self.number result.segment.contents result.segment.failed }
         ensures book { result.book ≡ account.book }
         ensures standing { post_of result ≡ standing }
         ensures run { IsBlockRun B.address_of B.content_of (block_bytes self.shape) 1 all.new.items }
         ensures rest { address_of self.shape self.number 0 ≡ 1 + vec_len all.new }
+        ensures contents { map B.content_of all.old.items ≡ map B.content_of all.new.items ++ result.segment.contents }
         ensures capacity { vec_capacity all.new ≡ vec_capacity all.old }
     {
         SegmentState {
@@ -84,13 +86,22 @@ impl<B: Block + Drop> Room<B> {
         }
     }
 
+    /// Its parts: none of its blocks is there, and none is valid.
+    pub(crate) fn into_parts(self) -> (Shape, u32, Blocks<B>, ValidBlocks)
+        ensures whose { (result.0 ≡ self.shape) × (result.1 ≡ self.number) }
+        ensures room { IsRoom self result.2 result.3 }
+    {
+        (self.shape, self.number, self.blocks, self.valid)
+    }
+
     // The blocks of the segment.
     fn fill_body(self, all: &mut Vec<B>) -> Body<B>
         requires run { IsBlockRun B.address_of B.content_of (block_bytes self.shape) 1 all.old.items }
         requires last { address_of self.shape self.number (segment_blocks self.shape) ≡ 1 + vec_len all.old }
-        ensures segment { result ≡ fresh self.shape self.number result.failed }
+        ensures segment { result ≡ fresh self.shape self.number result.contents result.failed }
         ensures run { IsBlockRun B.address_of B.content_of (block_bytes self.shape) 1 all.new.items }
         ensures rest { address_of self.shape self.number 0 ≡ 1 + vec_len all.new }
+        ensures contents { map B.content_of all.old.items ≡ map B.content_of all.new.items ++ result.contents }
         ensures capacity { vec_capacity all.new ≡ vec_capacity all.old }
     {
         let mut blocks = self.blocks;

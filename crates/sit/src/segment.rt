@@ -1,5 +1,5 @@
 //! One segment, as it lies in its lock.
-ghost use Rattle.std.specs.Prelude.{◌≡◌, ◌+◌, ◌<◌, ◌≤◌, Some, None, ◌∷◌, length, slice_index_or, MatchOption, OnOk, OnErr, IfOk, IfErr, vec_len, vec_capacity};
+ghost use Rattle.std.specs.Prelude.{◌≡◌, ℕ, List, ◌+◌, ◌<◌, ◌≤◌, Some, None, ◌∷◌, ◌++◌, map, length, slice_index_or, MatchOption, OnOk, OnErr, IfOk, IfErr, vec_len, vec_capacity};
 ghost use Rattle.geometry.specs.declared.state.State.TheVariants.{Free, Open, Sealed, Prefree};
 ghost use Rattle.geometry.specs.declared.error.Error.TheVariants.{Device};
 ghost use Rattle.geometry.specs.Shape.{block_bytes, segment_blocks};
@@ -8,18 +8,20 @@ ghost use Rattle.geometry.specs.Owner.{IsOwner};
 ghost use Rattle.geometry.specs.Mark.{same_mark};
 ghost use Rattle.device.specs.Parts.{IsBlockRun};
 ghost use Rattle.books.specs.Lists.{times, without};
+ghost use Rattle.words.specs.Claims.{times as pins_on};
+ghost use Rattle.words.specs.Steps.{pins_with};
 ghost use Rattle.words.specs.Tokens.{IsOpened, IsSealed, IsFreed, IsKept};
 ghost use Rattle.sit.specs.Summaries.{count_of};
 ghost use Rattle.sit.specs.NextValid.{IsNextValid};
 ghost use Rattle.sit.specs.declared.segment.Released.TheVariants.{Retired};
 
 use crate::body::Body;
-use books::{Books, Permit, SegmentAccount};
+use books::{Audit, Books, FileAccount, Permit, SegmentAccount};
 use device::Block;
 use geometry::{Error, Mark, Owner, State};
 use std::marker::Model;
 use tickets::Ticket;
-use words::{FreeSlip, OpenSlip, Standing, StoredOpenSlip, Words};
+use words::{FreeSlip, OpenSlip, Seat, Standing, StoredOpenSlip, Words};
 
 /// One segment in its lock (Linux `filesystems/f2fs`, segment information table and segment summary area). The law, whenever
 /// the lock is free: a block's bit is set exactly where the block is not at home; each set bit has one ticket out, whose
@@ -66,10 +68,16 @@ pub struct SegmentRow {
 
 impl<B: Block + Drop> SegmentState<B> {
     ghost use Rattle.sums.specs.Weights.{SameItems};
-    ghost use Rattle.sit.specs.Segment.{placed, cleared, entered, marks_of, HasPlaced};
+    ghost use Rattle.sums.specs.Weights.{weigh};
+    ghost use Rattle.books.specs.Weights.{segment_copy, past};
+    ghost use Rattle.sit.specs.Learned.{HasLearned};
+    ghost use Rattle.sit.specs.Segment.{IsFitting, placed, cleared, entered, marks_of, HasPlaced, HasSpoiled};
     ghost use Rattle.sit.specs.Registered.{AreItsBooks, IsSameBook, HasLivedOn, HasStood, post_of, slip_of, slip_after};
     ghost use Rattle.sit.specs.Released.{HasReleased};
+    ghost use Rattle.sit.specs.Pinned.{HasBlockIn, HasBeenPinned};
     ghost use Rattle.sit.specs.Row.{row_of};
+    ghost use Rattle.sit.specs.ShownBlocks.{ShowsBlocks, FollowsBlocks};
+    ghost use Rattle.geometry.specs.Blocks.{changed};
 
     /// Where it is in its life.
     pub fn state(&self) -> State
@@ -114,12 +122,41 @@ impl<B: Block + Drop> SegmentState<B> {
         self.body.row()
     }
 
+    /// Tells what holds of every segment: each of its blocks has a summary, and its state says which of them are valid.
+    pub fn law(&self)
+        ensures sized { length self.now.segment.summaries ≡ segment_blocks self.now.segment.shape }
+        ensures fitting { IsFitting self.now.segment.state self.now.segment.next self.now.segment.summaries }
+    {
+        self.body.law();
+    }
+
+    /// Tells that the segment is open, by its slip. Nothing changes.
+    pub fn show_open(&mut self, words: &Words, slip: &mut Option<StoredOpenSlip>)
+        requires words { words.now.table ≡ self.old.table }
+        requires slip { slip.old ≡ Some (slip_of self.old) }
+        ensures open { self.old.segment.state ≡ Open }
+        ensures same { self.new ≡ self.old }
+        ensures slip { slip.new ≡ slip.old }
+    {
+        show_open(words, &mut self.standing, slip);
+    }
+
+    /// An audit of the books learns its valid blocks. It goes by ascending numbers.
+    pub fn learn(&mut self, books: &Books, audit: &mut Audit)
+        requires books { (books.now.book ≡ self.old.book) × (audit.old.book ≡ self.old.book) }
+        requires ascending { weigh (segment_copy (past self.old.segment.number)) audit.old.copies ≡ 0 }
+        ensures same { self.new ≡ self.old }
+        ensures audit { HasLearned self.old.segment audit.old audit.new }
+    {
+        books.learn_segment(audit, &mut self.account);
+    }
+
     /// Writes the block at the next place of the segment, which its slip shows to be open; the block is valid from then on,
     /// and its ticket, which names this owner, is in the permit's hand. Where that was the last place the segment is sealed
     /// and the slip spent. The order of the places is that of a log (Rosenblum and Ousterhout 1991).
     ///
     /// The only error is Device, which the device has counted: then nothing is marked, the place stays, and the block at it
-    /// holds any bytes.
+    /// holds any bytes. No other block that is at home changes its bytes, whatever is answered.
     pub fn place(
         &mut self,
         books: &Books,
@@ -145,11 +182,14 @@ impl<B: Block + Drop> SegmentState<B> {
         ensures slip { OnOk result (slip.new ≡ slip_after self.new.segment.state slip.old) }
         ensures marks { IfOk result (λ ticket. SameItems (ticket.mark ∷ marks_of self.old.segment) (marks_of self.new.segment)) }
         ensures count { OnOk result (count_of self.new.segment.summaries ≡ count_of self.old.segment.summaries + 1) }
+        ensures blocks { IfOk result (λ ticket. FollowsBlocks (λ blocks. changed blocks ticket.mark.address ticket.content) self.old.segment self.new.segment) }
         ensures hand { IfOk result (λ ticket. permit.new ≡ record permit.old { tickets = ticket.mark ∷ permit.old.tickets }) }
         ensures book { IsSameBook self.old self.new }
         ensures error { IfErr result (λ error. error ≡ Device) }
         ensures failure { OnErr result (self.old.segment.failed < self.new.segment.failed) }
-        ensures err { OnErr result (self.new ≡ record self.old { segment = record self.old.segment { failed = self.new.segment.failed } }) }
+        ensures err { OnErr result (self.new ≡ record self.old { segment = self.new.segment }) }
+        ensures spoiled { OnErr result (HasSpoiled self.old.segment self.new.segment) }
+        ensures err_blocks { OnErr result ((bytes : List ℕ) × FollowsBlocks (λ blocks. changed blocks (address_of self.old.segment.shape self.old.segment.number offset) bytes) self.old.segment self.new.segment) }
         ensures err_slip { OnErr result (slip.new ≡ slip.old) }
         ensures err_hand { OnErr result (permit.new ≡ permit.old) }
     {
@@ -162,7 +202,7 @@ impl<B: Block + Drop> SegmentState<B> {
     }
 
     /// Takes back the ticket of one of its blocks, which is in the permit's hand. That the block is valid, and named by the
-    /// ticket's owner, the books show. The block comes home and is valid no more. A sealed segment that has no valid block
+    /// ticket's owner, the books show. The block comes home with its bytes and is valid no more. A sealed segment that has no valid block
     /// left is retired in the same call. This cannot be refused.
     pub fn release(
         &mut self,
@@ -178,9 +218,10 @@ impl<B: Block + Drop> SegmentState<B> {
         requires held { 0 < times same_mark ticket.mark permit.old.tickets }
         requires bytes { length ticket.content ≡ block_bytes self.old.segment.shape }
         ensures valid { slice_index_or self.old.segment.summaries (offset_of self.old.segment.shape ticket.mark.address) None ≡ Some ticket.mark.owner }
-        ensures segment { HasReleased (cleared self.old.segment (offset_of self.old.segment.shape ticket.mark.address) self.new.segment.failed) result self.new.segment }
+        ensures segment { HasReleased (cleared self.old.segment (offset_of self.old.segment.shape ticket.mark.address) ticket.content self.new.segment.failed) result self.new.segment }
         ensures life { HasStood result (post_of self.old) (post_of self.new) }
         ensures marks { SameItems (ticket.mark ∷ marks_of self.new.segment) (marks_of self.old.segment) }
+        ensures blocks { (blocks : ℕ → List ℕ) → blocks ticket.mark.address ≡ ticket.content → ShowsBlocks self.old.segment blocks → ShowsBlocks self.new.segment blocks }
         ensures hand { permit.new ≡ record permit.old { tickets = without same_mark ticket.mark permit.old.tickets } }
         ensures book { IsSameBook self.old self.new }
     {
@@ -189,6 +230,26 @@ impl<B: Block + Drop> SegmentState<B> {
         let released = self.body.release(block);
         retire_empty(words, &mut self.standing, released);
         released
+    }
+
+    /// Pins the segment for a reader's seat, so that it stays in its incarnation. That a ticket of one of its blocks is lodged
+    /// in a file shows that it has a valid block, and so that it is open or sealed. This cannot be refused.
+    pub fn pin(&mut self, books: &Books, words: &Words, file: &mut FileAccount, seat: &mut Seat)
+        requires books { AreItsBooks books.now self.old }
+        requires file { file.old.book ≡ self.old.book }
+        requires words { words.now.table ≡ self.old.table }
+        requires seat { seat.old.table ≡ self.old.table }
+        requires lodged { HasBlockIn self.old.segment file.old.tickets }
+        requires once { pins_on self.old.segment.number seat.old.pins.held ≡ 0 }
+        ensures segment { self.new.segment ≡ self.old.segment }
+        ensures life { HasBeenPinned (post_of self.old) (post_of self.new) }
+        ensures seat { (seat.new.table ≡ seat.old.table) × (seat.new.pins ≡ pins_with seat.old.pins self.old.segment.number self.old.life.incarnation) }
+        ensures file { file.new ≡ file.old }
+        ensures book { IsSameBook self.old self.new }
+    {
+        books.show_marked(&mut self.account, file);
+        self.body.show_state();
+        words.pin(&mut self.standing, seat);
     }
 
     /// Seals a segment that has a valid block, before its last place is taken. Its slip shows that it is open, and is spent.
@@ -260,6 +321,7 @@ impl<B: Block + Drop> SegmentState<B> {
         requires room { vec_len all.old + segment_blocks self.segment.shape ≤ vec_capacity all.old }
         ensures run { IsBlockRun B.address_of B.content_of (block_bytes self.segment.shape) 1 all.new.items }
         ensures count { vec_len all.new ≡ vec_len all.old + segment_blocks self.segment.shape }
+        ensures contents { map B.content_of all.new.items ≡ map B.content_of all.old.items ++ self.segment.contents }
         ensures capacity { vec_capacity all.new ≡ vec_capacity all.old }
     {
         self.body.empty_into(all);

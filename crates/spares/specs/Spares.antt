@@ -4,6 +4,10 @@ use Rattle.books.specs.declared.claim.Entry.{Entry}
 use Rattle.tree.specs.declared.branch.Branch.{Branch}
 use Rattle.tree.specs.Tree.{AreNone, entry_at, number_of}
 
+-- where a node has entries that hold an index, it has them still
+abbrev pub KeepsNames : (ℕ → Option ℕ) → (ℕ → Option ℕ) → Type 0
+KeepsNames old new = (j n : ℕ) → old j ≡ Some n → new j ≡ Some n
+
 -- one where there is no node
 abbrev pub lack : {A : Type 0} → Option A → ℕ
 lack spare = if is_none spare then 1 else 0

@@ -1,9 +1,9 @@
 //! Spare nodes below the entries of a node.
-ghost use Rattle.std.specs.Prelude.{◌≡◌, ℕ, ◌+◌, ◌*◌, ◌/◌, ◌%◌, ◌^◌, ◌<◌, length, slice_set, OnOk, OnErr, IfErr, IsTrue, ◌↔◌, true, false};
+ghost use Rattle.std.specs.Prelude.{Bool, ◌≡◌, ℕ, ◌+◌, ◌*◌, ◌/◌, ◌%◌, ◌^◌, ◌<◌, length, slice_set, OnOk, OnErr, IfErr, IsTrue, ◌↔◌, true, false, Some};
 ghost use Rattle.books.specs.declared.claim.Entry.{Entry};
-ghost use Rattle.tree.specs.Tree.{Same, ShapedIn, entry_at, find_in, missing_in};
+ghost use Rattle.tree.specs.Tree.{Same, ShapedIn, UsefulIn, SparesIndex, entry_at, find_in, missing_in};
 ghost use Rattle.tree.specs.Change.{TreeNode, ChangesEntries, IsNewNode, nothing};
-ghost use Rattle.spares.specs.Spares.{lacking_in};
+ghost use Rattle.spares.specs.Spares.{KeepsNames, lacking_in};
 
 use crate::planting::Planting;
 use std::alloc::Global;
@@ -78,6 +78,11 @@ pub fn plant_in<C: Planting>(
     requires ready { lacking_in (C.lacking entries) (C.span_of entries) below.old.slots.items index spares.old ≡ 0 }
     requires empty { C.empty_nodes entries spares.old }
     ensures same { Same (find_in (C.find entries) (C.span_of entries) below.old.slots.items) (find_in (C.find entries) (C.span_of entries) below.new.slots.items) }
+    ensures namer { KeepsNames (find_in (C.namer entries) (C.span_of entries) below.old.slots.items) (find_in (C.namer entries) (C.span_of entries) below.new.slots.items) }
+    ensures useful { (asked : ℕ → ℕ → Bool) (first : ℕ) → SparesIndex asked (first + index) → UsefulIn (C.useful entries) (C.span_of entries) asked first below.old.slots.items → UsefulIn (C.useful entries) (C.span_of entries) asked first below.new.slots.items }
+    ensures end { 0 < missing_in (C.missing entries) (C.span_of entries) below.old.slots.items index → missing_in (C.missing entries) (C.span_of entries) below.new.slots.items index ≡ 0
+        → find_in (C.namer entries) (C.span_of entries) below.new.slots.items index ≡ Some (C.end_number spares.old) }
+    ensures rest { 0 < missing_in (C.missing entries) (C.span_of entries) below.new.slots.items index → C.end_number spares.new ≡ C.end_number spares.old }
     ensures shaped { ShapedIn (C.shaped entries) count below.new.slots.items }
     ensures grown { result ≡ true → missing_in (C.missing entries) (C.span_of entries) below.new.slots.items index + 1 ≡ missing_in (C.missing entries) (C.span_of entries) below.old.slots.items index }
     ensures none { result ≡ false → (missing_in (C.missing entries) (C.span_of entries) below.old.slots.items index ≡ 0) × (below.new ≡ below.old) × (spares.new ≡ spares.old) }
@@ -107,6 +112,11 @@ fn plant_at<C: Planting>(
     requires empty { C.empty_nodes entries spares.old }
     ensures entry { below.new.slots.items ≡ slice_set below.old.slots.items at (entry_at below.new.slots.items at) }
     ensures same { Same (C.find entries (entry_at below.old.slots.items at)) (C.find entries (entry_at below.new.slots.items at)) }
+    ensures namer { KeepsNames (C.namer entries (entry_at below.old.slots.items at)) (C.namer entries (entry_at below.new.slots.items at)) }
+    ensures useful { (asked : ℕ → ℕ → Bool) (first : ℕ) → SparesIndex asked (first + index) → C.useful entries asked first (entry_at below.old.slots.items at) → C.useful entries asked first (entry_at below.new.slots.items at) }
+    ensures end { 0 < C.missing entries (entry_at below.old.slots.items at) index → C.missing entries (entry_at below.new.slots.items at) index ≡ 0
+        → C.namer entries (entry_at below.new.slots.items at) index ≡ Some (C.end_number spares.old) }
+    ensures rest { 0 < C.missing entries (entry_at below.new.slots.items at) index → C.end_number spares.new ≡ C.end_number spares.old }
     ensures shaped { C.shaped entries (entry_at below.new.slots.items at) }
     ensures grown { result ≡ true → C.missing entries (entry_at below.new.slots.items at) index + 1 ≡ C.missing entries (entry_at below.old.slots.items at) index }
     ensures none { result ≡ false → (C.missing entries (entry_at below.old.slots.items at) index ≡ 0) × (below.new ≡ below.old) × (spares.new ≡ spares.old) }

@@ -1,9 +1,9 @@
 //! Spare nodes below one entry.
-ghost use Rattle.std.specs.Prelude.{◌≡◌, ℕ, ◌+◌, ◌%◌, ◌^◌, ◌<◌, is_none, OnOk, OnErr, IfErr, MatchOption, IsTrue, ◌↔◌, Option, Some, None, true, false};
+ghost use Rattle.std.specs.Prelude.{Bool, ◌≡◌, ℕ, ◌+◌, ◌%◌, ◌^◌, ◌<◌, is_none, OnOk, OnErr, IfErr, MatchOption, IsTrue, ◌↔◌, Option, Some, None, true, false};
 ghost use Rattle.books.specs.declared.claim.Entry.{Entry};
-ghost use Rattle.tree.specs.Tree.{Same};
+ghost use Rattle.tree.specs.Tree.{Same, SparesIndex};
 ghost use Rattle.tree.specs.Change.{TreeNode, ChangesSlot, IsNewNode, nothing, unnumbered};
-ghost use Rattle.spares.specs.Spares.{lacking_below, token_weight, IsEmptyNode, number_at_end};
+ghost use Rattle.spares.specs.Spares.{KeepsNames, lacking_below, token_weight, IsEmptyNode, number_at_end};
 
 use crate::entries::{is_ready_in, plant_in, prepare_in};
 use device::Block;
@@ -81,6 +81,10 @@ pub trait Planting: Subtree {
         requires ready { lacking entries slot.old index spares.old ≡ 0 }
         requires empty { empty_nodes entries spares.old }
         ensures same { Same (Self.find entries slot.old) (Self.find entries slot.new) }
+        ensures namer { KeepsNames (Self.namer entries slot.old) (Self.namer entries slot.new) }
+        ensures useful { (asked : ℕ → ℕ → Bool) (first : ℕ) → SparesIndex asked (first + index) → Self.useful entries asked first slot.old → Self.useful entries asked first slot.new }
+        ensures end { 0 < Self.missing entries slot.old index → Self.missing entries slot.new index ≡ 0 → Self.namer entries slot.new index ≡ Some (end_number spares.old) }
+        ensures rest { 0 < Self.missing entries slot.new index → end_number spares.new ≡ end_number spares.old }
         ensures shaped { Self.shaped entries slot.new }
         ensures ready { lacking entries slot.new index spares.new ≡ 0 }
         ensures empty { empty_nodes entries spares.new }
@@ -162,7 +166,9 @@ impl<B: Block> Planting for Ticket<B> {
 
 /// A spare node, or none, and those of the levels below it.
 pub struct SpareNodes<C: Planting> {
+    /// That of this level.
     pub node: Option<Branch<C>>,
+    /// Those of the levels below.
     pub below: C::Spares,
 }
 

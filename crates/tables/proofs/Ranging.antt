@@ -9,7 +9,7 @@ use Rattle.geometry.specs.Shape.{segment_blocks}
 use Rattle.image.specs.declared.image.Place.{Place}
 use Rattle.image.specs.Image.{Image}
 use Rattle.image.specs.Rules.{IsInRange, IsPlace}
-use Rattle.tables.specs.Grammar.{HasSpelling, IsPlaceRow, IsSummaryRow, HasWholeEntries}
+use Rattle.tables.specs.Grammar.{HasSpelling, IsPlaceRow, IsSummaryRow}
 
 blocks_few : (shape : Shape) (segments : ℕ) → segments ≤ 4096 → segments * segment_blocks shape < 2 ^ 32
 blocks_few Tiny segments few = omega arith
@@ -33,8 +33,8 @@ pub record HasSmallNumbers (image : Image) : Type 0 where
   pub infos : All (λ info. (info.count < 2 ^ 32) × (info.mtime < 2 ^ 64)) image.segments
   pub owners : All IsSummaryRow image.summaries
 
-pub has_spelling : (geometry : Geometry) (image : Image) → HasSmallNumbers image → IsInRange geometry image → HasWholeEntries image → HasSpelling geometry image
-has_spelling geometry image small range whole =
+pub has_spelling : (geometry : Geometry) (image : Image) → HasSmallNumbers image → IsInRange geometry image → HasSpelling geometry image
+has_spelling geometry image small range =
     let blocks = blocks_few geometry.shape geometry.segments geometry.limits.segments_fit in
     let nodes = geometry.limits.nodes_fit in
     record {
@@ -43,7 +43,7 @@ has_spelling geometry image small range whole =
       logs = range.logs;
       places = All-weaker (λ log. IfSome log (IsPlace geometry)) (λ log. IfSome log IsPlaceRow) (place_small geometry) image.logs range.places;
       table = range.table;
-      entries = λ k d below. (let e = range.entries k d below in let i = e.0 in let a = e.1 in (omega arith, omega arith, whole k d below));
+      entries = λ k d below. (let e = range.entries k d below in let i = e.0 in let a = e.1 in (omega arith, omega arith, e.2));
       segments = range.segments;
       infos = λ k d below. (let s = small.infos k d below in (s.0, s.1, range.bits k d below));
       summaries = range.summaries;

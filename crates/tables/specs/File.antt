@@ -7,7 +7,8 @@ use Rattle.geometry.specs.Shape.{block_bytes}
 use Rattle.geometry.specs.Area.{block_count, meta_bytes}
 use Rattle.geometry.specs.File.{Block}
 use Rattle.image.specs.Image.{Image}
-use Rattle.image.specs.Pack.{Slot, slot_of, slot_start, pick}
+use Rattle.image.specs.Pack.{cut_slot, slot_start}
+use Rattle.image.specs.Slots.{Slot, picked}
 use Rattle.image.specs.Reading.{image_in}
 use Rattle.image.specs.Rules.{IsLeastFault}
 use Rattle.tables.specs.Grammar.{HasSuper, SpellsTables, SpellsNoTables}
@@ -20,16 +21,11 @@ abbrev pub block_in : Geometry → List ℕ → ℕ → Block
 block_in geometry file address = take (block_bytes geometry.shape) (drop (meta_bytes geometry + (address - 1) * block_bytes geometry.shape) file)
 
 abbrev pub slot_in : Geometry → List ℕ → ℕ → Slot
-slot_in geometry file slot = slot_of geometry (drop (slot_start geometry slot) file)
-
--- the body of a pack that was picked
-abbrev pub body_in : Geometry → List ℕ → Option ℕ → Option (List ℕ)
-body_in geometry file None = None
-body_in geometry file (Some slot) = Some (slot_in geometry file slot).body
+slot_in geometry file slot = cut_slot geometry (drop (slot_start geometry slot) file)
 
 -- the body of the pack that counts
 abbrev pub picked_body : Geometry → List ℕ → Option (List ℕ)
-picked_body geometry file = body_in geometry file (pick (slot_in geometry file 0) (slot_in geometry file 1))
+picked_body geometry file = picked (slot_in geometry file)
 
 -- what a body and the main blocks of the file hold
 abbrev pub file_image : Geometry → List ℕ → List ℕ → Image

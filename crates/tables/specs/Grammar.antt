@@ -42,10 +42,6 @@ pub record HasSpelling (geometry : Geometry) (image : Image) : Type 0 where
   pub summaries : length image.summaries ≡ block_count geometry
   pub owners : All IsSummaryRow image.summaries
 
--- each entry of the node address table has both numbers or neither
-abbrev pub HasWholeEntries : Image → Type 0
-HasWholeEntries image = All (λ entry. (entry.inode ≡ 0) ↔ (entry.address ≡ 0)) image.node_table
-
 -- a body spells the tables of an image; its nodes stand in the main blocks
 abbrev pub SpellsTables : Geometry → List ℕ → Image → Type 0
 SpellsTables geometry body image = HasSpelling geometry image × (body ≡ pack_body geometry.shape image)

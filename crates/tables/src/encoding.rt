@@ -8,7 +8,7 @@ ghost use Rattle.image.specs.Node.{numbers};
 ghost use Rattle.image.specs.Pack.{pack_body, log_bytes, entry_bytes, segment_bytes, summary_bytes, bits_number, bitmap};
 ghost use Rattle.image.specs.Rules.{IsInRange};
 ghost use Rattle.image.specs.View.{image_view, info_view};
-ghost use Rattle.tables.specs.Grammar.{IsSummaryRow, HasWholeEntries, SpellsTables};
+ghost use Rattle.tables.specs.Grammar.{IsSummaryRow, SpellsTables};
 
 use crate::rows::NO_SEGMENT;
 use byteorder::{ByteOrder, LittleEndian};
@@ -110,7 +110,7 @@ fn push_segments(
 pub fn encode(alloc: Global, geometry: &Geometry, image: &Image) -> Result<Vec<u8>, Error>
     ensures bytes { IfOk result (λ body. body.items ≡ pack_body geometry.now.shape (image_view image.now)) }
     // So that it is read back, where its numbers are in range.
-    ensures spelled { IfOk result (λ body. IsInRange geometry.now (image_view image.now) → HasWholeEntries (image_view image.now)
+    ensures spelled { IfOk result (λ body. IsInRange geometry.now (image_view image.now)
         → SpellsTables geometry.now body.items (image_view image.now)) }
     ensures refused { IfErr result (λ e. e ≡ NoMemory) }
 {

@@ -3,22 +3,20 @@ ghost use Rattle.std.specs.Prelude.{◌≡◌, ℕ, List};
 ghost use Rattle.geometry.specs.File.{Block};
 ghost use Rattle.geometry.specs.declared.geometry.Geometry.{Geometry};
 ghost use Rattle.image.specs.Image.{Image};
-ghost use Rattle.image.specs.Pack.{Slot, pack_body, header_version, pick, body_bytes};
+ghost use Rattle.image.specs.Pack.{pack_body, body_bytes};
 ghost use Rattle.image.specs.Reading.{image_in, read_nodes};
 ghost use Rattle.packs.specs.Area.{reading_of};
-ghost use Rattle.packs.specs.Pack.{pick as pick_by_ends, picked};
+ghost use Rattle.packs.specs.Pack.{picked};
 ghost use Rattle.tables.specs.File.{picked_body};
 ghost use Rattle.tables.specs.Grammar.{HasSpelling};
 
 /// The tables of an image whose numbers fit their fields are read back from its pack's body, whatever they are; its
-/// nodes are those in the main blocks. And the pack that counts is one, whether it is chosen by the slots of an image
-/// file or by the headers and footers that a device gives. It runs nothing: its contract is the law.
+/// nodes are those in the main blocks. And the pack that counts is one, whether it is chosen in an image file or in a
+/// device's area. It runs nothing: its contract is the law.
 pub fn reading_law()
     ensures round_trip { (geometry : Geometry) (image : Image) (blocks : ℕ → Block) → HasSpelling geometry image
         → image_in geometry (pack_body geometry.shape image) blocks
         ≡ record image { nodes = read_nodes geometry.shape blocks image.node_table } }
-    ensures choice { (zeroth first : Slot)
-        → pick zeroth first ≡ pick_by_ends (header_version zeroth) zeroth.footer (header_version first) first.footer }
     ensures picked { (geometry : Geometry) (file : List ℕ)
         → picked (reading_of (body_bytes geometry)) file ≡ picked_body geometry file }
 {}

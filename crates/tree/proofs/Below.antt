@@ -5,7 +5,7 @@ use Rattle.std.proofs.lemmas.Nat.{div-mul-add, mod-mul-add, div-add-mod'}
 use Rattle.std.proofs.lemmas.Bool.{cases_eq, cases_lt}
 use Rattle.tree.specs.declared.spare.Spare.{Spare}
 use Rattle.tree.specs.declared.spare.Spare.TheVariants.{Ticket, Token}
-use Rattle.tree.specs.Tree.{Same, SetsAt, SwapsOne, HandsOut, entry_at}
+use Rattle.tree.specs.Tree.{Same, SetsAt, SwapsOne, HandsOut, AreNone, entry_at}
 
 -- the entries but one stay
 pub others_stay : {C : Type 0} (xs ys : List (Option C)) (at j : ℕ) (y : Option C) → ys ≡ set xs at y → j ≢ at → entry_at ys j ≡ entry_at xs j
@@ -60,3 +60,11 @@ module _ {C L : Type 0} (find : Option C → ℕ → Option L) (span : ℕ) (xs 
         let lt = inside t i h.2 in
         let far : from - at * span ≤ i = h.1 in
         (at * span + i, omega arith, found t i lt h.2, sets_below i None lt h.3)
+
+-- entries below which a ticket stands name something
+pub names_some : {C L : Type 0} (find : Option C → ℕ → Option L) (span : ℕ) → ((i : ℕ) → find None i ≡ None)
+    → (xs : List (Option C)) (i : ℕ) (t : L) → find (entry_at xs (i / span)) (i % span) ≡ Some t → AreNone xs → ⊥
+names_some find span none xs i t is empty =
+    let nothing = ap (λ x. find x (i % span)) (empty (i / span)) in
+    let gone = none (i % span) in
+    cc

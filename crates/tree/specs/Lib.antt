@@ -2,3 +2,4 @@ pub mod Tree
 pub mod Change
 pub mod Laws
 pub mod Pruned
+pub mod Useful

@@ -1,6 +1,6 @@
 -- The map that a tree of nodes gives, from indexes to tickets (Linux filesystems/f2fs, index structure).
 use Rattle.std.proofs.Common.{zero, suc}
-use Rattle.std.specs.Prelude.{◌≡◌, ◌≢◌, ℕ, ◌+◌, ◌/◌, ◌%◌, ◌≤◌, List, length, slice_index_or, Option, Some, None}
+use Rattle.std.specs.Prelude.{Bool, true, false, if◌then◌else◌, ◌≡◌, ◌≢◌, ℕ, ◌+◌, ◌*◌, ◌/◌, ◌%◌, ◌<◌, ◌≤◌, ◌⊎◌, List, length, slice_index_or, Option, Some, None}
 use Rattle.tree.specs.declared.spare.Spare.{Spare}
 use Rattle.tree.specs.declared.spare.Spare.TheVariants.{Ticket, Token}
 
@@ -63,7 +63,42 @@ abbrev pub ShapedBelow : {B C : Type 0} → (B → List (Option C)) → (Option 
 ShapedBelow slots Shaped entries None = Unit {0}
 ShapedBelow slots Shaped entries (Some b) = ShapedIn Shaped entries (slots b)
 
+-- the number of the node whose entries hold an index, below a node which may be missing
+abbrev pub namer_below : {B C : Type 0} → (B → ℕ) → (B → List (Option C)) → Bool → (Option C → ℕ → Option ℕ) → ℕ → Option B → ℕ → Option ℕ
+namer_below number slots is_leaf namer span None i = None
+namer_below number slots is_leaf namer span (Some b) i = if is_leaf then Some (number b) else find_in namer span (slots b) i
+
+-- where a ticket stands, the node that names it has the number that it had
+abbrev pub KeepsNamers : {L : Type 0} → (ℕ → Option L) → (ℕ → Option ℕ) → (ℕ → Option ℕ) → Type 0
+KeepsNamers {L} find old new = (j : ℕ) (t : L) → find j ≡ Some t → new j ≡ old j
+
 -- the number that stands for a slot in a node's block: 0 where there is nothing
 abbrev pub number_of : {B : Type 0} → (B → ℕ) → Option B → ℕ
 number_of number None = 0
 number_of number (Some b) = number b
+
+-- Each node that is asked about names something. A node is told by the first index that it holds and by the end of them.
+abbrev pub UsefulIn : {C : Type 0} → ((ℕ → ℕ → Bool) → ℕ → Option C → Type 0) → ℕ → (ℕ → ℕ → Bool) → ℕ → List (Option C) → Type 0
+UsefulIn Useful span asked first slots = (k : ℕ) → Useful asked (first + k * span) (entry_at slots k)
+
+abbrev pub UsefulBelow : {B C : Type 0} → (B → List (Option C)) → ((ℕ → ℕ → Bool) → ℕ → Option C → Type 0) → ℕ → ℕ → (ℕ → ℕ → Bool) → ℕ → Option B → Type 0
+UsefulBelow slots Useful span entries asked first None = Unit {0}
+UsefulBelow slots Useful span entries asked first (Some b) =
+    (asked first (first + entries * span) ≡ true → AreNone (slots b) → ⊥) × UsefulIn Useful span asked first (slots b)
+
+-- it asks about no node that holds an index
+abbrev pub SparesIndex : (ℕ → ℕ → Bool) → ℕ → Type 0
+SparesIndex asked i = (first end : ℕ) → first ≤ i → i < end → asked first end ≡ false
+
+-- about no node that reaches past an index
+abbrev pub SparesPast : (ℕ → ℕ → Bool) → ℕ → Type 0
+SparesPast asked i = (first end : ℕ) → i < end → asked first end ≡ false
+
+-- and, of the nodes from `start` on, about those alone
+abbrev pub AsksPast : (ℕ → ℕ → Bool) → ℕ → ℕ → Type 0
+AsksPast asked start i = (first end : ℕ) → start ≤ first → first < end → asked first end ≡ true → i < end
+
+-- of the nodes between two indexes, each that one test asks about one of two others asks about
+abbrev pub AsksEither : ℕ → ℕ → (ℕ → ℕ → Bool) → (ℕ → ℕ → Bool) → (ℕ → ℕ → Bool) → Type 0
+AsksEither start stop asked one other =
+    (first end : ℕ) → start ≤ first → first < end → end ≤ stop → asked first end ≡ true → (one first end ≡ true) ⊎ (other first end ≡ true)

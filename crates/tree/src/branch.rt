@@ -1,6 +1,6 @@
 //! A node other than an inode.
 ghost use Rattle.std.specs.Prelude.{◌≡◌, ◌*◌, ◌<◌, None, true, false, map, replicate, IfOk, IfErr};
-ghost use Rattle.tree.specs.Tree.{find_below, missing_below, ShapedBelow, AreNone, number_of};
+ghost use Rattle.tree.specs.Tree.{find_below, missing_below, namer_below, ShapedBelow, UsefulBelow, AreNone, number_of};
 ghost use Rattle.tree.specs.Change.{tree_node, weight_below};
 
 use crate::entries::{Entries, Pruned};
@@ -59,9 +59,13 @@ impl<C: Subtree> Subtree for Branch<C> {
 
     ghost find = { λ e slot i. find_below (λ b. b.entries.slots.items) (C.find e) (C.span_of e) slot i };
 
+    ghost namer = { λ e slot i. namer_below (λ b. b.token.number) (λ b. b.entries.slots.items) C.is_leaf (C.namer e) (C.span_of e) slot i };
+
     ghost missing = { λ e slot i. missing_below (λ b. b.entries.slots.items) (C.missing e) (C.span_of e) slot i };
 
     ghost shaped = { λ e slot. ShapedBelow (λ b. b.entries.slots.items) (C.shaped e) e slot };
+
+    ghost useful = { λ e asked first slot. UsefulBelow (λ b. b.entries.slots.items) (C.useful e) (C.span_of e) e asked first slot };
 
     ghost number = { number_of (λ b. b.token.number) };
 
@@ -69,6 +73,7 @@ impl<C: Subtree> Subtree for Branch<C> {
 
     ghost use Rattle.std.specs.Prelude.{refl};
     ghost use Rattle.tree.specs.Laws.{times_positive, nothing_past, no_leaf};
+    ghost use Rattle.tree.specs.Useful.{never_below, either_below, found_below};
 
     ghost span_positive = { λ e h. times_positive e (C.span_of e) h (C.span_positive e h) };
 
@@ -78,9 +83,21 @@ impl<C: Subtree> Subtree for Branch<C> {
 
     ghost shaped_none = { λ _. tt };
 
+    ghost useful_none = { λ _ _ _. tt };
+
+    ghost useful_never = { λ e first s. never_below (λ b. b.entries.slots.items) (C.useful e) (C.span_of e) (λ f x. C.useful_never e f x) e first s };
+
+    ghost useful_either = { λ e asked one other first s h w either p q. either_below (λ b. b.entries.slots.items) (C.useful e) (C.span_of e) (C.shaped e) (C.span_positive e h) (λ a f. C.useful_none e a f) (λ a o r f x v k y z. C.useful_either e a o r f x h v k y z) e h asked one other first s w either p q };
+
+    ghost useful_found = { λ e asked first i s t h w is holds. found_below (λ b. b.entries.slots.items) (C.useful e) (C.span_of e) (C.shaped e) (C.span_positive e h) (λ a f. C.useful_none e a f) (λ a o r f x v k y z. C.useful_either e a o r f x h v k y z) (C.find e) (λ j. C.find_none e j) (λ f x. C.useful_never e f x) (λ a f j x u v k n. C.useful_found e a f j x u h v k n) e asked first i s t w is holds };
+
     ghost weight_none = { λ _. refl };
 
     ghost number_none = { refl };
+
+    ghost leaf_namer = { λ _ _ _ no. absurd (no_leaf no) };
+
+    ghost leaf_useful = { λ _ _ _ _ no. absurd (no_leaf no) };
 
     ghost leaf_span = { λ _ no. absurd (no_leaf no) };
 

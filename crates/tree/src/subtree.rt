@@ -1,6 +1,6 @@
 //! What an entry of a node may name: the ticket of a block, or a node with entries of its own.
 ghost use Rattle.std.specs.Prelude.{◌≡◌, ℕ, ◌+◌, ◌^◌, ◌<◌, ◌≤◌, List, Bool, true, false, Option, Some, None, is_none, length, replicate, OnOk, OnErr, IfOk, IfErr, MatchOption, IsTrue, ◌↔◌};
-ghost use Rattle.tree.specs.Tree.{SetsAt, Same, EmptyFrom, HandsOut, SwapsOne, only_at_zero, number_of};
+ghost use Rattle.tree.specs.Tree.{SetsAt, Same, KeepsNamers, EmptyFrom, HandsOut, SwapsOne, SparesIndex, SparesPast, AsksPast, AsksEither, only_at_zero, number_of};
 ghost use Rattle.tree.specs.Change.{Weighing, ticket_weight, ChangesSlot, WeighsAs, nothing, each_marked, each_naming};
 
 use crate::spare::Spare;
@@ -11,7 +11,8 @@ use tickets::Ticket;
 /// The ticket of a block, or a node with entries that name subtrees (Linux `filesystems/f2fs`, index structure).
 ///
 /// All calls are on slots, so that a hole and a missing node are one case. To contracts `find` gives the ticket at each
-/// index, `missing` the number of nodes that are not there on the way to it, and `weight` what all tickets and nodes weigh.
+/// index, `missing` the number of nodes that are not there on the way to it, `namer` the number of the node whose entries
+/// hold it, `useful` that each node that is asked about names something, and `weight` what all tickets and nodes weigh.
 /// `entries` is how many entries a node has.
 pub trait Subtree {
     /// The tickets.
@@ -34,7 +35,11 @@ pub trait Subtree {
 
     ghost missing: { ℕ → Option Self → ℕ → ℕ };
 
+    ghost namer: { ℕ → Option Self → ℕ → Option ℕ };
+
     ghost shaped: { ℕ → Option Self → Type 0 };
+
+    ghost useful: { ℕ → (ℕ → ℕ → Bool) → ℕ → Option Self → Type 0 };
 
     ghost number: { Option Self → ℕ };
 
@@ -89,6 +94,8 @@ pub trait Subtree {
         requires path { missing entries slot.old index ≡ 0 }
         ensures old { result ≡ find entries slot.old index }
         ensures sets { SetsAt (find entries slot.old) (find entries slot.new) index (Some ticket) }
+        ensures namer { Same (namer entries slot.old) (namer entries slot.new) }
+        ensures useful { (asked : ℕ → ℕ → Bool) (first : ℕ) → SparesIndex asked (first + index) → useful entries asked first slot.old → useful entries asked first slot.new }
         ensures shaped { shaped entries slot.new }
         ensures change { ChangesSlot number weight is_leaf slot.old slot.new (λ w. ticket_weight w result) (λ w. w.ticket ticket) };
 
@@ -98,6 +105,9 @@ pub trait Subtree {
         requires fits { span_of entries < 2 ^ 64 }
         requires shaped { shaped entries slot.old }
         ensures shaped { shaped entries slot.new }
+        ensures namer { KeepsNamers (find entries slot.new) (namer entries slot.old) (namer entries slot.new) }
+        ensures useful { (asked : ℕ → ℕ → Bool) (first : ℕ) → SparesPast asked (first + from) → useful entries asked first slot.old → useful entries asked first slot.new }
+        ensures past { MatchOption result ((asked : ℕ → ℕ → Bool) (first : ℕ) → AsksPast asked first (first + from) → useful entries asked first slot.new) (λ _. Unit {0}) }
         ensures none { MatchOption result
             ((slot.new ≡ slot.old) × EmptyFrom (find entries slot.old) from × (from ≡ 0 → slot.old ≡ None)) (λ _. Unit {0}) }
         ensures out { MatchOption result (Unit {0}) (λ spare. HandsOut (find entries slot.old) (find entries slot.new) from spare) }
@@ -122,6 +132,8 @@ pub trait Subtree {
         ensures named { OnOk result (0 < weight (each_naming nid at from) slot.old) }
         ensures address { IfOk result (λ before. address_of before ≡ from) }
         ensures swaps { IfOk result (λ before. SwapsOne (find entries slot.old) (find entries slot.new) before ticket) }
+        ensures namer { Same (namer entries slot.old) (namer entries slot.new) }
+        ensures useful { (asked : ℕ → ℕ → Bool) (first : ℕ) → useful entries asked first slot.old → useful entries asked first slot.new }
         ensures change { IfOk result (λ before. ChangesSlot number weight false slot.old slot.new (λ w. w.ticket before) (λ w. w.ticket ticket)) }
         ensures elsewhere { OnErr result (weight (each_naming nid at from) slot.old ≡ 0) }
         ensures refused { OnErr result (slot.new ≡ slot.old) }
@@ -164,9 +176,22 @@ pub trait Subtree {
 
     ghost shaped_none: { (e : ℕ) → shaped e None };
 
+    ghost useful_none: { (e : ℕ) (asked : ℕ → ℕ → Bool) (first : ℕ) → useful e asked first None };
+
+    ghost useful_never: { (e first : ℕ) (s : Option Self) → useful e (λ _ _. false) first s };
+
+    ghost useful_either: { (e : ℕ) (asked one other : ℕ → ℕ → Bool) (first : ℕ) (s : Option Self) → 0 < e → shaped e s → AsksEither first (first + span_of e) asked one other → useful e one first s → useful e other first s → useful e asked first s };
+
+    ghost useful_found: { (e : ℕ) (asked : ℕ → ℕ → Bool) (first i : ℕ) (s : Option Self) (t : Self.Leaf) → 0 < e → shaped e s → find e s i ≡ Some t
+        → ((start end : ℕ) → asked start end ≡ true → (start ≤ first + i) × (first + i < end)) → useful e asked first s };
+
     ghost weight_none: { (w : Weighing Self.Leaf) → weight w None ≡ 0 };
 
     ghost number_none: { number None ≡ 0 };
+
+    ghost leaf_namer: { (e : ℕ) (s : Option Self) (i : ℕ) → is_leaf ≡ true → namer e s i ≡ None };
+
+    ghost leaf_useful: { (e : ℕ) (asked : ℕ → ℕ → Bool) (first : ℕ) (s : Option Self) → is_leaf ≡ true → useful e asked first s };
 
     ghost leaf_span: { (e : ℕ) → is_leaf ≡ true → span_of e ≡ 1 };
 
@@ -196,7 +221,11 @@ impl<B: Block> Subtree for Ticket<B> {
 
     ghost missing = { λ _ _ _. 0 };
 
+    ghost namer = { λ _ _ _. None };
+
     ghost shaped = { λ _ _. Unit {0} };
+
+    ghost useful = { λ _ _ _ _. Unit {0} };
 
     ghost number = { number_of (λ t. t.mark.address) };
 
@@ -214,9 +243,21 @@ impl<B: Block> Subtree for Ticket<B> {
 
     ghost shaped_none = { λ _. tt };
 
+    ghost useful_none = { λ _ _ _. tt };
+
+    ghost useful_never = { λ _ _ _. tt };
+
+    ghost useful_either = { λ _ _ _ _ _ _ _ _ _ _ _. tt };
+
+    ghost useful_found = { λ _ _ _ _ _ _ _ _ _ _. tt };
+
     ghost weight_none = { λ _. refl };
 
     ghost number_none = { refl };
+
+    ghost leaf_namer = { λ _ _ _ _. refl };
+
+    ghost leaf_useful = { λ _ _ _ _ _. tt };
 
     ghost leaf_span = { λ _ _. refl };
 

@@ -121,7 +121,7 @@ fn with_turnstile<B: BooksName + Send + Sync, J: TurnName + Send + Sync, R: Thre
         rt,
         alloc,
         workers,
-        &|i| work::<Named<B, Brand, Brand, J>, R>(rt, &turnstile, &first, i == 0),
+        &|i| work::<Named<B, Brand, Brand, J, Brand>, R>(rt, &turnstile, &first, i == 0),
     );
     let all = turnstile.gather(rt);
     turnstile.end(all);

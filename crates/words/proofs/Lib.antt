@@ -7,3 +7,4 @@ pub mod Calls
 pub mod Lives
 pub mod Dealing
 pub mod Held
+pub mod Apart

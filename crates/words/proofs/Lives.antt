@@ -5,7 +5,7 @@ use Rattle.geometry.specs.declared.state.State.TheVariants.{Free, Open, Sealed, 
 use Rattle.words.specs.declared.claim.Life.{Life}
 use Rattle.geometry.specs.Life.{Stage, StepFrom, LifeStep}
 use Rattle.geometry.specs.Life as life
-use Rattle.words.specs.Steps.{stage_of, life_seen, life_opened, life_sealed, life_retired, life_freed}
+use Rattle.words.specs.Steps.{stage_of, life_seen, life_loaded, life_opened, life_sealed, life_retired, life_freed}
 
 step_from : (st : State) (completed : ℕ) (a b : Stage) → a.state ≡ st → StepFrom st completed a b → LifeStep completed a b
 step_from st completed a b is step = subst (λ k. StepFrom k completed a b) (sym is) step
@@ -20,6 +20,6 @@ pub retired-step : (old new : Life) (completed found : ℕ) → old.state ≡ Se
 retired-step old new completed found is e =
     step_from Sealed new.seen (stage_of old) (stage_of new) is (ap stage_of e ∙ ap (λ c. life.retired c (stage_of old)) (sym (ap (λ l. l.seen) e)))
 
-pub freed-step : (old new : Life) (completed : ℕ) → old.state ≡ Prefree → old.stamp < completed → new ≡ life_freed (life_seen old completed) → LifeStep new.seen (stage_of old) (stage_of new)
+pub freed-step : (old new : Life) (completed : ℕ) → old.state ≡ Prefree → old.stamp < completed → new ≡ life_freed (life_seen (life_loaded old 0) completed) → LifeStep new.seen (stage_of old) (stage_of new)
 freed-step old new completed is later e =
     step_from Prefree new.seen (stage_of old) (stage_of new) is (subst (λ c. old.stamp < c) (sym (ap (λ l. l.seen) e)) later, ap stage_of e)

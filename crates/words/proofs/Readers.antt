@@ -78,9 +78,9 @@ module _ (n slots id : ℕ) (c : List (ℕ × Unit {0})) (p : Pins) where
     own_pins_at : (z i : ℕ) → times_at z i p.held ≤ total (pins_at z i) s.views
     own_pins_at z i = let h : weigh (pins_at z i) (Reads p ∷ []) ≤ total (pins_at z i) s.views = sum-in (λ u. weigh (pins_at z i) u) s.views id (Reads p ∷ []) at_id in omega arith
 
-    reader_looked : (seen : ℕ) (load : ℕ × ℕ) → seen ≤ get_or s.words n 0 → Law n s.words (set s.views id (Reads (record { held = p.held; seen = seen; load = load }) ∷ []))
-    reader_looked seen load old =
-        let w : List Claim = Reads (record { held = p.held; seen = seen; load = load }) ∷ [] in
+    reader_looked : (seen : ℕ) (load : ℕ × ℕ) (loads : ℕ) → seen ≤ get_or s.words n 0 → Law n s.words (set s.views id (Reads (record { held = p.held; seen = seen; load = load; loads = loads }) ∷ []))
+    reader_looked seen load loads old =
+        let w : List Claim = Reads (record { held = p.held; seen = seen; load = load; loads = loads }) ∷ [] in
         let mv = moved n s.words s.views law id (Reads p ∷ []) w at_id in
         looked n s.words s.views law id (Reads p ∷ []) w at_id (λ z. refl) refl (λ z. refl) refl (λ z. refl) (λ z. refl) refl
         (λ z. let a = mv (pins z) in let b = mv (room z) in let e = law.within z in omega arith)
@@ -93,7 +93,7 @@ module _ (n slots id : ℕ) (c : List (ℕ × Unit {0})) (p : Pins) where
         Reads (pins_seen p r) ∷ [],
         keeps,
         tt,
-        subst (λ ws. Law n ws (set s.views id (Reads (pins_seen p r) ∷ []))) (sym (set-get_or s.words n 0)) (reader_looked s law at_id r p.load (omega arith)),
+        subst (λ ws. Law n ws (set s.views id (Reads (pins_seen p r) ∷ []))) (sym (set-get_or s.words n 0)) (reader_looked s law at_id r p.load (p.loads + 1) (omega arith)),
         (refl, refl, (sound_here s law at_id).1, law.bounded),
       )
 
@@ -108,7 +108,7 @@ module _ (n slots id : ℕ) (c : List (ℕ × Unit {0})) (p : Pins) where
         Reads (pins_loaded p z (x % 256)) ∷ [],
         keeps,
         tt,
-        subst (λ ws. Law n ws (set s.views id (Reads (pins_loaded p z (x % 256)) ∷ []))) (sym (set-get_or s.words z 0)) (reader_looked s law at_id p.seen (z, x % 256) (sound_here s law at_id).1),
+        subst (λ ws. Law n ws (set s.views id (Reads (pins_loaded p z (x % 256)) ∷ []))) (sym (set-get_or s.words z 0)) (reader_looked s law at_id p.seen (z, x % 256) (p.loads + 1) (sound_here s law at_id).1),
         (
           refl,
           refl,

@@ -15,7 +15,7 @@ use Rattle.words.specs.declared.claim.Claim.{Claim}
 use Rattle.words.specs.declared.claim.Claim.TheVariants.{Stands, Slip, Appends, Reads, Checkpoint}
 use Rattle.words.specs.Claims.{Every, total, at, code, is_free, is_open, room_of, stands, stands_at, rank_of, rank, frees, opens, room, slips, appends, pins, pins_at}
 use Rattle.words.specs.Rule.{IsDated, Sound, Law}
-use Rattle.words.specs.Steps.{life_seen, life_counted, life_sealed, life_retired, life_freed, life_opened, version_loaded, counted, sealed, retired, freed, opened, shown_open}
+use Rattle.words.specs.Steps.{life_seen, life_loaded, life_sealed, life_retired, life_freed, life_opened, version_loaded, counted, sealed, retired, freed, opened, shown_open}
 use Rattle.words.proofs.Counts.{at_here, at_other, at_zero, at_none, sum-none, sum-only, sum-in, every-get}
 use Rattle.words.proofs.Keeps.{moved, word_changed, few_pins, part_of_pins}
 
@@ -111,9 +111,9 @@ module _ (n : ℕ) (words : List ℕ) (views : List (List Claim)) (law : Law n w
 
 -- a standing goes on to another state in the same incarnation, and no slip and no appender comes or goes
 module _ (n : ℕ) (words : List ℕ) (views : List (List Claim)) (law : Law n words views) (id : ℕ) (l : Life) (at_id : get_elem? views id ≡ some (Stands l ∷ [])) where
-  module _ (st : State) (stamp seen held : ℕ) where
+  module _ (st : State) (stamp seen loads held : ℕ) where
     abbrev l' : Life
-    l' = record { segment = l.segment; state = st; incarnation = l.incarnation; stamp = stamp; seen = seen; pins = held }
+    l' = record { segment = l.segment; state = st; incarnation = l.incarnation; stamp = stamp; seen = seen; loads = loads; pins = held }
 
     life_changed : (x : ℕ) → x + rank_of l ≡ get_or words l.segment 0 + rank_of l' → is_free st ≡ is_free l.state → is_open st ≡ is_open l.state
         → total (pins l.segment) views ≤ room_of st held → seen ≤ get_or words n 0 → IsDated st (get_or words n 0) l.incarnation stamp
@@ -168,7 +168,7 @@ module _ (n slots id : ℕ) (c : List (ℕ × Unit {0})) (l : Life) where
         Stands (life_retired l (x % 256)) ∷ [],
         keeps,
         tt,
-        life_changed n s.words s.views law id l at_id Prefree l.seen l.seen (x % 256) ((x + 256) % 2 ^ 64) (omega arith) (sym (ap is_free is)) (sym (ap is_open is)) (omega arith) f.seen (old, f.seen),
+        life_changed n s.words s.views law id l at_id Prefree l.seen l.seen l.loads (x % 256) ((x + 256) % 2 ^ 64) (omega arith) (sym (ap is_free is)) (sym (ap is_open is)) (omega arith) f.seen (old, f.seen),
         (refl, refl, omega arith),
       )
 
@@ -180,10 +180,10 @@ module _ (n slots id : ℕ) (c : List (ℕ × Unit {0})) (l : Life) where
       let few : p ≤ 64 = f.few in
       let e : x ≡ 256 * code l.state + 65536 * l.incarnation + p = f.is in
       let m : x % 256 ≡ p = low_part x (code l.state) l.incarnation p e few in (
-        Stands (life_counted l (x % 256)) ∷ [],
+        Stands (life_loaded l (x % 256)) ∷ [],
         keeps,
         tt,
-        life_changed n s.words s.views law id l at_id l.state l.stamp l.seen (x % 256) x refl refl refl (roomy l.state busy p (x % 256) l.pins few (omega arith)) f.seen f.dated,
+        life_changed n s.words s.views law id l at_id l.state l.stamp l.seen (l.loads + 1) (x % 256) x refl refl refl (roomy l.state busy p (x % 256) l.pins few (omega arith)) f.seen f.dated,
         (refl, refl, omega arith),
       )
     where
@@ -201,7 +201,7 @@ module _ (n slots id : ℕ) (c : List (ℕ × Unit {0})) (l : Life) where
         keeps,
         tt,
         subst (λ ws. Law n ws (set s.views id (Stands (life_seen l r) ∷ []))) (set-get_or s.words l.segment 0 ∙ sym (set-get_or s.words n 0))
-            (life_changed n s.words s.views law id l at_id l.state l.stamp r l.pins (get_or s.words l.segment 0) refl refl refl f.within (omega arith) f.dated),
+            (life_changed n s.words s.views law id l at_id l.state l.stamp r (l.loads + 1) l.pins (get_or s.words l.segment 0) refl refl refl f.within (omega arith) f.dated),
         (refl, refl, f.seen, f.low, f.bound),
       )
 

@@ -168,10 +168,11 @@ version (Checkpoint v) = v
 -- the claims at the start
 
 abbrev pub fresh_life : ℕ → Life
-fresh_life s = record { segment = s; state = Free; incarnation = 0; stamp = 0; seen = 0; pins = 0 }
+fresh_life s = record { segment = s; state = Free; incarnation = 0; stamp = 0; seen = 0; loads = 0; pins = 0 }
 
+-- a new reader knows of the version 1, which no completed version is below
 abbrev pub fresh_pins : Pins
-fresh_pins = record { held = []; seen = 0; load = (0, 0) }
+fresh_pins = record { held = []; seen = 1; load = (0, 0); loads = 0 }
 
 -- the standing and the slip of each of `count` segments from s on
 abbrev pub fresh_segments : ℕ → ℕ → List Claim

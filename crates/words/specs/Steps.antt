@@ -8,17 +8,25 @@ use Rattle.words.specs.declared.claim.Claim.{Claim}
 use Rattle.words.specs.declared.claim.Claim.TheVariants.{Stands, Slip, Appends, Reads, Checkpoint}
 use Rattle.geometry.specs.Life.{Stage}
 use Rattle.geometry.specs.Life as life
+use Rattle.geometry.specs.Version.{next_version}
 use Rattle.words.specs.Claims.{times, times_at, life_of, pins_of, version_of}
 
 -- a seat's claims, and the slots that it holds, of which there are none
 abbrev pub SeatState : Type 0
 SeatState = Me (Unit {0}) (List Claim)
 
+-- A load reads a word and leaves what it found in the seat's view. These steps alone are loads, and each raises `loads` by
+-- 1: `version_loaded` and `counted` of a standing, `version_seen` and `pins_counted` of a reader's seat.
+
 -- what a standing knows after each of its steps
 
 abbrev pub life_seen : Life → ℕ → Life
-life_seen l r = record l { seen = r }
+life_seen l r = record l { seen = r; loads = l.loads + 1 }
 
+abbrev pub life_loaded : Life → ℕ → Life
+life_loaded l p = record l { pins = p; loads = l.loads + 1 }
+
+-- a step that is no load found so many pins
 abbrev pub life_counted : Life → ℕ → Life
 life_counted l p = record l { pins = p }
 
@@ -46,10 +54,10 @@ life_freed l = life_at l (life.freed (stage_of l)) 0
 -- what a reader's seat knows after each of its steps
 
 abbrev pub pins_seen : Pins → ℕ → Pins
-pins_seen p r = record p { seen = r }
+pins_seen p r = record p { seen = r; loads = p.loads + 1 }
 
 abbrev pub pins_loaded : Pins → ℕ → ℕ → Pins
-pins_loaded p s count = record p { load = (s, count) }
+pins_loaded p s count = record p { load = (s, count); loads = p.loads + 1 }
 
 abbrev pub pins_with : Pins → ℕ → ℕ → Pins
 pins_with p s i = record p { held = (s, i) ∷ p.held }
@@ -69,7 +77,7 @@ version_loaded st m r m' = (m'.1 ≡ m.1) × (m'.0 ≡ Stands (life_seen (life_o
     × ((life_of m.0).seen ≤ r) × ((life_of m.0).incarnation ≤ r) × (r < 4294967296)
 
 abbrev pub counted : Step (Unit {0}) → SeatState → ℕ → SeatState → Type 0
-counted st m r m' = (m'.1 ≡ m.1) × (m'.0 ≡ Stands (life_counted (life_of m.0) (r % 256)) ∷ []) × (r % 256 ≤ 64)
+counted st m r m' = (m'.1 ≡ m.1) × (m'.0 ≡ Stands (life_loaded (life_of m.0) (r % 256)) ∷ []) × (r % 256 ≤ 64)
 
 -- the appender shows that the segment was open
 abbrev pub sealed : Step (Unit {0}) → SeatState → ℕ → SeatState → Type 0
@@ -92,6 +100,10 @@ opened st m r m' = (m'.1 ≡ m.1)
 abbrev pub shown_open : Step (Unit {0}) → SeatState → ℕ → SeatState → Type 0
 shown_open st m r m' = (m'.1 ≡ m.1) × (m'.0 ≡ m.0) × ((life_of m.0).state ≡ Open)
 
+-- two appenders together: they are of two segments
+abbrev pub shown_apart : Step (Unit {0}) → SeatState → ℕ → SeatState → Type 0
+shown_apart st m r m' = (m'.1 ≡ m.1) × (m'.0 ≡ m.0) × ((a b : ℕ) → m.0 ≡ Appends a ∷ Appends b ∷ [] → a ≢ b)
+
 abbrev pub pinned : Step (Unit {0}) → SeatState → ℕ → SeatState → Type 0
 pinned st m r m' = (m'.1 ≡ m.1)
     × (m'.0 ≡ Stands (life_counted (life_of m.0) (r % 256))
@@ -111,7 +123,7 @@ version_seen st m r m' = (m'.1 ≡ m.1) × (m'.0 ≡ Reads (pins_seen (pins_of m
     × ((pins_of m.0).seen ≤ r) × (r < 4294967296)
 
 abbrev pub advanced : Step (Unit {0}) → SeatState → ℕ → SeatState → Type 0
-advanced st m r m' = (m'.1 ≡ m.1) × (m'.0 ≡ Checkpoint (version_of m.0 + 1) ∷ []) × (r ≡ version_of m.0)
+advanced st m r m' = (m'.1 ≡ m.1) × (m'.0 ≡ Checkpoint (next_version (version_of m.0)) ∷ []) × (r ≡ version_of m.0)
 
 -- a standing and a reader's seat together: each pin of the seat on this segment has its incarnation, and the segment
 -- is not free

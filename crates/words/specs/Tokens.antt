@@ -6,8 +6,9 @@ use Rattle.geometry.specs.declared.state.State.TheVariants.{Free, Open, Sealed}
 use Rattle.words.specs.declared.claim.Life.{Life}
 use Rattle.words.specs.declared.claim.Pins.{Pins}
 use Rattle.geometry.specs.Life.{LifeStep}
+use Rattle.geometry.specs.Version.{next_version}
 use Rattle.words.specs.Claims.{fresh_life, fresh_pins}
-use Rattle.words.specs.Steps.{stage_of, life_seen, life_counted, life_sealed, life_retired, life_freed, life_opened}
+use Rattle.words.specs.Steps.{stage_of, life_seen, life_loaded, life_sealed, life_retired, life_freed, life_opened}
 
 -- the words of one volume
 pub record Shelf : Type 0 where
@@ -47,6 +48,10 @@ IsPinnable s = (s ≡ Open) ⊎ (s ≡ Sealed)
 abbrev pub HasStepped : Post → Post → Type 0
 HasStepped old new = LifeStep new.life.seen (stage_of old.life) (stage_of new.life)
 
+-- the next version is complete
+abbrev pub HasAdvanced : Keeper → Keeper → Type 0
+HasAdvanced old new = (new.table ≡ old.table) × (new.version ≡ next_version old.version)
+
 -- What each move does to a standing. `found` is how many pins the move's own step found.
 
 abbrev pub IsOpened : Post → OpenSegment → Post → Type 0
@@ -57,22 +62,22 @@ abbrev pub IsSealed : Post → Post → Type 0
 IsSealed old new = (found : ℕ) × (found ≤ 64) × (old.life.state ≡ Open) × (new.table ≡ old.table)
     × (new.life ≡ life_sealed old.life found) × HasStepped old new
 
--- the stamp is the completed version, which the move loaded
+-- the stamp is the completed version, which the move's one load showed
 abbrev pub IsRetired : Post → Post → Type 0
 IsRetired old new = (completed found : ℕ) × (found ≤ 64) × (old.life.seen ≤ completed)
     × (new.table ≡ old.table) × (new.life ≡ life_retired (life_seen old.life completed) found)
     × HasStepped old new
 
--- the move's own loads showed no pin and a version later than the stamp
+-- the move's own two loads showed no pin and a version later than the stamp
 abbrev pub IsFreed : Post → FreeSegment → Post → Type 0
 IsFreed old slip new = (completed : ℕ) × (old.life.stamp < completed) × (slip.table ≡ old.table)
     × (slip.segment ≡ old.life.segment)
-    × (new.table ≡ old.table) × (new.life ≡ life_freed (life_seen old.life completed)) × HasStepped old new
+    × (new.table ≡ old.table) × (new.life ≡ life_freed (life_seen (life_loaded old.life 0) completed)) × HasStepped old new
 
--- the move's own loads showed a pin, or a version not later than the stamp
+-- the move's own two loads showed a pin, or a version not later than the stamp
 abbrev pub IsKept : Post → Post → Type 0
 IsKept old new = (completed found : ℕ) × (found ≤ 64) × ((0 < found) ⊎ (completed ≤ old.life.stamp))
-    × (new.table ≡ old.table) × (new.life ≡ life_seen (life_counted old.life found) completed)
+    × (new.table ≡ old.table) × (new.life ≡ life_seen (life_loaded old.life found) completed)
 
 -- what `new` makes
 

@@ -12,6 +12,8 @@ pub struct Life {
     pub stamp: u64,
     /// The version that the standing loaded last.
     pub seen: u64,
+    /// How often it has loaded the completed version or its segment's pins.
+    pub loads: u64,
     /// The pins that the standing's last step on the segment's word found.
     pub pins: u64,
 }
@@ -20,10 +22,12 @@ pub struct Life {
 pub struct Pins {
     /// The pins that it holds, each a segment and its incarnation.
     pub held: LinkedList<(u64, u64)>,
-    /// The version that was loaded last.
+    /// The version that was loaded last, and 1, the first of all versions, while none was.
     pub seen: u64,
     /// The segment whose pins were loaded last, and how many there were.
     pub load: (u64, u64),
+    /// How often the seat has loaded the completed version or a segment's word.
+    pub loads: u64,
 }
 
 /// One claim of a seat.

@@ -111,7 +111,8 @@ fn deal_seats(
 
 impl Words {
     /// The words of so many segments, with all tokens. Each segment is free and was never open, so its incarnation is 0,
-    /// and `version` is complete. It fails only where memory is out, and then nothing is left.
+    /// and `version` is complete. A reader's seat has loaded nothing, and knows of version 1. It fails only where memory is
+    /// out, and then nothing is left.
     pub fn new(alloc: Global, segments: u32, seats: u32, version: u32) -> Result<Dealt, Error>
         requires seats { seats ≤ 64 }
         requires version { 0 < version }

@@ -88,6 +88,15 @@ impl Play<(), View> for ShowsOpen {
     ghost then = { shown_open };
 }
 
+/// Two open slips are looked at together.
+pub struct ShowsApart;
+
+impl Play<(), View> for ShowsApart {
+    ghost use Rattle.words.specs.Steps.{shown_apart};
+
+    ghost then = { shown_apart };
+}
+
 /// A segment is pinned.
 pub struct Pinned;
 

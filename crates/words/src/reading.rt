@@ -1,5 +1,5 @@
 //! The steps of a reader's seat.
-ghost use Rattle.std.specs.Prelude.{◌≡◌, ◌≢◌, ℕ, ◌<◌, ◌≤◌};
+ghost use Rattle.std.specs.Prelude.{◌≡◌, ◌≢◌, ℕ, ◌+◌, ◌<◌, ◌≤◌};
 ghost use Rattle.words.specs.Tokens.{IsPinnable};
 ghost use Rattle.words.specs.Claims.{times, times_at};
 ghost use Rattle.words.specs.Steps.{life_counted, pins_seen, pins_loaded, pins_with, pins_without};
@@ -44,7 +44,7 @@ impl Words {
             .fetch_sub::<Unpinned>(&mut seat.seat, segment as usize, 1);
     }
 
-    /// How many seats pin a segment.
+    /// How many seats pin a segment, as its word shows at this call.
     pub fn pins(&self, seat: &mut Seat, segment: u32) -> u32
         requires table { seat.old.table ≡ self.now.table }
         requires within { segment < self.now.segments }
@@ -60,7 +60,7 @@ impl Words {
         (counted % STATE) as u32
     }
 
-    /// The completed version, which is never less than the seat saw before.
+    /// The completed version, which this call loads. It is never less than the seat saw before.
     pub fn seen(&self, seat: &mut Seat) -> u32
         requires { seat.old.table ≡ self.now.table }
         ensures load { (seat.new.table ≡ seat.old.table)
@@ -71,7 +71,7 @@ impl Words {
         self.table.shared.load::<SeesVersion>(&mut seat.seat, word) as u32
     }
 
-    /// The incarnation of a segment that the seat pins: it is the one that the pin was given.
+    /// The incarnation of a segment that the seat pins, which this call loads: it is the one that the pin was given.
     pub fn pinned_incarnation(&self, seat: &mut Seat, segment: u32) -> u64
         requires table { seat.old.table ≡ self.now.table }
         requires within { segment < self.now.segments }
@@ -80,6 +80,7 @@ impl Words {
         ensures seat { (seat.new.table ≡ seat.old.table)
             × (seat.new.pins.held ≡ seat.old.pins.held)
             × (seat.new.pins.seen ≡ seat.old.pins.seen) }
+        ensures load { seat.new.pins.loads ≡ seat.old.pins.loads + 1 }
     {
         let found = self
             .table

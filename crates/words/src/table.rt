@@ -3,13 +3,13 @@
 //! Bits 0 to 7 of a segment's word are its pins, bits 8 and 9 its state (0 free, 1 open, 2 sealed, 3 prefree), bits 16 to
 //! 47 its incarnation, and the others are 0.
 ghost use Rattle.std.specs.Prelude.{◌≡◌, ◌≢◌, ◌+◌, ◌^◌, ◌<◌, ◌≤◌, MatchOption};
-ghost use Rattle.words.specs.Tokens.{IsOpened, IsSealed, IsRetired, IsFreed, IsKept};
-ghost use Rattle.words.specs.Steps.{life_seen, life_counted};
+ghost use Rattle.words.specs.Tokens.{IsOpened, IsSealed, IsRetired, IsFreed, IsKept, HasAdvanced};
+ghost use Rattle.words.specs.Steps.{life_seen, life_loaded};
 ghost use Rattle.geometry.specs.declared.state.State.TheVariants.{Free, Open, Sealed, Prefree};
 
 use crate::plays::{
-    Advances, Counts, Frees, LoadsVersion, Opens, Retires, Seals, Second, ShowsOpen, Together,
-    Whole, WordTable,
+    Advances, Counts, Frees, LoadsVersion, Opens, Retires, Seals, Second, ShowsApart, ShowsOpen,
+    Together, Whole, WordTable,
 };
 use crate::tokens::{CheckpointSeat, FreeSlip, OpenSlip, Standing};
 use std::marker::Model;
@@ -61,12 +61,22 @@ impl Words {
         requires table { standing.old.table ≡ self.now.table }
         requires busy { standing.old.life.state ≢ Free }
         ensures table { standing.new.table ≡ standing.old.table }
-        ensures life { standing.new.life ≡ life_counted standing.old.life result }
+        ensures life { standing.new.life ≡ life_loaded standing.old.life result }
         ensures few { result ≤ 64 }
     {
         let word = standing.segment as usize;
         let found = self.table.shared.load::<Counts>(&mut standing.seat, word);
         (found % STATE) as u32
+    }
+
+    /// The segment of a free slip, which is one of theirs.
+    pub fn segment_of(&self, slip: &FreeSlip) -> u32
+        requires { slip.now.table ≡ self.now.table }
+        ensures number { result ≡ slip.now.segment }
+        ensures within { result < self.now.segments }
+    {
+        let _ = &self.table;
+        slip.segment
     }
 
     /// Opens a segment, in its next incarnation. Its slip shows that it is free, and is spent for the one open slip. So
@@ -103,6 +113,23 @@ impl Words {
         shared.join_seat::<Together>(&mut standing.seat, appender);
         shared.load::<ShowsOpen>(&mut standing.seat, word);
         slip.seat = shared.split_seat::<Second>(&mut standing.seat);
+    }
+
+    /// Shows that two open slips are of two segments. It changes nothing, and loads the version word.
+    #[tactic(auto, using(crate::proofs::Seats::cuts_and_joins))]
+    pub fn differ(&self, one: &mut OpenSlip, other: &mut OpenSlip)
+        requires tables { (one.old.table ≡ self.now.table) × (other.old.table ≡ self.now.table) }
+        requires within { one.old.segment < self.now.segments }
+        ensures one { one.new ≡ one.old }
+        ensures other { other.new ≡ other.old }
+        ensures apart { one.old.segment ≢ other.old.segment }
+    {
+        let word = self.segments as usize;
+        let shared = &self.table.shared;
+        let second = shared.split_seat::<Whole>(&mut other.seat);
+        shared.join_seat::<Together>(&mut one.seat, second);
+        shared.load::<ShowsApart>(&mut one.seat, word);
+        other.seat = shared.split_seat::<Second>(&mut one.seat);
     }
 
     /// Seals a segment. Its open slip shows that it is open, and is spent. So it cannot be refused.
@@ -163,7 +190,7 @@ impl Words {
     pub fn advance(&self, seat: &mut CheckpointSeat)
         requires table { seat.old.table ≡ self.now.table }
         requires room { seat.old.version + 1 < 2 ^ 32 }
-        ensures { (seat.new.table ≡ seat.old.table) × (seat.new.version ≡ seat.old.version + 1) }
+        ensures { HasAdvanced seat.old seat.new }
     {
         let word = self.segments as usize;
         self.table

@@ -39,12 +39,13 @@ impl Model for FreeSlip {
 
     ghost Value = { FreeSegment };
 
-    ghost use Rattle.std.specs.Prelude.{◌≡◌, [], ◌∷◌};
+    ghost use Rattle.std.specs.Prelude.{◌≡◌, ◌+◌, ◌<◌, [], ◌∷◌};
     ghost use Rattle.words.specs.declared.claim.Claim.TheVariants.{Slip};
 
     ghost view = { λ s. record { table = s.seat.table_id; segment = s.segment } };
 
-    ghost invariant = { λ s. (s.seat.me.0 ≡ Slip s.segment ∷ []) × (s.seat.me.1 ≡ []) };
+    ghost invariant = { λ s. (s.seat.me.0 ≡ Slip s.segment ∷ []) × (s.seat.me.1 ≡ [])
+        × (s.segment + 1 < s.seat.table_id.words) };
 }
 
 /// A free segment's slip as it lies in a queue, which may be dropped with the queue. Then nothing can open the segment.
@@ -59,12 +60,13 @@ impl Model for StoredSlip {
 
     ghost Value = { FreeSegment };
 
-    ghost use Rattle.std.specs.Prelude.{◌≡◌, [], ◌∷◌};
+    ghost use Rattle.std.specs.Prelude.{◌≡◌, ◌+◌, ◌<◌, [], ◌∷◌};
     ghost use Rattle.words.specs.declared.claim.Claim.TheVariants.{Slip};
 
     ghost view = { λ s. record { table = s.seat.table_id; segment = s.segment } };
 
-    ghost invariant = { λ s. (s.seat.me.0 ≡ Slip s.segment ∷ []) × (s.seat.me.1 ≡ []) };
+    ghost invariant = { λ s. (s.seat.me.0 ≡ Slip s.segment ∷ []) × (s.seat.me.1 ≡ [])
+        × (s.segment + 1 < s.seat.table_id.words) };
 }
 
 /// The one right to append to its segment and to seal it, which is open. It must be spent.

@@ -1,6 +1,6 @@
 //! A ticket comes to the entries.
-ghost use Rattle.std.specs.Prelude.{◌≡◌, ◌*◌, ◌-◌, ◌^◌, ◌<◌, ◌/◌, ◌%◌, Some, length, slice_set};
-ghost use Rattle.tree.specs.Tree.{find_in, missing_in, ShapedIn, SetsAt, entry_at};
+ghost use Rattle.std.specs.Prelude.{◌≡◌, ℕ, Bool, ◌+◌, ◌*◌, ◌-◌, ◌^◌, ◌<◌, ◌/◌, ◌%◌, Some, length, slice_set};
+ghost use Rattle.tree.specs.Tree.{find_in, missing_in, ShapedIn, SetsAt, Same, UsefulIn, SparesIndex, entry_at};
 ghost use Rattle.tree.specs.Change.{ChangesEntries, ticket_weight};
 
 use super::Entries;
@@ -22,6 +22,8 @@ impl<C: Subtree> Entries<C> {
         requires path { missing_in (C.missing entries) (C.span_of entries) self.old.slots.items index ≡ 0 }
         ensures old { result ≡ find_in (C.find entries) (C.span_of entries) self.old.slots.items index }
         ensures sets { SetsAt (find_in (C.find entries) (C.span_of entries) self.old.slots.items) (find_in (C.find entries) (C.span_of entries) self.new.slots.items) index (Some ticket) }
+        ensures namer { Same (find_in (C.namer entries) (C.span_of entries) self.old.slots.items) (find_in (C.namer entries) (C.span_of entries) self.new.slots.items) }
+        ensures useful { (asked : ℕ → ℕ → Bool) (first : ℕ) → SparesIndex asked (first + index) → UsefulIn (C.useful entries) (C.span_of entries) asked first self.old.slots.items → UsefulIn (C.useful entries) (C.span_of entries) asked first self.new.slots.items }
         ensures shaped { ShapedIn (C.shaped entries) count self.new.slots.items }
         ensures change { ChangesEntries C.number C.weight self.old.slots.items self.new.slots.items self.old.dirty self.new.dirty (λ w. ticket_weight w result) (λ w. w.ticket ticket) }
     {
@@ -45,6 +47,8 @@ impl<C: Subtree> Entries<C> {
         ensures old { result ≡ C.find entries (entry_at self.old.slots.items at) index }
         ensures entry { self.new.slots.items ≡ slice_set self.old.slots.items at (entry_at self.new.slots.items at) }
         ensures sets { SetsAt (C.find entries (entry_at self.old.slots.items at)) (C.find entries (entry_at self.new.slots.items at)) index (Some ticket) }
+        ensures namer { Same (C.namer entries (entry_at self.old.slots.items at)) (C.namer entries (entry_at self.new.slots.items at)) }
+        ensures useful { (asked : ℕ → ℕ → Bool) (first : ℕ) → SparesIndex asked (first + index) → C.useful entries asked first (entry_at self.old.slots.items at) → C.useful entries asked first (entry_at self.new.slots.items at) }
         ensures shaped { C.shaped entries (entry_at self.new.slots.items at) }
         ensures change { ChangesEntries C.number C.weight self.old.slots.items self.new.slots.items self.old.dirty self.new.dirty (λ w. ticket_weight w result) (λ w. w.ticket ticket) }
     {

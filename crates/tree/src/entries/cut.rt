@@ -1,6 +1,6 @@
 //! Tickets and nodes go from the entries.
-ghost use Rattle.std.specs.Prelude.{◌≡◌, ◌≢◌, ℕ, ◌*◌, ◌-◌, ◌^◌, ◌<◌, ◌/◌, ◌%◌, Option, Some, None, is_none, length, slice_set, MatchOption};
-ghost use Rattle.tree.specs.Tree.{find_in, ShapedIn, EmptyFrom, HandsOut, AreNone, entry_at};
+ghost use Rattle.std.specs.Prelude.{◌≡◌, ◌≢◌, ℕ, Bool, ◌+◌, ◌*◌, ◌-◌, ◌^◌, ◌<◌, ◌/◌, ◌%◌, Option, Some, None, is_none, length, slice_set, MatchOption};
+ghost use Rattle.tree.specs.Tree.{find_in, ShapedIn, KeepsNamers, EmptyFrom, HandsOut, UsefulIn, SparesPast, AsksPast, AreNone, entry_at};
 ghost use Rattle.tree.specs.Change.{Weighing, ChangesEntries, WeighsAs, nothing};
 ghost use Rattle.tree.specs.Pruned.{MatchPruned};
 
@@ -16,6 +16,11 @@ impl<C: Subtree> Entries<C> {
         requires fits_all { count * C.span_of entries < 2 ^ 64 }
         requires shaped { ShapedIn (C.shaped entries) count self.old.slots.items }
         ensures shaped { ShapedIn (C.shaped entries) count self.new.slots.items }
+        ensures namer { KeepsNamers (find_in (C.find entries) (C.span_of entries) self.new.slots.items) (find_in (C.namer entries) (C.span_of entries) self.old.slots.items) (find_in (C.namer entries) (C.span_of entries) self.new.slots.items) }
+        ensures useful { (asked : ℕ → ℕ → Bool) (first : ℕ) → SparesPast asked (first + from) → UsefulIn (C.useful entries) (C.span_of entries) asked first self.old.slots.items → UsefulIn (C.useful entries) (C.span_of entries) asked first self.new.slots.items }
+        ensures past { MatchPruned result (λ _. from < count * C.span_of entries)
+            (((asked : ℕ → ℕ → Bool) (first : ℕ) → AsksPast asked first (first + from) → UsefulIn (C.useful entries) (C.span_of entries) asked first self.new.slots.items) × (AreNone self.new.slots.items → ⊥))
+            ((asked : ℕ → ℕ → Bool) (first : ℕ) → AsksPast asked first (first + from) → UsefulIn (C.useful entries) (C.span_of entries) asked first self.new.slots.items) }
         ensures cases { MatchPruned result
             (λ spare. HandsOut (find_in (C.find entries) (C.span_of entries) self.old.slots.items) (find_in (C.find entries) (C.span_of entries) self.new.slots.items) from spare)
             ((self.new ≡ self.old) × EmptyFrom (find_in (C.find entries) (C.span_of entries) self.old.slots.items) from × (from ≢ 0))
@@ -47,6 +52,9 @@ impl<C: Subtree> Entries<C> {
         requires fits_all { count * C.span_of entries < 2 ^ 64 }
         requires shaped { ShapedIn (C.shaped entries) count self.old.slots.items }
         ensures shaped { ShapedIn (C.shaped entries) count self.new.slots.items }
+        ensures namer { KeepsNamers (find_in (C.find entries) (C.span_of entries) self.new.slots.items) (find_in (C.namer entries) (C.span_of entries) self.old.slots.items) (find_in (C.namer entries) (C.span_of entries) self.new.slots.items) }
+        ensures useful { (asked : ℕ → ℕ → Bool) (first : ℕ) → SparesPast asked (first + from) → UsefulIn (C.useful entries) (C.span_of entries) asked first self.old.slots.items → UsefulIn (C.useful entries) (C.span_of entries) asked first self.new.slots.items }
+        ensures past { MatchOption result ((asked : ℕ → ℕ → Bool) (first : ℕ) → AsksPast asked first (first + from) → UsefulIn (C.useful entries) (C.span_of entries) asked first self.new.slots.items) (λ _. Unit {0}) }
         ensures none { MatchOption result
             ((self.new ≡ self.old) × EmptyFrom (find_in (C.find entries) (C.span_of entries) self.old.slots.items) from × (from ≡ 0 → AreNone self.old.slots.items))
             (λ _. Unit {0}) }
@@ -69,6 +77,9 @@ impl<C: Subtree> Entries<C> {
         requires shaped { C.shaped entries (entry_at self.old.slots.items at) }
         ensures entry { self.new.slots.items ≡ slice_set self.old.slots.items at (entry_at self.new.slots.items at) }
         ensures shaped { C.shaped entries (entry_at self.new.slots.items at) }
+        ensures namer { KeepsNamers (C.find entries (entry_at self.new.slots.items at)) (C.namer entries (entry_at self.old.slots.items at)) (C.namer entries (entry_at self.new.slots.items at)) }
+        ensures useful { (asked : ℕ → ℕ → Bool) (first : ℕ) → SparesPast asked (first + from) → C.useful entries asked first (entry_at self.old.slots.items at) → C.useful entries asked first (entry_at self.new.slots.items at) }
+        ensures past { MatchOption result ((asked : ℕ → ℕ → Bool) (first : ℕ) → AsksPast asked first (first + from) → C.useful entries asked first (entry_at self.new.slots.items at)) (λ _. Unit {0}) }
         ensures none { MatchOption result
             ((self.new ≡ self.old) × EmptyFrom (C.find entries (entry_at self.old.slots.items at)) from × (from ≡ 0 → entry_at self.old.slots.items at ≡ None))
             (λ _. Unit {0}) }

@@ -1,7 +1,7 @@
 //! A ticket below the entries is swapped for another.
-ghost use Rattle.std.specs.Prelude.{◌≡◌, ◌≢◌, ◌+◌, ◌-◌, ◌^◌, ◌<◌, ◌/◌, Some, None, length, map, slice_set, slice_index_or, OnOk, OnErr, IfErr, IfOk, ◌||◌, true};
+ghost use Rattle.std.specs.Prelude.{◌≡◌, ◌≢◌, ℕ, Bool, ◌+◌, ◌*◌, ◌-◌, ◌^◌, ◌<◌, ◌/◌, Some, None, length, map, slice_set, slice_index_or, OnOk, OnErr, IfErr, IfOk, ◌||◌, true};
 ghost use Rattle.sums.specs.Weights.{weigh};
-ghost use Rattle.tree.specs.Tree.{find_in, ShapedIn, SwapsOne, entry_at};
+ghost use Rattle.tree.specs.Tree.{find_in, ShapedIn, Same, SwapsOne, UsefulIn, AreNone, entry_at};
 ghost use Rattle.tree.specs.Change.{ChangesEntries, nothing, each_naming};
 
 use super::Entries;
@@ -26,6 +26,9 @@ impl<C: Subtree> Entries<C> {
         ensures named { OnOk result ((C.is_leaf ≡ true) × (slice_index_or (map C.number self.old.slots.items) at 0 ≡ from)) }
         ensures address { IfOk result (λ before. C.address_of before ≡ from) }
         ensures swaps { IfOk result (λ before. SwapsOne (find_in (C.find entries) (C.span_of entries) self.old.slots.items) (find_in (C.find entries) (C.span_of entries) self.new.slots.items) before ticket) }
+        ensures namer { Same (find_in (C.namer entries) (C.span_of entries) self.old.slots.items) (find_in (C.namer entries) (C.span_of entries) self.new.slots.items) }
+        ensures useful { (asked : ℕ → ℕ → Bool) (first : ℕ) → UsefulIn (C.useful entries) (C.span_of entries) asked first self.old.slots.items → UsefulIn (C.useful entries) (C.span_of entries) asked first self.new.slots.items }
+        ensures some { AreNone self.new.slots.items → AreNone self.old.slots.items }
         ensures change { IfOk result (λ before. ChangesEntries C.number C.weight self.old.slots.items self.new.slots.items self.old.dirty self.new.dirty (λ w. w.ticket before) (λ w. w.ticket ticket)) }
         ensures elsewhere { OnErr result (C.is_leaf ≡ true → slice_index_or (map C.number self.old.slots.items) at 0 ≢ from) }
         ensures refused { OnErr result (self.new ≡ self.old) }
@@ -61,6 +64,9 @@ impl<C: Subtree> Entries<C> {
         ensures named { OnOk result (0 < weigh (C.weight (each_naming nid at from)) self.old.slots.items) }
         ensures address { IfOk result (λ before. C.address_of before ≡ from) }
         ensures swaps { IfOk result (λ before. SwapsOne (find_in (C.find entries) (C.span_of entries) self.old.slots.items) (find_in (C.find entries) (C.span_of entries) self.new.slots.items) before ticket) }
+        ensures namer { Same (find_in (C.namer entries) (C.span_of entries) self.old.slots.items) (find_in (C.namer entries) (C.span_of entries) self.new.slots.items) }
+        ensures useful { (asked : ℕ → ℕ → Bool) (first : ℕ) → UsefulIn (C.useful entries) (C.span_of entries) asked first self.old.slots.items → UsefulIn (C.useful entries) (C.span_of entries) asked first self.new.slots.items }
+        ensures some { AreNone self.new.slots.items → AreNone self.old.slots.items }
         ensures change { IfOk result (λ before. ChangesEntries C.number C.weight self.old.slots.items self.new.slots.items self.old.dirty self.new.dirty (λ w. w.ticket before) (λ w. w.ticket ticket)) }
         ensures elsewhere { OnErr result (weigh (C.weight (each_naming nid at from)) self.old.slots.items ≡ 0) }
         ensures refused { OnErr result (self.new ≡ self.old) }
@@ -97,6 +103,8 @@ impl<C: Subtree> Entries<C> {
         ensures named { OnOk result (0 < C.weight (each_naming nid at from) (entry_at self.old.slots.items place)) }
         ensures address { IfOk result (λ before. C.address_of before ≡ from) }
         ensures swaps { IfOk result (λ before. SwapsOne (C.find entries (entry_at self.old.slots.items place)) (C.find entries (entry_at self.new.slots.items place)) before ticket) }
+        ensures namer { Same (C.namer entries (entry_at self.old.slots.items place)) (C.namer entries (entry_at self.new.slots.items place)) }
+        ensures useful { (asked : ℕ → ℕ → Bool) (first : ℕ) → C.useful entries asked first (entry_at self.old.slots.items place) → C.useful entries asked first (entry_at self.new.slots.items place) }
         ensures change { IfOk result (λ before. ChangesEntries C.number C.weight self.old.slots.items self.new.slots.items self.old.dirty self.new.dirty (λ w. w.ticket before) (λ w. w.ticket ticket)) }
         ensures elsewhere { OnErr result (C.weight (each_naming nid at from) (entry_at self.old.slots.items place) ≡ 0) }
         ensures refused { OnErr result (self.new ≡ self.old) }

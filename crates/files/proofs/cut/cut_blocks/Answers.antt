@@ -1,8 +1,10 @@
-use Rattle.std.proofs.Common.{refl, ap, sym, ◌∙◌}
+use Rattle.std.proofs.Common.{rules, refl, ap, sym, ◌∙◌}
 use Rattle.geometry.specs.declared.geometry.Geometry.{Geometry}
 use Rattle.geometry.specs.Shape.{block_bytes}
 use Rattle.nodes.specs.File.{file_of}
+use Rattle.nodes.specs.Useful.{ends_by}
 use Rattle.nodes.proofs.Files.{shows_file_of}
+use Rattle.nodes.proofs.Useful.{useful_some, useful_cut}
 use Rattle.files.proofs.Serving.{serves_both, whole_out, out_there, cut_out, serves_out, node_there, cut_node, serves_node, serves_cut, cut_file}
 use Rattle.files.proofs.cut.cut_blocks.Goals as goal
 
@@ -39,10 +41,11 @@ spares-preserved-in-Ticket g c =
     let n = c.args.length in
     let hands = rw c.in-Ticket.is at cut.out in
     let weighs = rw c.in-Ticket.is at done.1 in
-    let step = serves_out old new x y n was.serves.stored cut.file cut.shape cut.kind cut.length gave.geometry c.in-Ticket.ticket hands done.0 weighs done.2 gave.hand gave.numbers in
+    let step = serves_out old new x y n was.serves.stored cut.file cut.shape cut.kind cut.length gave.geometry c.in-Ticket.ticket hands done.0 weighs done.2 cut.namer gave.hand gave.numbers in
     record {
       serves = serves_both c.args.file.now old new c.args.area.now x y was.serves step;
       file = cut_out old new x y n was.serves.stored cut.file cut.shape cut.kind cut.length gave.geometry c.in-Ticket.ticket hands done.0 weighs done.2 ∙ was.file;
+      useful = λ all. cut.useful (was.useful all);
     }
 
 pub give-requires : goal.give-requires
@@ -70,10 +73,11 @@ spares-preserved g c =
     let n = c.args.length in
     let same = rw c.in-Token.is at cut.out in
     let weighs = rw c.in-Token.is at done.1 in
-    let step = serves_node old new x y n was.serves.stored cut.file cut.shape cut.kind cut.length gave.geometry c.in-Token.token same done.0 weighs done.2 gave.hand gave.free_still in
+    let step = serves_node old new x y n was.serves.stored cut.file cut.shape cut.kind cut.length gave.geometry c.in-Token.token same done.0 weighs done.2 cut.namer gave.hand gave.free_still in
     record {
       serves = serves_both c.args.file.now old new c.args.area.now x y was.serves step;
       file = cut_node old new x y n was.serves.stored cut.file cut.shape cut.kind cut.length gave.geometry c.in-Token.token same done.0 weighs done.2 ∙ was.file;
+      useful = λ all. cut.useful (was.useful all);
     }
 
 pub returns-clause-serves : goal.returns-clause-serves
@@ -84,7 +88,7 @@ returns-clause-serves g c =
     let new = c.cut.new.self in
     let x = c.spares.area in
     serves_both c.args.file.now old new c.args.area.now x x was
-    (serves_cut old new x c.args.length was.stored cut.file cut.shape cut.length cut.none.0 cut.kept.0 cut.kept.2)
+    (serves_cut old new x c.args.length was.stored cut.file cut.shape cut.length cut.none.0 cut.kept.0 cut.kept.2 cut.namer)
 
 pub returns-clause-file : goal.returns-clause-file
 returns-clause-file g c =
@@ -94,3 +98,15 @@ returns-clause-file g c =
     let new = c.cut.new.self in
     cut_file old new c.spares.area c.args.length was.serves.stored cut.file cut.shape cut.length cut.none.0 cut.kept.0 cut.kept.2
     (cut.cut (file_of old) (shows_file_of old was.serves.stored.file)) ∙ was.file
+
+pub spares-init : goal.spares-init
+spares-init g c = record {
+  serves = search rules;
+  file = refl;
+  useful = useful_some c.args.file.now c.requires.stored.file (ends_by c.args.length);
+}
+
+pub returns-clause-useful : goal.returns-clause-useful
+returns-clause-useful g c = λ all.
+    (let cut = c.in_default.ensures in
+    useful_cut c.cut.new.self cut.file c.args.length (cut.useful (c.spares.invariant.useful all)) cut.past)

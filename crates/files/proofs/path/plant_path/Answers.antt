@@ -1,5 +1,8 @@
-use Rattle.std.proofs.Common.{ap, sym, subst, ◌∙◌}
+use Rattle.std.proofs.Common.{ap, sym, subst, ◌∙◌, arith, Some}
 use Rattle.nodes.specs.File.{file_of}
+use Rattle.nodes.specs.Owners.{namer_at}
+use Rattle.nodes.specs.Useful.{IsUseful, is_off}
+use Rattle.nodes.proofs.Useful.{off_spares}
 use Rattle.files.specs.Beside.{ServesBeside}
 use Rattle.files.proofs.Serving.{same_file}
 use Rattle.files.proofs.Beside.{beside_both, beside_planted, stored_planted, spare_planted}
@@ -18,11 +21,15 @@ ready-preserved g c =
     let t = c.plant.new.spares in
     record {
       serves = λ area. beside_both first old new had s t area area area (was.serves area)
-          (beside_planted old new s t area was.stored was.spare done.file done.shape done.kind done.length done.same done.empty one.0 one.2 one.3);
-      stored = stored_planted old new s t was.stored was.spare done.file done.shape done.kind done.length done.same one.0 one.2 one.3;
+          (beside_planted old new s t area was.stored was.spare done.file done.shape done.kind done.length done.same done.namer done.empty one.0 one.2 one.3);
+      stored = stored_planted old new s t was.stored was.spare done.file done.shape done.kind done.length done.same done.namer one.0 one.2 one.3;
       spare = spare_planted old new s t was.spare done.shape done.empty one.0 one.3;
       shape = done.shape ∙ was.shape;
       file = same_file old new was.stored done.file done.shape done.kind done.length done.same ∙ was.file;
+      names = λ j n at. done.namer j n (was.names j n at);
+      end = λ gone none. (let more = done.grown c.ready-test.true in done.end (omega arith) none ∙ ap (λ n. Some n) (was.rest (omega arith)).1);
+      rest = λ gone. (let more = done.grown c.ready-test.true in let before = was.rest (omega arith) in (before.0, done.rest gone ∙ before.1));
+      useful = λ off. done.useful (is_off c.args.index) (off_spares c.args.index) (was.useful off);
       ready = done.ready;
     }
 
@@ -36,3 +43,18 @@ pub returns-clause-file : goal.returns-clause-file
 returns-clause-file g c =
     let kept = c.plant.ensures.none c.ready-test.false in
     ap file_of kept.1 ∙ c.ready.invariant.file
+
+pub returns-clause-names : goal.returns-clause-names
+returns-clause-names g c =
+    let kept = c.plant.ensures.none c.ready-test.false in
+    λ j n at. ap (λ f. namer_at f j) kept.1 ∙ c.ready.invariant.names j n at
+
+pub returns-clause-end : goal.returns-clause-end
+returns-clause-end g c = λ gone.
+    (let kept = c.plant.ensures.none c.ready-test.false in
+    ap (λ f. namer_at f c.args.index) kept.1 ∙ c.ready.invariant.end gone kept.0)
+
+pub returns-clause-useful : goal.returns-clause-useful
+returns-clause-useful g c = λ off.
+    (let kept = c.plant.ensures.none c.ready-test.false in
+    subst (λ f. IsUseful (is_off c.args.index) f) (sym kept.1) (c.ready.invariant.useful off))

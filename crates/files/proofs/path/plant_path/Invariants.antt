@@ -1,6 +1,9 @@
-use Rattle.std.proofs.Common.{◌≡◌}
+use Rattle.std.proofs.Common.{◌≡◌, ◌<◌, Some}
 use Rattle.nodes.specs.File.{missing_to, file_of}
-use Rattle.nodes.specs.Lacking.{lacking_to}
+use Rattle.spares.specs.Spares.{KeepsNames}
+use Rattle.nodes.specs.Owners.{namer_at}
+use Rattle.nodes.specs.Lacking.{lacking_to, end_number}
+use Rattle.nodes.specs.Useful.{IsUseful, is_off}
 use Rattle.area.specs.Area.{Area}
 use Rattle.files.specs.Contents.{IsStored}
 use Rattle.files.specs.Beside.{IsSpareFor, ServesBeside}
@@ -13,6 +16,10 @@ invariant-ready g l = record {
   spare : IsSpareFor l.file l.spares;
   shape : l.file.shape ≡ l.initial.file.shape;
   file : file_of l.file ≡ file_of l.initial.file;
+  names : KeepsNames (namer_at l.initial.file) (namer_at l.file);
+  end : 0 < missing_to l.initial.file l.index → missing_to l.file l.index ≡ 0 → namer_at l.file l.index ≡ Some (end_number l.initial.spares);
+  rest : 0 < missing_to l.file l.index → (0 < missing_to l.initial.file l.index) × (end_number l.spares ≡ end_number l.initial.spares);
+  useful : IsUseful (is_off l.index) l.initial.file → IsUseful (is_off l.index) l.file;
   ready : lacking_to l.file l.index l.spares ≡ 0;
 }
 

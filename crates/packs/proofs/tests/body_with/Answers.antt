@@ -1,7 +1,7 @@
 use Rattle.std.proofs.Common.{◌≡◌, ℕ, ◌^◌, ◌<◌, List, [], ◌++◌, length, ◌∙◌, ap, arith, append_assoc, length-append}
 use Rattle.byteorder.specs.Endian.{little_bytes, little_number}
 use Rattle.byteorder.specs.Numbers.{little_number-reads_back}
-use Rattle.packs.specs.Pack.{version_of}
+use Rattle.image.specs.Slots.{version_of}
 use Rattle.packs.proofs.Footer.{footer_long}
 use Rattle.packs.proofs.tests.body_with.Goals as goal
 

@@ -36,9 +36,13 @@ invariant_of-push-in-loop-segment c =
     let test = c.loop-segment-test.true in
     let lt : k < n = omega arith in
     let is : c.loop-segment.seat.me.0 ≡ Checkpoint c.args.version ∷ Stands (fresh_life k) ∷ Slip k ∷ (fresh_segments (k + 1) (n - (k + 1)) ++ rest) =
-    c.loop-segment.invariant.3 ∙ ap (λ r. Checkpoint c.args.version ∷ (r ++ rest)) (segments_less k n lt) in (
+    c.loop-segment.invariant.3 ∙ ap (λ r. Checkpoint c.args.version ∷ (r ++ rest)) (segments_less k n lt) in
+    let table = c.split_seat-slip.ensures.3 ∙ (c.split_seat-own.ensures.0 ∙ (c.loop-segment.invariant.0 ∙ (c.requires.table ∙ sym (ap (λ w. w.table) c.words.view_is)))) in
+    let wide = ap (λ t. t.words) table in
+    let long = c.words.invariant.1 in (
       ap (λ m. m.0) c.split_seat-slip.ensures.4 ∙ ap second (ap (λ m. m.0) c.split_seat-own.ensures.2 ∙ ap without_second is),
       ap (λ m. m.1) c.split_seat-slip.ensures.4,
+      omega arith,
     )
 
 pub loop-segment-preserved : goal.loop-segment-preserved

@@ -1,12 +1,11 @@
 use Rattle.std.proofs.Common.{◌<◌, length, set, sym, ap, subst, ◌∙◌, arith}
 use Rattle.std.proofs.lemmas.List.{length-set}
 use Rattle.geometry.specs.declared.state.State.TheVariants.{Free}
-use Rattle.sums.specs.Weights.{weigh, SameItems}
+use Rattle.sums.specs.Weights.{SameItems}
 use Rattle.books.specs.Accounts.{HandView}
 use Rattle.sit.specs.Segment.{marks_of}
-use Rattle.sit.specs.Registered.{Registered}
 use Rattle.area.specs.Area.{Area, marks_in}
-use Rattle.area.proofs.AreaLemmas.{segment_was, changed-law, placed_is, failed_is, held_more, held_same, slip_stands, on_err, marks_more, marks_kept}
+use Rattle.area.proofs.AreaLemmas.{segment_was, changed-law, placed_is, spoiled_is, held_more, held_same, slip_stands}
 use Rattle.area.proofs.main_area.MainArea.append.Goals as goal
 
 pub invariant_of-self : goal.invariant_of-self
@@ -19,10 +18,10 @@ invariant_of-self g c =
     let done = c.in_err-ticket.ensures in
     let within : k < length a.segments.items = let w = c.in_ok-number.ensures.within in let e = ap (λ (x : Area). length x.segments) c.self.view_is in omega arith in
     let is = c.index_mut-segment.ensures.value in
-    let same = ap (λ (x : Registered). marks_of x.segment) done.err in
+    let same = ap marks_of done.spoiled.2 in
     let six = law.six in (
       changed-law _ law k new c.place.new.permit (set a.logs.items 4 c.place.new.slip) a.free.items within
-          (failed_is a.geometry a.books.book a.words.table k r new (segment_was _ law k r within is) c.place.ensures.book new.segment.failed (ap (λ (x : Registered). x.segment) done.err))
+          (spoiled_is a.geometry a.books.book a.words.table k r new (segment_was _ law k r within is) c.place.ensures.book done.spoiled.0 new.segment.failed done.spoiled.2)
           (ap (λ (h : HandView). h.book) done.err_hand ∙ law.book)
           (subst (λ (h : HandView). SameItems (marks_in (set a.segments.items k new)) h.tickets) (sym done.err_hand) (held_same _ law k r new within is same))
           (ap (λ (h : HandView). h.tokens) done.err_hand)

@@ -1,12 +1,11 @@
-use Rattle.std.proofs.Common.{◌≡◌, ◌<◌, ◌==◌, ℕ, Option, Some, None, if◌then◌else◌, ◌∷◌, length, sym, ap, subst, ◌∙◌, arith}
+use Rattle.std.proofs.Common.{◌≡◌, ◌<◌, ◌==◌, Some, None, if◌then◌else◌, ◌∷◌, sym, ap, subst, ◌∙◌, arith}
 use Rattle.books.specs.declared.claim.Entry.{Entry}
 use Rattle.books.specs.Accounts.{HandView}
-use Rattle.books.specs.Lists.{times, without}
+use Rattle.books.specs.Lists.{times}
 use Rattle.books.specs.Sameness.{same_entry}
 use Rattle.books.specs.Weights.{mark_of}
 use Rattle.books.proofs.Steps.{without_entry}
 use Rattle.sums.specs.Weights.{weigh}
-use Rattle.tickets.specs.Placed.{Placed}
 use Rattle.area.specs.Area.{Area}
 use Rattle.area.proofs.AreaLemmas.{token_bare, numbers-law}
 use Rattle.area.proofs.main_area.MainArea.give.Goals as goal

@@ -1,10 +1,9 @@
 use Rattle.std.proofs.Common.{◌≡◌, ◌∷◌, ◌<◌, ℕ, List, Some, None, [], length, get_or, set, refl, ap, subst, ◌∙◌, arith}
 use Rattle.std.proofs.lemmas.List.{length-set, get_or-set_same}
-use Rattle.sums.specs.Weights.{SameItems}
 use Rattle.sums.proofs.Indexing.{each_front, each_last, each_set}
 use Rattle.words.specs.Tokens.{FreeSegment, OpenSegment}
 use Rattle.sit.specs.Segment.{marks_of}
-use Rattle.area.specs.Area.{Area, marks_in, IsFreeOf, LogStands}
+use Rattle.area.specs.Area.{IsFreeOf, LogStands}
 use Rattle.area.proofs.AreaLemmas.{segment_was, changed-law, opened_is, held_same}
 use Rattle.area.proofs.main_area.MainArea.open_segment.Goals as goal
 

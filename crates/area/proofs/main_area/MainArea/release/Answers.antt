@@ -1,9 +1,8 @@
 use Rattle.std.proofs.Common.{◌<◌, length, sym, ap, subst, ◌∙◌, arith}
 use Rattle.geometry.specs.Mark.{same_mark}
-use Rattle.sums.specs.Weights.{weigh}
 use Rattle.books.specs.Accounts.{HandView}
 use Rattle.books.specs.Lists.{times}
-use Rattle.area.specs.Area.{Area, marks_in}
+use Rattle.area.specs.Area.{Area}
 use Rattle.area.proofs.AreaLemmas.{ticket_valid, stands_there, segment_was, changed-law, released_is, held_less}
 use Rattle.area.proofs.main_area.MainArea.release.Goals as goal
 
@@ -27,7 +26,7 @@ invariant_of-self g c =
     let is = c.index_mut-segment.ensures.value in
     let some = ticket_valid _ c.self.invariant.0 m (subst (λ (x : Area). 0 < times same_mark m x.hand.tickets) (sym c.self.view_is) c.requires.held) in (
       changed-law _ law k c.release.new.self c.release.new.permit a.logs.items a.free.items within
-          (released_is a.geometry a.books.book a.words.table k r c.release.new.self (segment_was _ law k r within is) c.release.ensures.book _ _ c.release.result c.release.ensures.segment)
+          (released_is a.geometry a.books.book a.words.table k r c.release.new.self (segment_was _ law k r within is) c.release.ensures.book _ _ _ c.release.result c.release.ensures.segment)
           (ap (λ (h : HandView). h.book) c.release.ensures.hand ∙ law.book)
           (held_less _ law k r c.release.new.self m c.release.new.permit within is c.release.ensures.marks some c.release.ensures.hand) (ap (λ (h : HandView). h.tokens) c.release.ensures.hand) law.six law.log_stands law.free_stands,
       c.self.invariant.1,

@@ -1,10 +1,9 @@
 use Rattle.std.proofs.Common.{◌≡◌, Some}
-use Rattle.books.specs.declared.claim.Claim.TheVariants.{File, Pass}
 use Rattle.books.specs.Accounts.{file_view, pass_view}
 use Rattle.books.proofs.books.Books.compare.Given as goal
 
-abbrev pub ghosts-exchange : goal.ghosts-exchange
-ghosts-exchange a =
+abbrev pub ghosts-tell : goal.ghosts-tell
+ghosts-tell a =
     let v = file_view a.one.now in
     let w = pass_view a.other.now in
-    record { one = File v.inode v.tickets v.tokens v.content; other = Pass w.inode w.content; told = v.content ≡ Some w.content }
+    record { told = v.content ≡ Some w.content }

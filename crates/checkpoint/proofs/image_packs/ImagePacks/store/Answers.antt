@@ -2,7 +2,8 @@ use Rattle.std.proofs.Common.{◌≡◌, ◌+◌, sym, ◌∙◌, ap, length, ar
 use Rattle.device.proofs.Moments.{started}
 use Rattle.image.specs.Pack.{pack_body}
 use Rattle.image.specs.View.{image_view}
-use Rattle.packs.specs.Pack.{version_of, IsSettled, Between}
+use Rattle.image.specs.Slots.{version_of}
+use Rattle.packs.specs.Pack.{IsSettled, Between}
 use Rattle.packs.specs.Area.{reading_of}
 use Rattle.packs.specs.Device.{KeepsArea}
 use Rattle.packs.proofs.Crash.{settled_between}
@@ -28,7 +29,7 @@ returns-in_err-body-clause-any_moment g c =
 
 pub write-requires-clause-len : goal.write-requires-clause-len
 write-requires-clause-len g c =
-    let spelled = c.in_ok-body.ensures.spelled c.requires.range c.requires.entries in
+    let spelled = c.in_ok-body.ensures.spelled c.requires.range in
     ap length c.as_slice.ensures.value ∙ long_as_a_body _ _ _ spelled ∙ sym c.requires.whole.size
 
 pub write-requires-clause-next : goal.write-requires-clause-next

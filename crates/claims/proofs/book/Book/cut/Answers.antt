@@ -2,7 +2,7 @@ use Rattle.std.proofs.Common.{rules}
 use Rattle.claims.proofs.Keeping.{splits}
 use Rattle.claims.proofs.book.Book.cut.Goals as goal
 
-pub split_seat-seat-requires : goal.split_seat-seat-requires
-split_seat-seat-requires g c =
-    let from = c.from.inside.seat in
+pub split_seat-cut-requires : goal.split_seat-cut-requires
+split_seat-cut-requires g c =
+    let from = c.take_seat-seat.result in
     (search (rules, c.requires.book), search rules, splits (g.L.Law.lawful c.self.inside.table.shared.key) from.id g.N.Count.kept from.me.0)

@@ -3,6 +3,8 @@ use Rattle.std.proofs.lemmas.Bool.{cases_lt}
 use Rattle.nodes.specs.File.{ticket_at, below_weight}
 use Rattle.tree.proofs.Balance.{fewer}
 use Rattle.nodes.proofs.Shown.{cut_shows}
+use Rattle.nodes.specs.Useful.{ends_by}
+use Rattle.nodes.proofs.Useful.{by_spares}
 use Rattle.nodes.proofs.file.FileState.cut.Goals as goal
 
 pub returns-in-Some-clause-fewer : goal.returns-in-Some-clause-fewer
@@ -47,3 +49,17 @@ returns-clause-file g c =
           elim (cases_lt j c.args.self.now.length) [ inl lt ↦ none.1 j (omega arith) | inr ge ↦ ok.within j ge ]
           );
     })
+
+pub returns-in-Some-clause-useful : goal.returns-in-Some-clause-useful
+returns-in-Some-clause-useful g c = c.cut_entries.ensures.useful (ends_by c.args.length) (by_spares c.args.length)
+
+pub returns-clause-useful : goal.returns-clause-useful
+returns-clause-useful g c =
+    let none = c.in_default.ensures.none in
+    let state = rw none.0 at c.shorten.ensures.state in
+    λ ok. rw state (record { direct = ok.direct; indirect = ok.indirect; double = ok.double })
+
+pub returns-clause-past : goal.returns-clause-past
+returns-clause-past g c =
+    let past = c.in_default.ensures.past in
+    rw c.shorten.ensures.state (record { direct = past.direct; indirect = past.indirect; double = past.double })

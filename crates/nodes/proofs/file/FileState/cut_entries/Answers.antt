@@ -1,4 +1,4 @@
-use Rattle.std.proofs.Common.{◌*◌, arith}
+use Rattle.std.proofs.Common.{◌+◌, ◌*◌, arith}
 use Rattle.geometry.specs.Path.{inode_entries, node_entries}
 use Rattle.tree.specs.Tree.{find_in, only_at_zero}
 use Rattle.tree.specs.Change.{nothing}
@@ -7,6 +7,9 @@ use Rattle.nodes.proofs.Four.{hands_1, hands_2, hands_3, hands_4, empty_four}
 use Rattle.nodes.proofs.Bounds.{past_tickets, past_direct, past_indirect}
 use Rattle.nodes.proofs.Joined.{hands_empty}
 use Rattle.nodes.proofs.Ranges.{marks_tickets, marks_direct, marks_indirect, marks_double, file_tickets, file_direct, file_indirect, file_double}
+use Rattle.nodes.proofs.Namers.{keeps_direct, keeps_indirect, keeps_double}
+use Rattle.nodes.specs.Useful.{reaches}
+use Rattle.nodes.proofs.Useful.{reaching}
 use Rattle.nodes.proofs.file.FileState.cut_entries.Goals as goal
 
 pub returns-in-Some-clause-out : goal.returns-in-Some-clause-out
@@ -141,3 +144,77 @@ returns-clause-none g c =
 
 pub returns-clause-file : goal.returns-clause-file
 returns-clause-file g c = rw (c.in_default.ensures.none.0, c.in_default-cut.ensures.none.0, c.in_default-cut-2.ensures.none.0, c.in_default-cut-3.ensures.none.0) c.requires.file
+
+pub returns-in-Some-clause-namer : goal.returns-in-Some-clause-namer
+returns-in-Some-clause-namer g c =
+    let s = rw c.node_entries-entries.ensures at c.in-Some.ensures.namer in
+    keeps_double c.args.self.now c.cut.new.self s
+
+pub returns-in-Some-cut-clause-namer : goal.returns-in-Some-cut-clause-namer
+returns-in-Some-cut-clause-namer g c =
+    let s = rw c.node_entries-entries.ensures at c.in-Some-cut.ensures.namer in
+    rw (c.in_default.ensures.none.0) (keeps_indirect c.args.self.now c.cut-2.new.self s)
+
+pub returns-in-Some-cut-2-clause-namer : goal.returns-in-Some-cut-2-clause-namer
+returns-in-Some-cut-2-clause-namer g c =
+    let s = rw c.node_entries-entries.ensures at c.in-Some-cut-2.ensures.namer in
+    rw (c.in_default.ensures.none.0, c.in_default-cut.ensures.none.0) (keeps_direct c.args.self.now c.cut-3.new.self s)
+
+pub returns-in-Some-clause-useful : goal.returns-in-Some-clause-useful
+returns-in-Some-clause-useful g c =
+    let f = c.args.self.now in
+    let e = node_entries f.shape in
+    let d = inode_entries f.shape in
+    let set = simp (c.inode_entries-slots.ensures, c.node_entries-entries.ensures, c.saturating_sub-past_tickets.ensures, c.saturating_sub-past_direct.ensures, c.saturating_sub-past_indirect.ensures) at c.cut.ensures.useful in
+    λ asked spares ok. record {
+      double = set asked (d + 2 * e + 2 * (e * e)) (λ first end h. spares first end (omega arith)) ok.double;
+      direct = ok.direct;
+      indirect = ok.indirect;
+    }
+
+pub returns-in-Some-cut-clause-useful : goal.returns-in-Some-cut-clause-useful
+returns-in-Some-cut-clause-useful g c =
+    let f = c.args.self.now in
+    let e = node_entries f.shape in
+    let d = inode_entries f.shape in
+    let set = simp (c.inode_entries-slots.ensures, c.node_entries-entries.ensures, c.saturating_sub-past_tickets.ensures, c.saturating_sub-past_direct.ensures, c.saturating_sub-past_indirect.ensures) at c.cut-2.ensures.useful in
+    rw (c.in_default.ensures.none.0) (λ asked spares ok. record {
+      indirect = set asked (d + 2 * e) (λ first end h. spares first end (omega arith)) ok.indirect;
+      direct = ok.direct;
+      double = ok.double;
+    })
+
+pub returns-in-Some-cut-2-clause-useful : goal.returns-in-Some-cut-2-clause-useful
+returns-in-Some-cut-2-clause-useful g c =
+    let f = c.args.self.now in
+    let e = node_entries f.shape in
+    let d = inode_entries f.shape in
+    let set = simp (c.inode_entries-slots.ensures, c.node_entries-entries.ensures, c.saturating_sub-past_tickets.ensures, c.saturating_sub-past_direct.ensures, c.saturating_sub-past_indirect.ensures) at c.cut-3.ensures.useful in
+    rw (c.in_default.ensures.none.0, c.in_default-cut.ensures.none.0) (λ asked spares ok. record {
+      direct = set asked (d) (λ first end h. spares first end (omega arith)) ok.direct;
+      indirect = ok.indirect;
+      double = ok.double;
+    })
+
+pub returns-in-Some-cut-3-clause-useful : goal.returns-in-Some-cut-3-clause-useful
+returns-in-Some-cut-3-clause-useful g c =
+    rw (c.in_default.ensures.none.0, c.in_default-cut.ensures.none.0, c.in_default-cut-2.ensures.none.0) (λ asked spares ok. record { direct = ok.direct; indirect = ok.indirect; double = ok.double })
+
+pub returns-clause-useful : goal.returns-clause-useful
+returns-clause-useful g c =
+    rw (c.in_default.ensures.none.0, c.in_default-cut.ensures.none.0, c.in_default-cut-2.ensures.none.0, c.in_default-cut-3.ensures.none.0) (λ asked spares ok. ok)
+
+pub returns-clause-past : goal.returns-clause-past
+returns-clause-past g c =
+    let f = c.args.self.now in
+    let e = node_entries f.shape in
+    let d = inode_entries f.shape in
+    let direct = simp (c.inode_entries-slots.ensures, c.node_entries-entries.ensures, c.saturating_sub-past_tickets.ensures, c.saturating_sub-past_direct.ensures, c.saturating_sub-past_indirect.ensures) at c.in_default-cut-2.ensures.past in
+    let indirect = simp (c.inode_entries-slots.ensures, c.node_entries-entries.ensures, c.saturating_sub-past_tickets.ensures, c.saturating_sub-past_direct.ensures, c.saturating_sub-past_indirect.ensures) at c.in_default-cut.ensures.past in
+    let double = simp (c.inode_entries-slots.ensures, c.node_entries-entries.ensures, c.saturating_sub-past_tickets.ensures, c.saturating_sub-past_direct.ensures, c.saturating_sub-past_indirect.ensures) at c.in_default.ensures.past in
+    let n = c.args.length in
+    record {
+      direct = direct (reaches n) d (λ first end h k is. let past = reaching n d first end h k is in omega arith);
+      indirect = indirect (reaches n) (d + 2 * e) (λ first end h k is. let past = reaching n (d + 2 * e) first end h k is in omega arith);
+      double = double (reaches n) (d + 2 * e + 2 * (e * e)) (λ first end h k is. let past = reaching n (d + 2 * e + 2 * (e * e)) first end h k is in omega arith);
+    }

@@ -19,3 +19,6 @@ returns-in-Err-clause-same g c file shows =
     let kept = c.in-Err.ensures.refused in
     swapped_shows c.args.self.now c.migrate_below.new.self file shows (rw kept at done.kind) (rw kept at done.length) c.args.from c.args.ticket c.requires.bytes
     c.migrate_below.result done.address (returns-in-Err-clause-swaps g c) (rw kept at done.refused)
+
+pub returns-in-Err-clause-useful : goal.returns-in-Err-clause-useful
+returns-in-Err-clause-useful g c = rw c.in-Err.ensures.refused at c.migrate_below.ensures.useful

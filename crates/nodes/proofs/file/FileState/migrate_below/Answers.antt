@@ -1,4 +1,4 @@
-use Rattle.std.proofs.Common.{◌≡◌, ◌*◌, refl, arith}
+use Rattle.std.proofs.Common.{◌+◌, ◌≡◌, ◌*◌, refl, arith}
 use Rattle.sums.specs.Weights.{weigh}
 use Rattle.geometry.specs.Path.{inode_entries, node_entries}
 use Rattle.tree.specs.Tree.{find_in, entry_at}
@@ -10,6 +10,7 @@ use Rattle.nodes.proofs.Four.{swaps_2, swaps_3, swaps_4}
 use Rattle.nodes.proofs.Joined.{swaps_empty}
 use Rattle.nodes.proofs.Bounds.{past_direct, past_indirect}
 use Rattle.nodes.proofs.Ranges.{marks_direct, marks_indirect, marks_double, file_direct, file_indirect, file_double}
+use Rattle.nodes.proofs.Namers.{same_direct, same_indirect, same_double}
 use Rattle.nodes.proofs.file.FileState.migrate_below.Goals as goal
 
 pub returns-in-Ok-clause-swaps : goal.returns-in-Ok-clause-swaps
@@ -105,3 +106,57 @@ returns-in-Err-migrate-2-clause-elsewhere g c =
 
 pub returns-in-Err-migrate-2-clause-file : goal.returns-in-Err-migrate-2-clause-file
 returns-in-Err-migrate-2-clause-file g c = rw (c.in-Err.ensures.refused, c.in-Err-migrate.ensures.refused, c.in-Err-migrate-2.ensures.refused) c.requires.file
+
+pub returns-in-Ok-migrate-clause-namer : goal.returns-in-Ok-migrate-clause-namer
+returns-in-Ok-migrate-clause-namer g c =
+    let s = rw c.node_entries-entries.ensures at c.migrate-2.ensures.namer in
+    rw (c.in-Err.ensures.refused) (same_indirect c.args.self.now c.migrate-2.new.self s)
+
+pub returns-in-Ok-migrate-2-clause-namer : goal.returns-in-Ok-migrate-2-clause-namer
+returns-in-Ok-migrate-2-clause-namer g c =
+    let s = rw c.node_entries-entries.ensures at c.migrate-3.ensures.namer in
+    rw (c.in-Err.ensures.refused, c.in-Err-migrate.ensures.refused) (same_double c.args.self.now c.migrate-3.new.self s)
+
+pub returns-in-Ok-clause-useful : goal.returns-in-Ok-clause-useful
+returns-in-Ok-clause-useful g c =
+    let f = c.args.self.now in
+    let e = node_entries f.shape in
+    let d = inode_entries f.shape in
+    let set = rw c.node_entries-entries.ensures at c.migrate.ensures.useful in
+    λ asked ok. record {
+      direct = set asked (d) ok.direct;
+      indirect = ok.indirect;
+      double = ok.double;
+    }
+
+pub returns-in-Ok-migrate-clause-useful : goal.returns-in-Ok-migrate-clause-useful
+returns-in-Ok-migrate-clause-useful g c =
+    let f = c.args.self.now in
+    let e = node_entries f.shape in
+    let d = inode_entries f.shape in
+    let set = rw c.node_entries-entries.ensures at c.migrate-2.ensures.useful in
+    rw (c.in-Err.ensures.refused) (λ asked ok. record {
+      indirect = set asked (d + 2 * e) ok.indirect;
+      direct = ok.direct;
+      double = ok.double;
+    })
+
+pub returns-in-Ok-migrate-2-clause-useful : goal.returns-in-Ok-migrate-2-clause-useful
+returns-in-Ok-migrate-2-clause-useful g c =
+    let f = c.args.self.now in
+    let e = node_entries f.shape in
+    let d = inode_entries f.shape in
+    let set = rw c.node_entries-entries.ensures at c.migrate-3.ensures.useful in
+    rw (c.in-Err.ensures.refused, c.in-Err-migrate.ensures.refused) (λ asked ok. record {
+      double = set asked (d + 2 * e + 2 * (e * e)) ok.double;
+      direct = ok.direct;
+      indirect = ok.indirect;
+    })
+
+pub returns-in-Err-migrate-2-clause-useful : goal.returns-in-Err-migrate-2-clause-useful
+returns-in-Err-migrate-2-clause-useful g c = rw (c.in-Err.ensures.refused, c.in-Err-migrate.ensures.refused, c.in-Err-migrate-2.ensures.refused) (λ asked ok. ok)
+
+pub returns-in-Ok-clause-namer : goal.returns-in-Ok-clause-namer
+returns-in-Ok-clause-namer g c =
+    let s = rw c.node_entries-entries.ensures at c.migrate.ensures.namer in
+    same_direct c.args.self.now c.migrate.new.self s

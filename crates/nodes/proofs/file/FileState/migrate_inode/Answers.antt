@@ -1,4 +1,4 @@
-use Rattle.std.proofs.Common.{◌*◌}
+use Rattle.std.proofs.Common.{refl, ◌*◌}
 use Rattle.geometry.specs.Path.{inode_entries, node_entries}
 use Rattle.tree.specs.Tree.{find_in, only_at_zero}
 use Rattle.nodes.specs.File.{in_tickets, in_direct, in_indirect, in_double, ticket_at}
@@ -25,3 +25,9 @@ returns-in-Ok-clause-file g c =
     let shaped = rw c.inode_entries-slots.ensures at c.swap.ensures.shaped in
     file_tickets f c.requires.file c.swap.new.self shaped
     (swaps_empty (ticket_at f) (ticket_at (record f { tickets = c.swap.new.self })) c.in-Ok.before c.args.ticket (returns-in-Ok-clause-swaps g c) f.length c.requires.file.within)
+
+pub returns-in-Ok-clause-useful : goal.returns-in-Ok-clause-useful
+returns-in-Ok-clause-useful g c = λ asked ok. record { direct = ok.direct; indirect = ok.indirect; double = ok.double }
+
+pub returns-in-Ok-clause-namer : goal.returns-in-Ok-clause-namer
+returns-in-Ok-clause-namer g c = λ j. refl

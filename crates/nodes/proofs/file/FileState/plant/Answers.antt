@@ -1,4 +1,4 @@
-use Rattle.std.proofs.Common.{◌*◌, ◌∙◌, arith}
+use Rattle.std.proofs.Common.{◌+◌, ◌*◌, ◌∙◌, arith}
 use Rattle.geometry.specs.Path.{inode_entries, node_entries}
 use Rattle.tree.specs.Tree.{find_in}
 use Rattle.tree.specs.Change.{nothing}
@@ -6,6 +6,7 @@ use Rattle.nodes.specs.File.{in_tickets, in_direct, in_indirect, in_double, find
 use Rattle.nodes.proofs.Four.{same_2, same_3, same_4}
 use Rattle.nodes.proofs.Lacking.{lacking_second, lacking_third, lacking_fourth, missing_second, missing_third, missing_fourth}
 use Rattle.nodes.proofs.Ranges.{marks_direct, marks_indirect, marks_double, file_direct, file_indirect, file_double}
+use Rattle.nodes.proofs.Namers.{names_direct, names_indirect, names_double}
 use Rattle.nodes.proofs.file.FileState.plant.Goals as goal
 
 pub returns-then-index-width-clause-same : goal.returns-then-index-width-clause-same
@@ -152,3 +153,60 @@ returns-clause-ready g c =
     let three = rw (d, e) at c.if-index-width-2.false in
     let ready = simp (d, e) at c.plant_in-2.ensures.ready in
     lacking_fourth (record f { double = c.plant_in-2.new.below }) i (record { nodes = c.plant_in-2.new.spares }) one two three ∙ ready
+
+pub returns-then-index-width-clause-namer : goal.returns-then-index-width-clause-namer
+returns-then-index-width-clause-namer g c =
+    let s = rw c.node_entries-entries.ensures at c.plant_in.ensures.namer in
+    names_direct c.args.self.now c.plant_in.new.below s
+
+pub returns-then-index-width-2-clause-namer : goal.returns-then-index-width-2-clause-namer
+returns-then-index-width-2-clause-namer g c =
+    let s = rw c.node_entries-entries.ensures at c.plant_in-then-index-width-2.ensures.namer in
+    names_indirect c.args.self.now c.plant_in-then-index-width-2.new.below s
+
+pub returns-clause-namer : goal.returns-clause-namer
+returns-clause-namer g c =
+    let s = rw c.node_entries-entries.ensures at c.plant_in-2.ensures.namer in
+    names_double c.args.self.now c.plant_in-2.new.below s
+
+pub returns-then-index-width-clause-useful : goal.returns-then-index-width-clause-useful
+returns-then-index-width-clause-useful g c =
+    let f = c.args.self.now in
+    let e = node_entries f.shape in
+    let d = inode_entries f.shape in
+    let set = simp (c.inode_entries-slots.ensures, c.node_entries-entries.ensures) at c.plant_in.ensures.useful in
+    let one = simp (c.inode_entries-slots.ensures, c.node_entries-entries.ensures) at c.if-index-slots.false in
+    λ asked spares ok. record {
+      direct = set asked (d) (λ first end h k. spares first end (omega arith) (omega arith)) ok.direct;
+      indirect = ok.indirect;
+      double = ok.double;
+    }
+
+pub returns-then-index-width-2-clause-useful : goal.returns-then-index-width-2-clause-useful
+returns-then-index-width-2-clause-useful g c =
+    let f = c.args.self.now in
+    let e = node_entries f.shape in
+    let d = inode_entries f.shape in
+    let set = simp (c.inode_entries-slots.ensures, c.node_entries-entries.ensures) at c.plant_in-then-index-width-2.ensures.useful in
+    let one = simp (c.inode_entries-slots.ensures, c.node_entries-entries.ensures) at c.if-index-slots.false in
+    let two = simp (c.inode_entries-slots.ensures, c.node_entries-entries.ensures) at c.if-index-width.false in
+    λ asked spares ok. record {
+      indirect = set asked (d + 2 * e) (λ first end h k. spares first end (omega arith) (omega arith)) ok.indirect;
+      direct = ok.direct;
+      double = ok.double;
+    }
+
+pub returns-clause-useful : goal.returns-clause-useful
+returns-clause-useful g c =
+    let f = c.args.self.now in
+    let e = node_entries f.shape in
+    let d = inode_entries f.shape in
+    let set = simp (c.inode_entries-slots.ensures, c.node_entries-entries.ensures) at c.plant_in-2.ensures.useful in
+    let one = simp (c.inode_entries-slots.ensures, c.node_entries-entries.ensures) at c.if-index-slots.false in
+    let two = simp (c.inode_entries-slots.ensures, c.node_entries-entries.ensures) at c.if-index-width.false in
+    let three = simp (c.inode_entries-slots.ensures, c.node_entries-entries.ensures) at c.if-index-width-2.false in
+    λ asked spares ok. record {
+      double = set asked (d + 2 * e + 2 * (e * e)) (λ first end h k. spares first end (omega arith) (omega arith)) ok.double;
+      direct = ok.direct;
+      indirect = ok.indirect;
+    }

@@ -1,6 +1,9 @@
 use Rattle.std.proofs.Common.{◌≡◌, ap, ◌∙◌, arith}
 use Rattle.nodes.specs.File.{below_weight}
 use Rattle.nodes.proofs.Shown.{written_shows}
+use Rattle.nodes.specs.Owners.{namer_at}
+use Rattle.nodes.specs.Useful.{IsUseful, is_off}
+use Rattle.nodes.proofs.Useful.{off_spares, useful_found}
 use Rattle.nodes.proofs.file.FileState.put.Goals as goal
 
 pub put_ticket-requires-clause-file : goal.put_ticket-requires-clause-file
@@ -41,3 +44,12 @@ returns-clause-change g c =
       marked = done.marked;
       token = done.token ∙ ap (λ f. f.token) state;
     }
+
+pub returns-clause-namer : goal.returns-clause-namer
+returns-clause-namer g c = λ j. c.put_ticket.ensures.namer j ∙ ap (λ f. namer_at f j) c.lengthen.ensures.state
+
+pub returns-clause-useful : goal.returns-clause-useful
+returns-clause-useful g c =
+    λ off. (let kept : IsUseful (is_off c.args.index) c.lengthen.new.self = rw c.lengthen.ensures.state (record { direct = off.direct; indirect = off.indirect; double = off.double }) in
+    useful_found c.put_ticket.new.self c.put_ticket.ensures.file c.args.index c.args.ticket c.put_ticket.ensures.sets.0
+    (c.put_ticket.ensures.useful (is_off c.args.index) (off_spares c.args.index) kept))

@@ -1,10 +1,11 @@
-use Rattle.std.proofs.Common.{◌≢◌, ◌*◌, ◌∙◌, Some, arith}
+use Rattle.std.proofs.Common.{refl, ◌+◌, ◌≢◌, ◌*◌, ◌∙◌, Some, arith}
 use Rattle.geometry.specs.Path.{inode_entries, node_entries}
 use Rattle.tree.specs.Tree.{find_in, only_at_zero}
 use Rattle.tree.specs.Change.{ticket_weight}
 use Rattle.nodes.specs.File.{in_tickets, in_direct, in_indirect, in_double, find_direct, find_indirect, find_double}
 use Rattle.nodes.proofs.Four.{sets_1, sets_2, sets_3, sets_4}
 use Rattle.nodes.proofs.Ranges.{marks_tickets, marks_direct, marks_indirect, marks_double, file_tickets, file_direct, file_indirect, file_double}
+use Rattle.nodes.proofs.Namers.{same_direct, same_indirect, same_double}
 use Rattle.nodes.proofs.file.FileState.put_ticket.Goals as goal
 
 pub returns-then-index-slots-clause-sets : goal.returns-then-index-slots-clause-sets
@@ -87,3 +88,66 @@ returns-clause-file g c =
     let shaped = rw c.node_entries-entries.ensures at c.put-2.ensures.shaped in
     file_double c.args.self.now c.requires.file c.put-2.new.self shaped
     (λ j h. (let other : j ≢ c.args.index = omega arith in (returns-clause-sets g c).1 j other ∙ c.requires.file.within j h))
+
+pub returns-then-index-width-clause-useful : goal.returns-then-index-width-clause-useful
+returns-then-index-width-clause-useful g c =
+    let f = c.args.self.now in
+    let e = node_entries f.shape in
+    let d = inode_entries f.shape in
+    let set = simp (c.inode_entries-slots.ensures, c.node_entries-entries.ensures) at c.put-then-index-width.ensures.useful in
+    let one = simp (c.inode_entries-slots.ensures, c.node_entries-entries.ensures) at c.if-index-slots.false in
+    λ asked spares ok. record {
+      direct = set asked (d) (λ first end h k. spares first end (omega arith) (omega arith)) ok.direct;
+      indirect = ok.indirect;
+      double = ok.double;
+    }
+
+pub returns-then-index-width-2-clause-useful : goal.returns-then-index-width-2-clause-useful
+returns-then-index-width-2-clause-useful g c =
+    let f = c.args.self.now in
+    let e = node_entries f.shape in
+    let d = inode_entries f.shape in
+    let set = simp (c.inode_entries-slots.ensures, c.node_entries-entries.ensures) at c.put-then-index-width-2.ensures.useful in
+    let one = simp (c.inode_entries-slots.ensures, c.node_entries-entries.ensures) at c.if-index-slots.false in
+    let two = simp (c.inode_entries-slots.ensures, c.node_entries-entries.ensures) at c.if-index-width.false in
+    λ asked spares ok. record {
+      indirect = set asked (d + 2 * e) (λ first end h k. spares first end (omega arith) (omega arith)) ok.indirect;
+      direct = ok.direct;
+      double = ok.double;
+    }
+
+pub returns-clause-useful : goal.returns-clause-useful
+returns-clause-useful g c =
+    let f = c.args.self.now in
+    let e = node_entries f.shape in
+    let d = inode_entries f.shape in
+    let set = simp (c.inode_entries-slots.ensures, c.node_entries-entries.ensures) at c.put-2.ensures.useful in
+    let one = simp (c.inode_entries-slots.ensures, c.node_entries-entries.ensures) at c.if-index-slots.false in
+    let two = simp (c.inode_entries-slots.ensures, c.node_entries-entries.ensures) at c.if-index-width.false in
+    let three = simp (c.inode_entries-slots.ensures, c.node_entries-entries.ensures) at c.if-index-width-2.false in
+    λ asked spares ok. record {
+      double = set asked (d + 2 * e + 2 * (e * e)) (λ first end h k. spares first end (omega arith) (omega arith)) ok.double;
+      direct = ok.direct;
+      indirect = ok.indirect;
+    }
+
+pub returns-then-index-width-2-clause-namer : goal.returns-then-index-width-2-clause-namer
+returns-then-index-width-2-clause-namer g c =
+    let s = rw c.node_entries-entries.ensures at c.put-then-index-width-2.ensures.namer in
+    same_indirect c.args.self.now c.put-then-index-width-2.new.self s
+
+pub returns-clause-namer : goal.returns-clause-namer
+returns-clause-namer g c =
+    let s = rw c.node_entries-entries.ensures at c.put-2.ensures.namer in
+    same_double c.args.self.now c.put-2.new.self s
+
+pub returns-then-index-slots-clause-useful : goal.returns-then-index-slots-clause-useful
+returns-then-index-slots-clause-useful g c = λ asked spares ok. record { direct = ok.direct; indirect = ok.indirect; double = ok.double }
+
+pub returns-then-index-slots-clause-namer : goal.returns-then-index-slots-clause-namer
+returns-then-index-slots-clause-namer g c = λ j. refl
+
+pub returns-then-index-width-clause-namer : goal.returns-then-index-width-clause-namer
+returns-then-index-width-clause-namer g c =
+    let s = rw c.node_entries-entries.ensures at c.put-then-index-width.ensures.namer in
+    same_direct c.args.self.now c.put-then-index-width.new.self s

@@ -1,6 +1,7 @@
 use Rattle.std.proofs.Common.{◌≡◌, ◌+◌, ◌-◌, ◌≤◌, List, ℕ, length, sym, ◌∙◌, ap, subst, arith}
 use Rattle.device.proofs.Moments.{torn_leaves, torn_moments, quiet_moments}
-use Rattle.packs.specs.Pack.{version_of, slot_of, IsSettled, IsStaged, Between}
+use Rattle.image.specs.Slots.{version_of, slot_of}
+use Rattle.packs.specs.Pack.{IsSettled, IsStaged, Between}
 use Rattle.packs.specs.Area.{reading_of}
 use Rattle.packs.specs.Device.{IsSameArea, KeepsArea, body_of, staged_in}
 use Rattle.packs.proofs.Crash.{settled_between}

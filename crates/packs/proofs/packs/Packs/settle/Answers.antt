@@ -1,9 +1,10 @@
 use Rattle.std.proofs.Common.{◌≡◌, ℕ, List, Some, length, sym, ◌∙◌, ap, subst}
-use Rattle.packs.specs.Pack.{version_of, IsPicked}
+use Rattle.image.specs.Slots.{version_of}
+use Rattle.packs.specs.Pack.{slots_in, IsPicked}
 use Rattle.packs.specs.Area.{reading_of}
 use Rattle.packs.specs.Device.{IsFound, AreSettled, body_of}
 use Rattle.packs.specs.declared.packs.Packs.{Packs}
-use Rattle.packs.proofs.Picking.{picks}
+use Rattle.image.proofs.Picking.{picks}
 use Rattle.packs.proofs.Named.{settled_named}
 use Rattle.packs.proofs.Opening.{looked, opened}
 use Rattle.packs.proofs.Steps.{area_stays}
@@ -43,5 +44,5 @@ returns-clause-found g c =
     let named : body_of (reading_of now.len) g.M.Meta.seen now ≡ body = settled_named (reading_of len) g.M.Meta.seen g.M.Meta.may_leave g.met.M.Meta.seen_is_left now body settled in
     λ _. (
       subst (AreSettled (reading_of len) g.M.Meta.seen g.M.Meta.may_leave now) (sym named) settled,
-      picks (reading_of len) area c.in-Some.found.slot f.slot ∙ ap (λ (l : List ℕ). Some l) (same ∙ sym named),
+      picks (slots_in (reading_of len) area) c.in-Some.found.slot f.slot ∙ ap (λ (l : List ℕ). Some l) (same ∙ sym named),
     )

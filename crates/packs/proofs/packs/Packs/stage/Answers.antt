@@ -1,6 +1,7 @@
 use Rattle.std.proofs.Common.{◌-◌, ◌≤◌, List, ℕ, length, sym, ◌∙◌, ap, subst, arith}
 use Rattle.device.proofs.Moments.{torn_leaves, torn_moments, quiet_moments}
-use Rattle.packs.specs.Pack.{slot_of, IsSettled, IsStaged}
+use Rattle.image.specs.Slots.{slot_of}
+use Rattle.packs.specs.Pack.{IsSettled, IsStaged}
 use Rattle.packs.specs.Area.{reading_of}
 use Rattle.packs.specs.Device.{IsSameArea, KeepsArea, body_of}
 use Rattle.packs.proofs.Fronts.{kept_torn, kept_alone}

@@ -2,7 +2,8 @@ use Rattle.std.proofs.Common.{◌≡◌, ◌+◌, List, ℕ, sym, ◌∙◌, ap,
 use Rattle.byteorder.specs.Endian.{little_number}
 use Rattle.device.specs.Disk.{LeavesOnly}
 use Rattle.device.proofs.Moments.{joined, weaker}
-use Rattle.packs.specs.Pack.{version_of, IsSettled, Between}
+use Rattle.image.specs.Slots.{version_of}
+use Rattle.packs.specs.Pack.{IsSettled, Between}
 use Rattle.packs.specs.Area.{reading_of}
 use Rattle.packs.specs.Device.{KeepsArea, body_of}
 use Rattle.packs.proofs.Crash.{settled_between}

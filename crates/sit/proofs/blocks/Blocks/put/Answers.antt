@@ -1,8 +1,8 @@
-use Rattle.std.proofs.Common.{◌≡◌, ◌+◌, ◌<◌, Some, length, get_or, set, false, arith, ap, sym, ◌∙◌}
-use Rattle.std.proofs.lemmas.List.{length-map}
+use Rattle.std.proofs.Common.{◌≡◌, ◌+◌, ◌<◌, [], Some, None, length, get_or, set, false, arith, ap, sym, ◌∙◌}
+use Rattle.std.proofs.lemmas.List.{length-map, length-set, get_or-map, get_or-set_same}
 use Rattle.std.specs.Prelude.{is_some}
 use Rattle.sit.proofs.Lists.{each-set, some-injective}
-use Rattle.sit.specs.Home.{failures_of}
+use Rattle.sit.specs.Home.{content_at, failures_of}
 use Rattle.sit.proofs.Homes.{home-set, failures-set, failed-away}
 use Rattle.sit.proofs.blocks.Blocks.put.Goals as goal
 
@@ -21,7 +21,7 @@ invariant_of-self g c =
 pub returns-clause-home : goal.returns-clause-home
 returns-clause-home g c =
     let s = c.self.inside in
-    home-set s.first s.block_bytes is_some s.blocks.items c.args.offset (Some c.args.block) (failures_of g.B.Block.failed s.blocks.items)
+    home-set s.first s.block_bytes is_some (content_at g.B.Block.content_of) s.blocks.items c.args.offset (Some c.args.block) (failures_of g.B.Block.failed s.blocks.items)
     (failures_of g.B.Block.failed (set s.blocks.items c.args.offset (Some c.args.block))) c.args.self.now c.self.view_is
 
 pub returns-clause-failures : goal.returns-clause-failures
@@ -33,3 +33,11 @@ returns-clause-failures g c away =
     let change = failures-set g.B.Block.failed xs c.args.offset (Some c.args.block) within in
     let before : failures_of g.B.Block.failed xs ≡ c.args.self.now.failed = ap (λ h. h.failed) c.self.view_is in
     omega arith
+
+pub returns-clause-content : goal.returns-clause-content
+returns-clause-content g c =
+    let s = c.self.inside in
+    let xs = s.blocks.items in
+    let within : c.args.offset < length xs = let l = ap (λ h. length h.present) c.self.view_is in let m = length-map xs is_some in let r = c.requires.within in omega arith in
+    get_or-map (content_at g.B.Block.content_of) (set xs c.args.offset (Some c.args.block)) c.args.offset None [] (let long = length-set xs c.args.offset (Some c.args.block) in omega arith)
+    ∙ ap (content_at g.B.Block.content_of) (get_or-set_same xs c.args.offset (Some c.args.block) None within)

@@ -1,8 +1,8 @@
-use Rattle.std.proofs.Common.{◌≡◌, ◌+◌, ◌<◌, Some, None, length, get_or, set, arith, ap, sym, ◌∙◌}
-use Rattle.std.proofs.lemmas.List.{length-map}
+use Rattle.std.proofs.Common.{◌≡◌, ◌+◌, ◌<◌, [], Some, None, length, get_or, set, arith, ap, sym, ◌∙◌}
+use Rattle.std.proofs.lemmas.List.{length-map, get_or-map}
 use Rattle.std.specs.Prelude.{is_some}
 use Rattle.sit.proofs.Lists.{each-set, get_or-default, some-ne-none}
-use Rattle.sit.specs.Home.{failed_at, failures_of}
+use Rattle.sit.specs.Home.{content_at, failed_at, failures_of}
 use Rattle.sit.proofs.Homes.{home-set, failures-set}
 use Rattle.sit.proofs.blocks.Blocks.take.Goals as goal
 
@@ -22,8 +22,8 @@ pub returns-clause-home : goal.returns-clause-home
 returns-clause-home g c =
     let s = c.self.inside in
     let after = set s.blocks.items c.args.offset c.take.new.self in
-    home-set s.first s.block_bytes is_some s.blocks.items c.args.offset c.take.new.self (failures_of g.B.Block.failed s.blocks.items) (failures_of g.B.Block.failed after) c.args.self.now c.self.view_is
-    ∙ ap (λ x. record { first = c.args.self.now.first; block_bytes = c.args.self.now.block_bytes; present = set c.args.self.now.present c.args.offset (is_some x); failed = failures_of g.B.Block.failed after }) c.take.ensures.after
+    home-set s.first s.block_bytes is_some (content_at g.B.Block.content_of) s.blocks.items c.args.offset c.take.new.self (failures_of g.B.Block.failed s.blocks.items) (failures_of g.B.Block.failed after) c.args.self.now c.self.view_is
+    ∙ ap (λ x. record { first = c.args.self.now.first; block_bytes = c.args.self.now.block_bytes; present = set c.args.self.now.present c.args.offset (is_some x); contents = set c.args.self.now.contents c.args.offset (content_at g.B.Block.content_of x); failed = failures_of g.B.Block.failed after }) c.take.ensures.after
 
 pub returns-clause-failures : goal.returns-clause-failures
 returns-clause-failures g c =
@@ -49,3 +49,10 @@ returns-clause-length g c =
     let within : c.args.offset < length s.blocks.items = let l = ap (λ h. length h.present) c.self.view_is in let m = length-map s.blocks.items is_some in let r = c.requires.within in omega arith in
     let is : get_or s.blocks.items c.args.offset None ≡ Some c.in-Some.block = get_or-default s.blocks.items c.args.offset None _ within ∙ (sym c.index_mut.ensures.value ∙ (sym c.take.ensures.value ∙ c.in-Some.is)) in
     c.self.invariant.lengths c.args.offset c.in-Some.block is ∙ ap (λ h. h.block_bytes) c.self.view_is
+
+pub returns-clause-content : goal.returns-clause-content
+returns-clause-content g c =
+    let s = c.self.inside in
+    let within : c.args.offset < length s.blocks.items = let l = ap (λ h. length h.present) c.self.view_is in let m = length-map s.blocks.items is_some in let r = c.requires.within in omega arith in
+    let is : get_or s.blocks.items c.args.offset None ≡ Some c.in-Some.block = get_or-default s.blocks.items c.args.offset None _ within ∙ (sym c.index_mut.ensures.value ∙ (sym c.take.ensures.value ∙ c.in-Some.is)) in
+    sym (ap (λ h. get_or h.contents c.args.offset []) (sym c.self.view_is) ∙ get_or-map (content_at g.B.Block.content_of) s.blocks.items c.args.offset None [] within ∙ ap (content_at g.B.Block.content_of) is)

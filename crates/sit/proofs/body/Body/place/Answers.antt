@@ -8,6 +8,6 @@ invariant_of-self-2 g c =
     let s = c.self.inside in
     let view = c.self.view_is in
     let place : c.args.offset ≡ s.next = let n = ap (λ (x : Segment). x.next) view in let p = c.requires.place in omega arith in
-    placed-law _ s.blocks c.self.invariant c.args.offset _ _ _ c.set.new.self c.write_out.new.self c.args.owner
+    placed-law _ s.blocks c.self.invariant c.args.offset _ _ _ _ c.set.new.self c.write_out.new.self c.args.owner
     (ap (λ (x : Segment). x.state) view ∙ c.requires.open) place c.set.ensures.set c.in_ok-block.ensures.home
     (subst (λ n. IsStateAt (s.next + 1) n c.state_at-self-inside.result) c.segment_blocks.ensures c.state_at-self-inside.ensures)

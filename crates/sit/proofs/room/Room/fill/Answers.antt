@@ -3,5 +3,5 @@ use Rattle.sit.proofs.room.Room.fill.Goals as goal
 
 pub invariant_of-result : goal.invariant_of-result
 invariant_of-result g c =
-    fresh-registered c.fill_body.result c.args.account c.args.account.book c.args.self.shape c.args.self.number c.fill_body.result.failed c.args.standing.life c.fill_body.ensures.segment c.requires.account
+    fresh-registered c.fill_body.result c.args.account c.args.account.book c.args.self.shape c.args.self.number c.fill_body.result.failed c.fill_body.result.contents c.args.standing.life c.fill_body.ensures.segment c.requires.account
     c.requires.standing

@@ -13,7 +13,7 @@ pub invariant_of-result : goal.invariant_of-result
 invariant_of-result g c =
     let r = c.self.inside in
     let n = segment_blocks r.shape in
-    let home = c.fill_from.ensures.home ∙ ap (λ h. home_of h.first h.block_bytes (replicate (length h.present) true) c.fill_from.new.self.failed) c.self.invariant.home_is
-    ∙ ap (λ k. home_of (address_of r.shape r.number 0) (block_bytes r.shape) (replicate k true) c.fill_from.new.self.failed) (length-replicate {A = Bool} n false) in
-    subst (λ (ss : List (Option Owner)). SegmentLaw (record { shape = r.shape; number = r.number; state = Free; summaries = ss; mtime = 0; next = 0; failed = c.fill_from.new.self.failed }) c.fill_from.new.self)
-    (sym c.self.invariant.unmarked) (fresh-law r.shape r.number c.fill_from.new.self.failed c.fill_from.new.self home)
+    let home = c.fill_from.ensures.home ∙ ap (λ h. home_of h.first h.block_bytes (replicate (length h.present) true) c.fill_from.new.self.contents c.fill_from.new.self.failed) c.self.invariant.home_is
+    ∙ ap (λ k. home_of (address_of r.shape r.number 0) (block_bytes r.shape) (replicate k true) c.fill_from.new.self.contents c.fill_from.new.self.failed) (length-replicate {A = Bool} n false) in
+    subst (λ (ss : List (Option Owner)). SegmentLaw (record { shape = r.shape; number = r.number; state = Free; summaries = ss; mtime = 0; next = 0; contents = c.fill_from.new.self.contents; failed = c.fill_from.new.self.failed }) c.fill_from.new.self)
+    (sym c.self.invariant.unmarked) (fresh-law r.shape r.number c.fill_from.new.self.failed c.fill_from.new.self.contents c.fill_from.new.self home)

@@ -3,7 +3,7 @@ use Rattle.sums.proofs.Weighing.{weigh-at}
 use Rattle.tree.specs.Tree.{entry_at}
 use Rattle.tree.specs.Change.{each_naming}
 use Rattle.tree.proofs.Changes.{weigh_zero}
-use Rattle.tree.proofs.Below.{swaps_below}
+use Rattle.tree.proofs.Below.{swaps_below, names_some}
 use Rattle.tree.proofs.entries.Entries.migrate.Goals as goal
 
 pub returns-in-Ok-clause-named : goal.returns-in-Ok-clause-named
@@ -33,3 +33,9 @@ returns-clause-elsewhere g c =
     let xs = c.args.self.now.slots.items in
     let wide : length xs ≡ c.args.count = c.requires.shaped.0 in
     weigh_zero (g.C.Subtree.weight (each_naming c.args.nid c.args.at c.args.from)) xs (λ k h. c.loop-place.invariant.unnamed k (omega arith))
+
+pub returns-in-Ok-clause-some : goal.returns-in-Ok-clause-some
+returns-in-Ok-clause-some g c =
+    let C = g.C.Subtree in
+    let swaps = returns-in-Ok-clause-swaps g c in
+    λ none. absurd (names_some (C.find c.args.entries) (C.span_of c.args.entries) (λ i. g.met.C.Subtree.find_none c.args.entries i) c.migrate_at.new.self.slots.items swaps.0 c.args.ticket swaps.2.0 none)

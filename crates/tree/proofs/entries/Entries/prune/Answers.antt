@@ -1,7 +1,9 @@
-use Rattle.std.proofs.Common.{◌≡◌, ℕ, ◌-◌, ◌<◌, ◌≤◌, ◌/◌, ◌%◌, None, arith, ap}
+use Rattle.std.proofs.Common.{Bool, false, ◌≡◌, ℕ, ◌+◌, ◌*◌, ◌-◌, ◌<◌, ◌≤◌, ◌/◌, ◌%◌, None, arith, ap, inl, inr}
 use Rattle.std.proofs.lemmas.Nat.{div-add-mod', le-div}
+use Rattle.std.proofs.lemmas.Bool.{cases_lt}
 use Rattle.std.proofs.Math.Nat.{div-mul-le_self, div-le_self}
-use Rattle.tree.specs.Tree.{entry_at}
+use Rattle.tree.specs.Tree.{entry_at, UsefulIn, AsksPast}
+use Rattle.tree.specs.Useful.{within}
 use Rattle.tree.proofs.Below.{hands_below}
 use Rattle.tree.proofs.entries.Entries.prune.Goals as goal
 
@@ -34,4 +36,30 @@ returns-else-names_nothing-clause-cases g c =
           let m : c.args.from / span ≤ j / span = le-div (c.args.from / span) j span positive (omega arith) in
           c.loop-at.invariant.empty (j / span) (omega arith) (j % span) (rw is (omega arith))),
       λ z. (let no = c.if-names_nothing.ensures.1 (λ k. rw (c.deref.ensures.value, same) (nothing z k)) in cc),
+    )
+
+pub returns-else-names_nothing-clause-past : goal.returns-else-names_nothing-clause-past
+returns-else-names_nothing-clause-past g c =
+    let C = g.C.Subtree in
+    let laws = g.met.C.Subtree in
+    let e = c.args.entries in
+    let span = C.span_of e in
+    let is : c.span-span.result ≡ span = c.span-span.ensures in
+    let xs = c.args.self.now.slots.items in
+    let same : c.loop-at.self.slots.items ≡ xs = ap (λ b. b.slots.items) c.loop-at.invariant.same in
+    let start : c.loop-at.at ≤ c.args.from / span = rw is at c.loop-at-test.false in
+    let useful : (asked : ℕ → ℕ → Bool) (first : ℕ) → AsksPast asked first (first + c.args.from) → UsefulIn (C.useful e) span asked first xs =
+    λ asked first test k. elim (cases_lt k (c.args.from / span)) [
+      | inl before ↦
+          let far = within k (c.args.from / span) span before in
+          let low = div-mul-le_self c.args.from span in
+          laws.useful_either e asked (λ _ _. false) (λ _ _. false) (first + k * span) (entry_at xs k) c.requires.some (c.requires.shaped.1 k)
+          (λ one end from some to a. let no = test one end (omega arith) some a in absurd (omega arith))
+          (laws.useful_never e (first + k * span) (entry_at xs k)) (laws.useful_never e (first + k * span) (entry_at xs k))
+      | inr reached ↦
+          c.loop-at.invariant.useful k (omega arith) asked (first + k * span)
+          (λ one end from some a. let more = test one end (omega arith) some a in rw is (omega arith))
+    ] in (
+      λ asked first test. rw same (useful asked first test),
+      λ none. (let no = c.if-names_nothing.ensures.1 (λ k. rw c.deref.ensures.value (none k)) in cc),
     )

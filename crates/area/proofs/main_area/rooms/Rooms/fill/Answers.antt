@@ -1,16 +1,8 @@
 use Rattle.std.proofs.Common.{◌≡◌, ◌-◌, List, [], length, ap, sym, subst, ◌∙◌, arith}
-use Rattle.geometry.specs.declared.owner.Owner.{Owner}
-use Rattle.sums.specs.Weights.{weigh}
-use Rattle.geometry.specs.declared.owner.Mark.{Mark}
-use Rattle.geometry.specs.Shape.{segment_blocks}
-use Rattle.geometry.specs.Address.{address_of}
-use Rattle.sit.specs.Summaries.{marks_from}
-use Rattle.sit.proofs.Marks.{none_from}
 use Rattle.geometry.specs.Area.{block_count}
 use Rattle.sums.proofs.Indexing.{each_reverse}
 use Rattle.sit.specs.Registered.{Registered}
 use Rattle.area.specs.Rooms.{RightsTo, IsBare, AreBare, SlipsFallFrom}
-use Rattle.area.proofs.AreaLemmas.{none_in}
 use Rattle.area.proofs.RoomLemmas.{filled-law}
 use Rattle.area.proofs.main_area.rooms.Rooms.fill.Goals as goal
 

@@ -1,0 +1,199 @@
+-- What a call has in hand that works on a file whose tickets and tokens are lodged in its account.
+use Rattle.std.proofs.Common.{◌≡◌, ◌<◌, ℕ, true, Option, Some, None, List, [], ◌∷◌, ◌++◌, refl, sym, ap, subst, ◌∙◌, arith}
+use Rattle.std.specs.Prelude.{is_some, MatchOption, unwrap_or, replicate}
+use Rattle.tickets.specs.Placed.{Placed}
+use Rattle.nodes.proofs.Files.{shows_file_of}
+use Rattle.atomic_table.specs.Seated.{TableId}
+use Rattle.sums.specs.Weights.{weigh}
+use Rattle.geometry.specs.declared.geometry.Geometry.{Geometry}
+use Rattle.geometry.specs.declared.kind.Kind.{Kind}
+use Rattle.geometry.specs.File.{File, bytes_at, new_file}
+use Rattle.books.specs.Accounts.{FileView, HandView, PassView}
+use Rattle.books.specs.declared.claim.Content.{Content}
+use Rattle.books.specs.declared.claim.Entry.{Entry}
+use Rattle.books.specs.Contents.{as_content, as_file}
+use Rattle.books.specs.Rules.{bare_entry}
+use Rattle.books.proofs.Contents.{as_file_again}
+use Rattle.turnstile.specs.Turns.{at_home}
+use Rattle.nodes.specs.declared.file.FileState.{FileState}
+use Rattle.nodes.specs.File.{IsFile, IsBare, inode_of, ticket_at, blocks_below, content_of, file_of}
+use Rattle.nodes.specs.Held.{AreHeld, no_others}
+use Rattle.nodes.specs.Useful.{IsUseful, each_node}
+use Rattle.nodes.proofs.Useful.{useful_bare}
+use Rattle.file_law.specs.Law.{FileStateLaw}
+use Rattle.file_law.proofs.Lasting.{law_new}
+use Rattle.shared_files.specs.Contents.{InHand, Serves}
+use Rattle.shared_files.proofs.Born.{stored_new, in_hand_new}
+use Rattle.file_cells.specs.Cell.{IsLodged, IsCell}
+use Rattle.file_cells.specs.Pass.{Pass, IsPassOf}
+
+-- all is taken into the hand, and lodged again
+abbrev pub emptied : FileView → FileView
+emptied a = record a { tickets = []; tokens = [] }
+
+abbrev pub holding : FileView → HandView → HandView
+holding a h = record h { tickets = h.tickets ++ a.tickets; tokens = h.tokens ++ a.tokens }
+
+abbrev pub refilled : HandView → FileView → FileView
+refilled h a = record a { tickets = a.tickets ++ h.tickets; tokens = a.tokens ++ h.tokens }
+
+abbrev pub released : HandView → HandView
+released h = record h { tickets = []; tokens = [] }
+
+module _ (book : TableId) (a a1 a2 : FileView) (h h1 h2 h3 : HandView) (home : h ≡ at_home book) where
+  -- what was lodged is in hand
+  pub taken : h1 ≡ holding a h → h1 ≡ record { book = book; tickets = a.tickets; tokens = a.tokens }
+  taken is = is ∙ ap (holding a) home
+
+  pub home_again : h1 ≡ holding a h → h2.book ≡ h1.book → h3 ≡ released h2 → h3 ≡ h
+  home_again is same empty = empty ∙ (ap at_home (same ∙ ap (λ (v : HandView). v.book) (taken is)) ∙ sym home)
+
+  pub account_kept : a1 ≡ emptied a → a2 ≡ refilled h2 a1 → (a2.book ≡ a.book) × (a2.inode ≡ a.inode) × (a2.content ≡ a.content)
+  account_kept empty full =
+      let both = full ∙ ap (refilled h2) empty in
+      (ap (λ (v : FileView). v.book) both, ap (λ (v : FileView). v.inode) both, ap (λ (v : FileView). v.content) both)
+
+  module _ {B L : Type 0} where
+    pub in_hand : (f : FileState B L) → h1 ≡ holding a h → AreHeld f a.tickets a.tokens → InHand no_others f h1
+    in_hand f is held = subst (λ (v : HandView). InHand no_others f v) (sym (taken is)) held
+
+    -- and is lodged again
+    pub lodged : (f : FileState B L) → a1 ≡ emptied a → a2 ≡ refilled h2 a1 → InHand no_others f h2 → AreHeld f a2.tickets a2.tokens
+    lodged f empty full held = subst (λ (v : FileView). AreHeld f v.tickets v.tokens) (sym (full ∙ ap (refilled h2) empty)) held
+
+    pub lodged_again : (geometry : Geometry) (f g : FileState B L) → IsLodged geometry a f → a1 ≡ emptied a → a2 ≡ refilled h2 a1 → h1 ≡ holding a h → Serves f g h1 h2 → FileStateLaw geometry.files g → IsUseful each_node g → IsLodged geometry a2 g
+    lodged_again geometry f g was empty full is serves law useful = record {
+      stored = serves.stored;
+      shape_is = serves.shape ∙ was.shape_is;
+      law = law;
+      useful = useful;
+      lodged = lodged g empty full (serves.others no_others (in_hand f is was.lodged));
+    }
+
+-- ---- the file that a pass shows
+
+abbrev some_content : Option Content → Content → Content
+some_content None other = other
+some_content (Some c) other = c
+
+pub same_content : (c d : Content) → Some c ≡ Some d → c ≡ d
+same_content c d e = ap (λ o. some_content o c) e
+
+-- what the account shows is the file of its state
+pub shown_file : {B L : Type 0} (f : FileState B L) (o : Option Content) (c : Content) → o ≡ Some (as_content (file_of f)) → o ≡ Some c → as_file c ≡ file_of f
+shown_file f o c state pass = ap as_file (same_content c (as_content (file_of f)) (sym pass ∙ state)) ∙ as_file_again (file_of f)
+
+-- a file without a state is shown by no pass
+pub no_pass : (o : Option Content) (c : Content) → o ≡ None → o ≡ Some c → ⊥
+no_pass o c none some = let no = ap (λ (x : Option Content). is_some x) (sym some ∙ none) in cc
+
+-- ---- the cell and the pass after a call
+
+module _ {B L : Type 0} (book : TableId) (geometry : Geometry) (number : ℕ) (a : FileView) (f : FileState B L) (was : IsCell book geometry number a (Some f)) where
+  -- the file is as it was
+  pub cell_kept : (a2 : FileView) (g : FileState B L) → IsLodged geometry a2 g → g.token.number ≡ f.token.number → (a2.book ≡ a.book) × (a2.inode ≡ a.inode) × (a2.content ≡ a.content)
+      → file_of g ≡ file_of f → IsCell book geometry number a2 (Some g)
+  cell_kept a2 g lodged named kept same = record {
+    book_is = kept.0 ∙ was.book_is;
+    inode_is = kept.1 ∙ was.inode_is;
+    keeps = (lodged, named ∙ was.keeps.1, kept.2 ∙ (was.keeps.2 ∙ ap (λ x. Some (as_content x)) (sym same)));
+  }
+
+  -- what the file becomes is noted
+  pub cell_noted : (a2 a3 : FileView) (g : FileState B L) → IsLodged geometry a2 g → g.token.number ≡ f.token.number → (a2.book ≡ a.book) × (a2.inode ≡ a.inode) × (a2.content ≡ a.content)
+      → a3 ≡ record a2 { content = Some (as_content (file_of g)) } → IsCell book geometry number a3 (Some g)
+  cell_noted a2 a3 g lodged named kept note = subst (λ x. IsCell book geometry number x (Some g)) (sym note) (record {
+    book_is = kept.0 ∙ was.book_is;
+    inode_is = kept.1 ∙ was.inode_is;
+    keeps = (record { stored = lodged.stored; shape_is = lodged.shape_is; law = lodged.law; useful = lodged.useful; lodged = lodged.lodged }, named ∙ was.keeps.1, refl);
+  })
+
+  -- the pass shows the file of the state
+  pub pass_shows : (c : Content) → a.content ≡ Some c → as_file c ≡ file_of f
+  pass_shows c same = shown_file f a.content c was.keeps.2 same
+
+-- no pass shows a file that is not there
+pub no_cell : {B L : Type 0} (book : TableId) (geometry : Geometry) (number : ℕ) (a : FileView) → IsCell {B = B} {L = L} book geometry number a None → (c : Content) → a.content ≡ Some c → ⊥
+no_cell book geometry number a was c same = no_pass a.content c was.keeps.2 same
+
+module _ {B L : Type 0} (book : TableId) (files number : ℕ) (p p3 : PassView) (g : FileState B L) (note : p3 ≡ record p { content = as_content (file_of g) }) where
+  pub pass_noted : (length : ℕ) → IsPassOf book files number length p → IsPassOf book files number g.length p3
+  pass_noted length was = subst (IsPassOf book files number g.length) (sym note) (record {
+    book_is = was.book_is;
+    inode_is = was.inode_is;
+    some = was.some;
+    within = was.within;
+    length_is = refl;
+  })
+
+  pub pass_changed : (old : Pass) (f : FileState B L) → record { number = number; file = as_file p.content } ≡ old → as_file p.content ≡ file_of f
+      → (change : File → File) → file_of g ≡ change (file_of f) → ◌≡◌ {A = Pass} (record { number = number; file = as_file p3.content }) (record old { file = change old.file })
+  pass_changed old f seen shows change is =
+      (λ i. record { number = number; file = now i }) ∙ (λ i. record (seen i) { file = change ((seen i).file) })
+    where
+      now : as_file p3.content ≡ change (as_file p.content)
+      now = ap (λ (x : PassView). as_file x.content) note ∙ (as_file_again (file_of g) ∙ (is ∙ ap change (sym shows)))
+
+-- ---- a call's hand with nothing in it
+
+no_weight : {A : Type 0} (xs : List A) → weigh (λ x. 1) xs ≡ 0 → xs ≡ []
+no_weight [] none = refl
+no_weight (x ∷ xs) none = absurd (omega arith)
+
+pub empty_hand : (book : TableId) (h h1 : HandView) → h ≡ at_home book → h1.book ≡ book → weigh (λ x. 1) h1.tickets ≡ 0 → weigh (λ x. 1) h1.tokens ≡ 0 → h1 ≡ h
+empty_hand book h h1 home same tickets tokens = (λ i. record { book = same i; tickets = no_weight h1.tickets tickets i; tokens = no_weight h1.tokens tokens i }) ∙ sym home
+
+-- ---- what a read gives
+
+read_slot : (o : Option Placed) (out : List ℕ) (n bytes : ℕ) → n ≡ bytes → MatchOption o (out ≡ replicate n 0) (λ t. out ≡ t.content) → out ≡ unwrap_or (content_of o) (replicate bytes 0)
+read_slot None out n bytes e is = is ∙ ap (λ k. replicate k 0) e
+read_slot (Some t) out n bytes e is = is
+
+pub reads : {B L : Type 0} (f : FileState B L) → IsFile f → (i : ℕ) (out : List ℕ) (n bytes : ℕ) → n ≡ bytes
+    → MatchOption (ticket_at f i) (out ≡ replicate n 0) (λ t. out ≡ t.content) → out ≡ bytes_at bytes (file_of f) i
+reads f is i out n bytes e read =
+    read_slot (ticket_at f i) out n bytes e read ∙ ap (λ b. unwrap_or b (replicate bytes 0)) (sym ((shows_file_of f is).blocks i))
+
+-- ---- a file without blocks comes into its cell
+
+module _ {B L : Type 0} (f : FileState B L) (kind : Kind) where
+  pub fresh_file : f.kind ≡ kind → f.length ≡ 0 → file_of f ≡ new_file kind
+  fresh_file same none = λ i. record { kind = same i; length = none i; blocks = blocks_below (none i) (ticket_at f) }
+
+  -- what its pass shows
+  pub fresh_pass : (p : PassView) (number : ℕ) → p.content ≡ as_content (file_of f) → f.kind ≡ kind → f.length ≡ 0
+      → ◌≡◌ {A = Pass} (record { number = number; file = as_file p.content }) (record { number = number; file = new_file kind })
+  fresh_pass p number shows same none =
+      ap (λ (x : File). record { number = number; file = x }) (ap as_file shows ∙ (as_file_again (file_of f) ∙ fresh_file same none))
+
+module _ {B L : Type 0} (book : TableId) (geometry : Geometry) (number : ℕ) (a a1 a2 : FileView) (was : IsCell {B = B} {L = L} book geometry number a None) (h : HandView) (k : Entry)
+    (token : k ≡ bare_entry number number) (hand : h ≡ record { book = book; tickets = []; tokens = k ∷ [] }) (full : a1 ≡ refilled h a)
+    (f : FileState B L) (note : a2 ≡ record a1 { content = Some (as_content (file_of f)) }) where
+  both : a2 ≡ record (refilled h a) { content = Some (as_content (file_of f)) }
+  both = note ∙ ap (λ (x : FileView). record x { content = Some (as_content (file_of f)) }) full
+
+  tickets_born : a2.tickets ≡ []
+  tickets_born = ap (λ (x : FileView). x.tickets) both ∙ (ap (λ xs. xs ++ h.tickets) was.keeps.0 ∙ ap (λ (x : HandView). x.tickets) hand)
+
+  tokens_born : a2.tokens ≡ k ∷ []
+  tokens_born = ap (λ (x : FileView). x.tokens) both ∙ (ap (λ xs. xs ++ h.tokens) was.keeps.1 ∙ ap (λ (x : HandView). x.tokens) hand)
+
+  pub cell_born : 0 < number → f.shape ≡ geometry.shape → f.token ≡ k → f.length ≡ 0 → (inode_of f).dirty ≡ true → IsBare f → IsFile f → IsCell book geometry number a2 (Some f)
+  cell_born some shape own none marked bare is = record {
+    book_is = ap (λ (x : FileView). x.book) both ∙ was.book_is;
+    inode_is = ap (λ (x : FileView). x.inode) both ∙ was.inode_is;
+    keeps = (
+      record {
+        stored = stored_new f k own bare is none (let n = ap (λ (e : Entry). e.number) token in omega arith);
+        shape_is = shape;
+        law = law_new geometry.files f bare marked (own ∙ (token ∙ ap (λ n. bare_entry n n) (sym numbered)));
+        useful = useful_bare f bare;
+        lodged = in_hand_new f k own bare (record { book = book; tickets = a2.tickets; tokens = a2.tokens }) tickets_born tokens_born;
+      },
+      numbered,
+      ap (λ (x : FileView). x.content) both,
+    );
+  }
+    where
+      numbered : f.token.number ≡ number
+      numbered = ap (λ (e : Entry). e.number) (own ∙ token)

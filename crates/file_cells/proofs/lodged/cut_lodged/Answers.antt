@@ -1,0 +1,45 @@
+use Rattle.std.proofs.Common.{ap, sym, ◌∙◌}
+use Rattle.claims.specs.Rules.{Ruled}
+use Rattle.books.specs.declared.claim.Layout.{Layout}
+use Rattle.books.specs.Accounts.{FileView, HandView}
+use Rattle.nodes.specs.Held.{no_others}
+use Rattle.file_cells.proofs.Lodging.{taken, in_hand, home_again, account_kept, lodged_again}
+use Rattle.file_cells.proofs.lodged.cut_lodged.Goals as goal
+
+pub cut_blocks-requires-clause-book : goal.cut_blocks-requires-clause-book
+cut_blocks-requires-clause-book g c =
+    let a = c.args.account.now in
+    let h = c.args.hand.now in
+    ap (λ (v : HandView). v.book) (taken g.V.Books.BooksName.books.book a a a h c.unlodge_all.new.permit h h c.requires.hand c.unlodge_all.ensures.permit)
+
+pub cut_blocks-requires-clause-held : goal.cut_blocks-requires-clause-held
+cut_blocks-requires-clause-held g c =
+    let a = c.args.account.now in
+    let h = c.args.hand.now in
+    (no_others, in_hand g.V.Books.BooksName.books.book a a a h c.unlodge_all.new.permit h h c.requires.hand c.args.file.now c.unlodge_all.ensures.permit c.requires.lodged.lodged)
+
+pub lodge_all-requires : goal.lodge_all-requires
+lodge_all-requires g c =
+    let a = c.args.account.now in
+    let h = c.args.hand.now in
+    let here = ap (λ (v : HandView). v.book) (taken g.V.Books.BooksName.books.book a a a h c.unlodge_all.new.permit h h c.requires.hand c.unlodge_all.ensures.permit) in
+    let books = sym (ap (λ (b : Ruled Layout). b.book) c.books-2.ensures.books) in
+    record { books = (ap (λ (v : FileView). v.book) c.unlodge_all.ensures.file ∙ c.requires.book ∙ books, c.cut_blocks.ensures.serves.book ∙ here ∙ books) }
+
+pub returns-clause-lodged : goal.returns-clause-lodged
+returns-clause-lodged g c =
+    let h = c.args.hand.now in
+    lodged_again g.V.Books.BooksName.books.book c.args.account.now c.unlodge_all.new.file c.lodge_all.new.file h c.unlodge_all.new.permit c.cut_blocks.new.hand h c.requires.hand
+    g.V.Numbers.GeometryName.geometry c.args.file.now c.cut_blocks.new.file c.requires.lodged c.unlodge_all.ensures.file c.lodge_all.ensures.file c.unlodge_all.ensures.permit c.cut_blocks.ensures.serves c.cut_blocks.ensures.law (c.cut_blocks.ensures.useful c.requires.lodged.useful)
+
+pub returns-clause-account : goal.returns-clause-account
+returns-clause-account g c =
+    let h = c.args.hand.now in
+    account_kept g.V.Books.BooksName.books.book c.args.account.now c.unlodge_all.new.file c.lodge_all.new.file h c.unlodge_all.new.permit c.cut_blocks.new.hand h c.requires.hand
+    c.unlodge_all.ensures.file c.lodge_all.ensures.file
+
+pub returns-clause-hand : goal.returns-clause-hand
+returns-clause-hand g c =
+    let h = c.args.hand.now in
+    home_again g.V.Books.BooksName.books.book c.args.account.now c.unlodge_all.new.file c.lodge_all.new.file h c.unlodge_all.new.permit c.cut_blocks.new.hand c.lodge_all.new.permit c.requires.hand
+    c.unlodge_all.ensures.permit c.cut_blocks.ensures.serves.book c.lodge_all.ensures.permit

@@ -1,0 +1,126 @@
+//! A file comes into its lock, and goes out of it.
+ghost use Rattle.std.specs.Prelude.{◌≡◌, ◌<◌, ◌≤◌, ◌∷◌, [], None, Some, IfOk, IfErr};
+ghost use Rattle.geometry.specs.declared.error.Error.TheVariants.{NoMemory};
+ghost use Rattle.geometry.specs.File.{new_file};
+ghost use Rattle.books.specs.Contents.{as_content};
+ghost use Rattle.books.specs.Rules.{bare_entry};
+ghost use Rattle.nodes.specs.File.{file_of};
+ghost use Rattle.turnstile.specs.Turns.{at_home};
+ghost use Rattle.file_cells.specs.Cell.{IsCell};
+
+use crate::cell::FileCell;
+use crate::pass::FilePass;
+use books::{Books, FileAccount, Noted, PassAccount, Permit};
+use device::Block;
+use geometry::{Error, Kind};
+use names::VolumeName;
+use nodes::FileState;
+use shared_area::MainArea;
+use shared_files::{give_node, give_up};
+use std::alloc::Global;
+use std::marker::{Brand, PhantomData};
+use std::sync::Wait;
+use tickets::NidToken;
+
+impl<V: VolumeName, B: Block + Drop> FileCell<V, B> {
+    /// What lies in a lock: an account with what it has lodged.
+    pub fn of(number: u32, account: FileAccount, state: Option<FileState<B>>) -> FileCell<V, B>
+        requires { IsCell V.Books.books.book V.Numbers.geometry number account state }
+        ensures number { result.number ≡ number }
+        ensures account { result.account ≡ account }
+    {
+        FileCell {
+            number,
+            account,
+            state,
+            volume: PhantomData,
+        }
+    }
+
+    /// A file without blocks comes into its lock, with the token of its inode, which is in hand: its pass.
+    ///
+    /// The only error is NoMemory, where a growth was refused; then the token is given back.
+    pub fn begin<R: Wait>(
+        &mut self,
+        rt: &R,
+        alloc: Global,
+        area: &MainArea<V, B>,
+        hand: &mut Permit,
+        kind: Kind,
+        token: NidToken,
+    ) -> Result<FilePass<V>, Error>
+        requires token { token ≡ bare_entry self.old.number self.old.number }
+        requires some { 0 < self.old.number }
+        requires within { self.old.number ≤ V.Numbers.geometry.files }
+        requires hand { hand.old ≡ record { book = V.Books.books.book; tickets = []; tokens = token ∷ [] } }
+        ensures pass { IfOk result (λ pass. pass ≡ record { number = self.old.number; file = new_file kind }) }
+        ensures hand { hand.new ≡ at_home V.Books.books.book }
+        ensures number { self.new.number ≡ self.old.number }
+        ensures error { IfErr result (λ error. error ≡ NoMemory) }
+    {
+        if self.state.is_some() {
+            // The file that has a number has its token, which is in hand here. So this is not reached.
+            for _ in rt.forever() {}
+            unreachable!();
+        }
+        match FileState::new(alloc, area.geometry().shape, kind, token) {
+            Ok(file) => {
+                area.books().lodge_all(&mut self.account, hand);
+                let account = issue_file::<B, Brand>(area.books(), &mut self.account, &file);
+                let pass = FilePass::of(self.number, 0, account);
+                match self.state.replace(file) {
+                    None => Ok(pass),
+                    Some(_) => unreachable!(),
+                }
+            }
+            Err(token) => {
+                give_node(rt, area, hand, token);
+                Err(Error::NoMemory)
+            }
+        }
+    }
+
+    /// Spends the pass, and gives up the file with all that it has, its inode's number too. It is never refused.
+    pub fn end<R: Wait>(
+        &mut self,
+        rt: &R,
+        area: &MainArea<V, B>,
+        hand: &mut Permit,
+        pass: FilePass<V>,
+    )
+        requires hand { hand.old ≡ at_home V.Books.books.book }
+        requires number { self.old.number ≡ pass.number }
+        ensures hand { hand.new ≡ hand.old }
+        ensures number { self.new.number ≡ self.old.number }
+        ensures none { self.new.account.content ≡ None }
+    {
+        let FilePass {
+            number: _,
+            length: _,
+            account: spent,
+            volume: _,
+        } = pass;
+        area.books().spend(&mut self.account, spent);
+        area.books().unlodge_all(&mut self.account, hand);
+        match self.state.take() {
+            Some(file) => give_up(rt, area, hand, file),
+            None => unreachable!(),
+        }
+    }
+}
+
+// Makes the pass of a file that none is out for, which shows what the file is.
+fn issue_file<B: Block, N: Noted>(
+    books: &Books,
+    account: &mut FileAccount,
+    file: &FileState<B>,
+) -> PassAccount
+    requires book { account.old.book ≡ books.now.book }
+    requires none { account.old.content ≡ None }
+    requires noted { N.content ≡ as_content (file_of file.now) }
+    ensures account { account.new ≡ record account.old { content = Some (as_content (file_of file.now)) } }
+    ensures pass { result ≡ record { book = account.old.book; inode = account.old.inode; content = as_content (file_of file.now) } }
+{
+    let _ = file;
+    books.issue::<N>(account)
+}

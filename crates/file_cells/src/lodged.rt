@@ -1,0 +1,92 @@
+//! A call works on a file whose tickets and tokens are lodged in its account: it has them in hand meanwhile, and lodges them
+//! again.
+ghost use Rattle.std.specs.Prelude.{◌≡◌, ◌<◌, ◌⊎◌, Some, length, OnOk, OnErr, IfErr};
+ghost use Rattle.geometry.specs.declared.error.Error.TheVariants.{NoMemory, NoNode, NoSpace, Device};
+ghost use Rattle.geometry.specs.File.{written, cut_to};
+ghost use Rattle.geometry.specs.Path.{largest_length};
+ghost use Rattle.geometry.specs.Shape.{block_bytes};
+ghost use Rattle.books.specs.Contents.{as_content};
+ghost use Rattle.nodes.specs.File.{file_of};
+ghost use Rattle.turnstile.specs.Turns.{at_home};
+ghost use Rattle.file_cells.specs.Cell.{IsLodged};
+
+use books::{Books, FileAccount, Noted, PassAccount, Permit};
+use device::Block;
+use geometry::Error;
+use names::VolumeName;
+use nodes::FileState;
+use shared_area::MainArea;
+use shared_files::{cut_blocks, give_up, write_block};
+use std::alloc::Global;
+use std::sync::Wait;
+
+// Writes a block of a file, as `write_block` does.
+pub(crate) fn write_lodged<V: VolumeName, B: Block + Drop, R: Wait>(
+    rt: &R,
+    alloc: Global,
+    area: &MainArea<V, B>,
+    hand: &mut Permit,
+    account: &mut FileAccount,
+    file: &mut FileState<B>,
+    index: u32,
+    bytes: &[u8],
+    now: u64,
+) -> Result<(), Error>
+    requires hand { hand.old ≡ at_home V.Books.books.book }
+    requires book { account.old.book ≡ V.Books.books.book }
+    requires inside { index < largest_length V.Numbers.geometry.shape }
+    requires bytes { length bytes.now ≡ block_bytes V.Numbers.geometry.shape }
+    requires lodged { IsLodged V.Numbers.geometry account.old file.old }
+    ensures lodged { IsLodged V.Numbers.geometry account.new file.new }
+    ensures number { file.new.token.number ≡ file.old.token.number }
+    ensures account { (account.new.book ≡ account.old.book) × (account.new.inode ≡ account.old.inode) × (account.new.content ≡ account.old.content) }
+    ensures hand { hand.new ≡ hand.old }
+    ensures file { OnOk result (file_of file.new ≡ written (file_of file.old) index bytes.now) }
+    ensures err { OnErr result (file.new ≡ file.old) }
+    ensures error { IfErr result (λ error. (error ≡ NoMemory) ⊎ ((error ≡ NoNode) ⊎ ((error ≡ NoSpace) ⊎ (error ≡ Device)))) }
+{
+    area.books().unlodge_all(account, hand);
+    let done = write_block(rt, alloc, area, hand, file, index, bytes, now);
+    area.books().lodge_all(account, hand);
+    done
+}
+
+// Cuts a file, as `cut_blocks` does.
+pub(crate) fn cut_lodged<V: VolumeName, B: Block + Drop, R: Wait>(
+    rt: &R,
+    area: &MainArea<V, B>,
+    hand: &mut Permit,
+    account: &mut FileAccount,
+    file: &mut FileState<B>,
+    length: u32,
+)
+    requires hand { hand.old ≡ at_home V.Books.books.book }
+    requires book { account.old.book ≡ V.Books.books.book }
+    requires lodged { IsLodged V.Numbers.geometry account.old file.old }
+    ensures lodged { IsLodged V.Numbers.geometry account.new file.new }
+    ensures number { file.new.token.number ≡ file.old.token.number }
+    ensures account { (account.new.book ≡ account.old.book) × (account.new.inode ≡ account.old.inode) × (account.new.content ≡ account.old.content) }
+    ensures hand { hand.new ≡ hand.old }
+    ensures file { file_of file.new ≡ cut_to (file_of file.old) length }
+{
+    area.books().unlodge_all(account, hand);
+    cut_blocks(rt, area, hand, file, length);
+    area.books().lodge_all(account, hand);
+}
+
+// Notes in the account and in the pass what the file is.
+pub(crate) fn note_file<B: Block, N: Noted>(
+    books: &Books,
+    account: &mut FileAccount,
+    pass: &mut PassAccount,
+    file: &FileState<B>,
+)
+    requires books { (account.old.book ≡ books.now.book) × (pass.old.book ≡ books.now.book) }
+    requires inode { account.old.inode ≡ pass.old.inode }
+    requires noted { N.content ≡ as_content (file_of file.now) }
+    ensures account { account.new ≡ record account.old { content = Some (as_content (file_of file.now)) } }
+    ensures pass { pass.new ≡ record pass.old { content = as_content (file_of file.now) } }
+{
+    let _ = file;
+    books.note::<N>(account, pass);
+}

@@ -1,0 +1,5 @@
+pub mod Names
+pub mod Serving
+pub mod Beside
+pub mod Lawful
+pub mod Born
