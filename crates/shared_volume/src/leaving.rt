@@ -53,7 +53,7 @@ impl<V: VolumeName, M: Meta, B: Block + Drop> Volume<V, M, B> {
                 passes,
                 error,
             }),
-            None => Ok(self.into_device(rt)),
+            None => Ok(self.discard(rt)),
         }
     }
 
@@ -83,8 +83,9 @@ impl<V: VolumeName, M: Meta, B: Block + Drop> Volume<V, M, B> {
         count
     }
 
-    // The device, with all blocks of all files.
-    fn into_device<R: Wait>(self, rt: &R) -> Parts<M, B>
+    /// Ends the volume as a power cut would, with no seat and no pass asked for, and writes nothing: the parts of the device,
+    /// whose blocks hold what was written last. For who has lost a pass, or gives a volume up after an error. It takes no memory.
+    pub fn discard<R: Wait>(self, rt: &R) -> Parts<M, B>
         ensures { HasSize M.seen B.address_of B.content_of V.Numbers.geometry result }
     {
         let Volume {
