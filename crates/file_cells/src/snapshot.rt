@@ -1,5 +1,5 @@
 //! A snapshot of the file in its lock.
-ghost use Rattle.std.specs.Prelude.{◌≡◌, ◌⊎◌, [], IfOk, IfErr};
+ghost use Rattle.std.specs.Prelude.{◌≡◌, ◌⊎◌, IfOk, IfErr};
 ghost use Rattle.geometry.specs.declared.error.Error.TheVariants.{NoMemory, Device};
 ghost use Rattle.readers.specs.Reader.{IsPinned};
 
@@ -28,7 +28,6 @@ impl<V: VolumeName, B: Block + Drop> FileCell<V, B> {
         seat: Seat<V>,
     ) -> Result<Reader<'a, V, B>, (Seat<V>, Error)>
         requires number { self.old.number ≡ pass.now.number }
-        requires seat { seat.held ≡ [] }
         ensures file { IfOk result (λ reader. reader.file ≡ pass.now.file) }
         ensures pins { IfOk result (λ reader. IsPinned reader) }
         ensures seat { IfErr result (λ refused. refused.0 ≡ seat) }

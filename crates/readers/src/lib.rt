@@ -2,6 +2,7 @@
 //! file's segments in their incarnation until it is closed.
 #![tactic(auto)]
 
+mod holder;
 mod reader;
 mod seat;
 mod status;

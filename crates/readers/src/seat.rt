@@ -1,29 +1,24 @@
 //! The rights to hold snapshots.
-ghost use Rattle.std.specs.Prelude.{◌≡◌, ◌-◌, ◌<◌, ℕ, length, replicate, vec_len, IfOk, IfErr};
+ghost use Rattle.std.specs.Prelude.{◌≡◌, ◌-◌, [], length, replicate, vec_len, IfOk, IfErr};
 ghost use Rattle.geometry.specs.declared.error.Error.TheVariants.{NoMemory};
-ghost use Rattle.words.specs.Claims.{times, fresh_pins};
-ghost use Rattle.words.specs.Steps.{pins_with, pins_without};
+ghost use Rattle.words.specs.Claims.{fresh_pins};
 ghost use Rattle.words.specs.Tokens.{fresh_holder};
-ghost use Rattle.sit.specs.Pinned.{HasBlockIn};
 
-use books::FileAccount;
-use device::Block;
+use crate::holder::Holder;
 use geometry::Error;
 use names::VolumeName;
-use shared_area::{MainArea, SegmentCell};
 use std::alloc::Global;
-use std::marker::{Model, PhantomData};
-use words::Words;
+use std::marker::Model;
 
 /// How many seats a volume has.
 const SEATS: usize = 64;
 
-/// The right to hold one snapshot of the volume of this name, which has 64. To contracts it is the pins that it holds, none
-/// while no snapshot is held. Closing the volume asks for all of them.
+/// The right to hold one snapshot of the volume of this name, which has 64. It holds no pin: while a snapshot is held, its
+/// seat lies in the snapshot. To contracts it is what a reader's seat of the words is. Closing the volume asks for all of
+/// them.
 #[derive(Drop)]
 pub struct Seat<V: VolumeName> {
-    seat: words::Seat,
-    volume: PhantomData<V>,
+    pub(crate) holder: Holder<V>,
 }
 
 impl<V: VolumeName> Model for Seat<V> {
@@ -31,50 +26,23 @@ impl<V: VolumeName> Model for Seat<V> {
 
     ghost Value = { Pins };
 
-    ghost use Rattle.std.specs.Prelude.{◌≡◌};
+    ghost use Rattle.std.specs.Prelude.{◌≡◌, []};
 
-    ghost view = { λ s. s.seat.pins };
+    ghost view = { λ s. s.holder };
 
-    ghost invariant = { λ s. s.seat.table ≡ V.Words.words };
+    ghost invariant = { λ s. s.holder.held ≡ [] };
 }
 
 impl<V: VolumeName> Seat<V> {
-    /// A reader's seat of the words, by the volume's name.
+    /// A reader's seat of the words that holds no pin, by the volume's name.
     pub fn new(seat: words::Seat) -> Seat<V>
-        requires { seat.table ≡ V.Words.words }
+        requires table { seat.table ≡ V.Words.words }
+        requires none { seat.pins.held ≡ [] }
         ensures { result ≡ seat.pins }
     {
         Seat {
-            seat,
-            volume: PhantomData,
+            holder: Holder::new(seat),
         }
-    }
-
-    // Pins a segment whose lock is held, and in which a block lies whose ticket is lodged in the file.
-    pub(crate) fn pin<B: Block + Drop>(
-        &mut self,
-        area: &MainArea<V, B>,
-        cell: &mut SegmentCell<V, B>,
-        file: &mut FileAccount,
-    )
-        requires book { file.old.book ≡ V.Books.books.book }
-        requires lodged { HasBlockIn cell.old.state.segment file.old.tickets }
-        requires once { times cell.old.number self.old.held ≡ 0 }
-        ensures pins { (incarnation : ℕ) × (self.new ≡ pins_with self.old cell.old.number incarnation) }
-        ensures file { file.new ≡ file.old }
-    {
-        cell.state
-            .pin(area.books(), area.words(), file, &mut self.seat);
-    }
-
-    // Lets go of its pin on a segment.
-    pub(crate) fn unpin(&mut self, words: &Words, segment: u32)
-        requires words { words.now.table ≡ V.Words.words }
-        requires within { segment < words.now.segments }
-        requires pinned { 0 < times segment self.old.held }
-        ensures { self.new ≡ pins_without self.old segment }
-    {
-        words.unpin(&mut self.seat, segment);
     }
 }
 

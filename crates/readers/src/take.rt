@@ -16,6 +16,7 @@ ghost use Rattle.readers.specs.Reader.{IsPinned, segments_of};
 ghost use Rattle.readers.specs.Law.{AreLent, ArePins, AreCovered};
 ghost use Rattle.shared_files.specs.Contents.{AreWhole};
 
+use crate::holder::Holder;
 use crate::reader::Reader;
 use crate::seat::Seat;
 use books::FileAccount;
@@ -49,7 +50,6 @@ pub fn take_reader<'a, V: VolumeName, B: Block + Drop, R: Wait>(
     requires whole { AreWhole (block_bytes file.old.shape) (ticket_at file.old) }
     requires book { account.old.book ≡ V.Books.books.book }
     requires lodged { AreHeld file.old account.old.tickets account.old.tokens }
-    requires seat { seat.held ≡ [] }
     ensures file { IfOk result (λ reader. reader.file ≡ file_of file.old) }
     ensures segments { IfOk result (λ reader. reader.segments ≡ segments_of file.old) }
     ensures pins { IfOk result (λ reader. IsPinned reader) }
@@ -59,7 +59,7 @@ pub fn take_reader<'a, V: VolumeName, B: Block + Drop, R: Wait>(
 {
     match prepare(alloc, area, file) {
         Ok((leases, mut pinned)) => {
-            let mut seat = seat;
+            let Seat { holder: mut seat } = seat;
             pin_all(rt, area, file, account, &mut seat, &mut pinned);
             Ok(Reader {
                 words: area.words(),
@@ -125,7 +125,7 @@ fn pin_all<V: VolumeName, B: Block + Drop, R: Wait>(
     area: &MainArea<V, B>,
     file: &FileState<B>,
     account: &mut FileAccount,
-    seat: &mut Seat<V>,
+    seat: &mut Holder<V>,
     pinned: &mut [bool],
 )
     requires file { IsFile file.now }
@@ -156,7 +156,7 @@ fn pin_segment<V: VolumeName, B: Block + Drop, R: Wait>(
     rt: &R,
     area: &MainArea<V, B>,
     account: &mut FileAccount,
-    seat: &mut Seat<V>,
+    seat: &mut Holder<V>,
     segment: u32,
 )
     requires within { segment < V.Numbers.geometry.segments }

@@ -1,5 +1,5 @@
 //! The calls that look at the volume and change nothing in it.
-ghost use Rattle.std.specs.Prelude.{◌≡◌, ◌⊎◌, [], IfOk, IfErr};
+ghost use Rattle.std.specs.Prelude.{◌≡◌, ◌⊎◌, IfOk, IfErr};
 ghost use Rattle.geometry.specs.declared.error.Error.TheVariants.{NoMemory, Device};
 ghost use Rattle.readers.specs.Reader.{IsPinned};
 ghost use Rattle.readers.specs.Status.{all};
@@ -24,7 +24,6 @@ impl<V: VolumeName, M: Meta, B: Block + Drop> Volume<V, M, B> {
         pass: &FilePass<V>,
         seat: Seat<V>,
     ) -> Result<Reader<'_, V, B>, (Seat<V>, Error)>
-        requires seat { seat.held ≡ [] }
         ensures file { IfOk result (λ reader. reader.file ≡ pass.now.file) }
         ensures pins { IfOk result (λ reader. IsPinned reader) }
         ensures seat { IfErr result (λ refused. refused.0 ≡ seat) }

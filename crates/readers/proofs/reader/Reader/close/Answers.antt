@@ -18,6 +18,11 @@ loop-segment-preserved g c =
           subst (λ (p : Pins). AreLetGo xs (k + 1) p.held) (sym w.seat-is) (let_go_kept xs k old.held c.loop-segment.invariant (read ∙ w.if-index.false))
     ]
 
+pub invariant_of-result : goal.invariant_of-result
+invariant_of-result g c =
+    let xs = c.self.inside.pinned.items in
+    let_go_all xs c.loop-segment.segment c.loop-segment.seat.held (let e = c.len-segment-end.ensures in let t = c.loop-segment-test.false in omega arith) c.loop-segment.invariant
+
 pub returns : goal.returns
 returns g c =
     let xs = c.self.inside.pinned.items in
