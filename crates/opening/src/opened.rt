@@ -8,12 +8,12 @@ use crate::frames::VolumeFrames;
 use crate::tables::Tables;
 use device::{Block, Meta, Parts};
 use names::{BooksName, GeometryName, Named, PoolName, TurnName, WordsName};
+use readers::{Seat, name_seats};
 use shared_volume::{PacksCell, SpareCell, Volume};
 use std::alloc::Global;
 use std::marker::PhantomData;
 use std::sync::Wait;
 use turnstile::OpenedTurnstile;
-use words::Seat;
 
 /// The parts of a device and the tables of a volume, of which the type names the books, the words and the numbers.
 pub struct NamedTables<L: BooksName, W: WordsName, N: GeometryName, M: Meta, B: Block + Drop> {
@@ -44,7 +44,13 @@ impl<L: BooksName, W: WordsName, N: GeometryName, M: Meta, B: Block + Drop> Open
     pub fn name<P: PoolName, T: TurnName, R: Wait>(
         self,
         rt: &R,
-    ) -> Result<(Volume<Named<L, W, P, T, N>, M, B>, Vec<Seat>), OpenFault<M, B>>
+    ) -> Result<
+        (
+            Volume<Named<L, W, P, T, N>, M, B>,
+            Vec<Seat<Named<L, W, P, T, N>>>,
+        ),
+        OpenFault<M, B>,
+    >
         requires ordinary { self.queues.ordinary ≡ P.ordinary }
         requires reserve { self.queues.reserve ≡ P.reserve }
         requires turns { self.channel.turns ≡ T.turns }
@@ -77,6 +83,10 @@ impl<L: BooksName, W: WordsName, N: GeometryName, M: Meta, B: Block + Drop> Open
             rights,
             free,
         } = tables;
+        let seats = match name_seats(alloc, seats) {
+            Ok(seats) => seats,
+            Err(error) => return Err(OpenFault { parts, error }),
+        };
         let frames = match VolumeFrames::new(alloc, &geometry, shards, files) {
             Ok(frames) => frames,
             Err(error) => return Err(OpenFault { parts, error }),

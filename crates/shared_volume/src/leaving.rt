@@ -1,5 +1,5 @@
 //! How a volume is left.
-ghost use Rattle.std.specs.Prelude.{◌≡◌, ◌≤◌, vec_len, vec_capacity, IfOk, IfErr, IfSome};
+ghost use Rattle.std.specs.Prelude.{◌≡◌, ◌≤◌, length, vec_len, vec_capacity, IfOk, IfErr, IfSome};
 ghost use Rattle.device.specs.Parts.{HasSize};
 ghost use Rattle.emptying.specs.Rows.{HaveNothing};
 ghost use Rattle.turnstile.specs.Turns.{at_home};
@@ -13,16 +13,14 @@ use emptying::empty_area;
 use file_cells::{FileCell, FilePass};
 use geometry::Error;
 use names::VolumeName;
+use readers::{Seat, seats_out};
 use shared_area::MainArea;
 use std::sync::{Mutex, Wait};
-use words::Seat;
-
-const SEATS: usize = 64;
 
 /// Why a volume was not left, with all that was handed in.
 pub struct CloseFault<V: VolumeName, M: Meta, B: Block + Drop> {
     pub volume: Volume<V, M, B>,
-    pub seats: Vec<Seat>,
+    pub seats: Vec<Seat<V>>,
     pub passes: Vec<FilePass<V>>,
     pub error: Error,
 }
@@ -36,7 +34,7 @@ impl<V: VolumeName, M: Meta, B: Block + Drop> Volume<V, M, B> {
     pub fn abandon<R: Wait>(
         self,
         rt: &R,
-        seats: Vec<Seat>,
+        seats: Vec<Seat<V>>,
         passes: Vec<FilePass<V>>,
     ) -> Result<Parts<M, B>, CloseFault<V, M, B>>
         ensures size { IfOk result (λ parts. HasSize M.seen B.address_of B.content_of V.Numbers.geometry parts) }
@@ -46,7 +44,7 @@ impl<V: VolumeName, M: Meta, B: Block + Drop> Volume<V, M, B> {
         ensures passes { IfErr result (λ fault. fault.passes.items ≡ passes.items) }
         ensures error { IfErr result (λ fault. IsLeftOut (vec_len seats) fault.error) }
     {
-        match self.find_missing(rt, seats.len(), passes.len()) {
+        match self.find_missing(rt, seats.as_slice(), passes.len()) {
             Some(error) => Err(CloseFault {
                 volume: self,
                 seats,
@@ -57,19 +55,19 @@ impl<V: VolumeName, M: Meta, B: Block + Drop> Volume<V, M, B> {
         }
     }
 
-    // What is missing of so many seats and passes.
-    fn find_missing<R: Wait>(&self, rt: &R, seats: usize, passes: usize) -> Option<Error>
-        ensures some { IfSome result (λ error. IsLeftOut seats error) }
-        ensures none { result ≡ None → 64 ≤ seats }
+    // What is missing beside these seats and so many passes.
+    fn find_missing<R: Wait>(&self, rt: &R, seats: &[Seat<V>], passes: usize) -> Option<Error>
+        ensures some { IfSome result (λ error. IsLeftOut (length seats.now) error) }
+        ensures none { result ≡ None → 64 ≤ length seats.now }
     {
         let files = self.count_files(rt) as usize;
         if passes < files {
             return Some(Error::PassesOut((files - passes) as u32));
         }
-        if seats < SEATS {
-            return Some(Error::SeatsOut((SEATS - seats) as u32));
+        match seats_out(seats) {
+            0 => None,
+            missing => Some(Error::SeatsOut(missing)),
         }
-        None
     }
 
     // How many files there are.
