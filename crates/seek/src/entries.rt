@@ -1,5 +1,5 @@
 //! What is found below the entries of a node, one after another.
-ghost use Rattle.std.specs.Prelude.{Bool, ℕ, ◌+◌, ◌≡◌, ◌*◌, ◌^◌, ◌<◌, true, false, None, IsTrue, ◌↔◌, map, slice_set, slice_index_or, length, IfSome, IfOk, IfErr};
+ghost use Rattle.std.specs.Prelude.{Bool, ℕ, ◌+◌, ◌≡◌, ◌*◌, ◌%◌, ◌^◌, ◌<◌, true, false, Some, None, IsTrue, ◌↔◌, map, slice_set, slice_index_or, length, IfSome, IfOk, IfErr};
 ghost use Rattle.sums.specs.Weights.{weigh};
 ghost use Rattle.books.specs.declared.claim.Entry.{Entry};
 ghost use Rattle.tree.specs.Tree.{Same, ShapedIn, UsefulIn, AreNone, entry_at, find_in, number_of};
@@ -20,7 +20,8 @@ pub fn is_named_at<C: Subtree>(below: &Entries<C>, at: usize, number: u32) -> bo
     at < below.slots.len() && C::entry(&below.slots[at]) == number
 }
 
-/// The index of the block whose address `from` a node of this number has at its entry `at`, below these entries.
+/// The index of the block whose address `from` a node of this number has at its entry `at`, below these entries: that node
+/// names the index, by its entry `at`.
 pub fn index_in<C: Seek>(
     below: &Entries<C>,
     count: usize,
@@ -36,6 +37,8 @@ pub fn index_in<C: Seek>(
     requires shaped { ShapedIn (C.shaped entries) count below.now.slots.items }
     ensures within { IfSome result (λ index. index < count * C.span_of entries) }
     ensures there { IfSome result (λ index. number_of C.address_of (find_in (C.find entries) (C.span_of entries) below.now.slots.items index) ≡ from) }
+    ensures namer { IfSome result (λ index. find_in (C.namer entries) (C.span_of entries) below.now.slots.items index ≡ Some nid) }
+    ensures entry { IfSome result (λ index. (before : ℕ) → (before * C.span_of entries + index) % entries ≡ at) }
     ensures elsewhere { result ≡ None → weigh (C.weight (each_naming nid at from)) below.now.slots.items ≡ 0 }
 {
     for place in 0..count {

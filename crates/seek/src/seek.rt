@@ -1,5 +1,5 @@
 //! What is found below one entry.
-ghost use Rattle.std.specs.Prelude.{Bool, ℕ, ◌≡◌, ◌^◌, ◌<◌, true, false, None, IfSome, OnOk, OnErr, IfOk, IfErr};
+ghost use Rattle.std.specs.Prelude.{Bool, ℕ, ◌≡◌, ◌+◌, ◌*◌, ◌%◌, ◌^◌, ◌<◌, true, false, Some, None, IfSome, OnOk, OnErr, IfOk, IfErr};
 ghost use Rattle.books.specs.declared.claim.Entry.{Entry};
 ghost use Rattle.tree.specs.Tree.{Same, number_of};
 ghost use Rattle.tree.specs.Change.{TreeNode, each_naming};
@@ -15,8 +15,8 @@ use tree::{Branch, Subtree};
 
 /// A tree in which nodes and blocks can be looked for.
 pub trait Seek: Subtree {
-    /// The index of the block whose address `from` a node of this number has at its entry `at`. None: no such node has it
-    /// there.
+    /// The index of the block whose address `from` a node of this number has at its entry `at`: that node names the index, by
+    /// its entry `at`. None: no such node has it there.
     fn index_of(
         slot: &Option<Self>,
         entries: usize,
@@ -30,6 +30,8 @@ pub trait Seek: Subtree {
         requires shaped { Self.shaped entries slot.now }
         ensures within { IfSome result (λ index. index < Self.span_of entries) }
         ensures there { IfSome result (λ index. number_of Self.address_of (Self.find entries slot.now index) ≡ from) }
+        ensures namer { IfSome result (λ index. Self.namer entries slot.now index ≡ Some nid) }
+        ensures entry { IfSome result (λ index. (before : ℕ) → (before * Self.span_of entries + index) % entries ≡ at) }
         ensures elsewhere { result ≡ None → Self.weight (each_naming nid at from) slot.now ≡ 0 };
 
     /// Lends the token of the node of this number to the visitor. Answers whether there is one. All else stays, and after

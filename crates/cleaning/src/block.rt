@@ -1,0 +1,113 @@
+//! A data block is moved.
+ghost use Rattle.std.specs.Prelude.{◌≡◌, ℕ, ◌<◌, ◌⊎◌, Some, None, length, OnOk, OnErr, IfOk, IfErr};
+ghost use Rattle.geometry.specs.declared.error.Error.TheVariants.{NoSpace, Device};
+ghost use Rattle.geometry.specs.declared.owner.Owner.TheVariants.{Data};
+ghost use Rattle.geometry.specs.Path.{path};
+ghost use Rattle.geometry.specs.Shape.{block_bytes};
+ghost use Rattle.tickets.specs.Placed.{Placed};
+ghost use Rattle.nodes.specs.File.{address_of, ticket_at, file_of};
+ghost use Rattle.nodes.specs.Held.{Others};
+ghost use Rattle.nodes.specs.Owners.{owner_at};
+ghost use Rattle.nodes.specs.Useful.{IsUseful, each_node};
+ghost use Rattle.file_law.specs.Law.{FileStateLaw};
+ghost use Rattle.shared_files.specs.Contents.{IsStored, InHand, Serves};
+ghost use Rattle.cleaning.specs.Moves.{HasMoved, IsGone, MovesAt};
+ghost use Rattle.cleaning.specs.declared.fate.Fate.TheVariants.{Moved, Gone};
+
+use crate::fate::Fate;
+use crate::place::append_elsewhere;
+use books::Permit;
+use device::Block;
+use file_seek::index_of;
+use geometry::{Error, Mark, Owner};
+use names::VolumeName;
+use nodes::FileState;
+use shared_area::{Log, MainArea};
+use std::sync::Wait;
+
+/// Moves a data block of a file, where the node `nid` still names this address at this slot: its bytes are read and appended to
+/// the log of data that cleaning has moved, and the slot gets the new block; the old one is given back. The file stays as
+/// it was, whatever the call answers. `bytes` has room for one block.
+///
+/// Answers Device where the device failed, and NoSpace where the log has no open segment and none is free; then nothing has
+/// changed, and what is in hand is as before.
+pub fn migrate_block<V: VolumeName, B: Block + Drop, R: Wait>(
+    rt: &R,
+    area: &MainArea<V, B>,
+    hand: &mut Permit,
+    file: &mut FileState<B>,
+    address: u32,
+    nid: u32,
+    slot: u32,
+    now: u64,
+    bytes: &mut [u8],
+) -> Result<Fate, Error>
+    requires book { hand.old.book ≡ V.Books.books.book }
+    requires shape { file.old.shape ≡ V.Numbers.geometry.shape }
+    requires address { 0 < address }
+    requires bytes { length bytes.old ≡ block_bytes file.old.shape }
+    requires stored { IsStored file.old }
+    requires law { FileStateLaw V.Numbers.geometry.files file.old }
+    requires held { (others : Others) × InHand others file.old hand.old }
+    ensures serves { Serves file.old file.new hand.old hand.new }
+    ensures law { FileStateLaw V.Numbers.geometry.files file.new }
+    ensures useful { IsUseful each_node file.old → IsUseful each_node file.new }
+    ensures file { file_of file.new ≡ file_of file.old }
+    ensures moved { IfOk result (λ fate. fate ≡ Moved → HasMoved address (Data nid slot) file.old file.new) }
+    ensures gone { IfOk result (λ fate. fate ≡ Gone → IsGone address (Data nid slot) file.old × (file.new ≡ file.old) × (hand.new ≡ hand.old)) }
+    ensures err { OnErr result ((file.new ≡ file.old) × (hand.new ≡ hand.old)) }
+    ensures error { IfErr result (λ error. (error ≡ Device) ⊎ (error ≡ NoSpace)) }
+{
+    match index_of(file, nid, slot, address) {
+        Some(index) => {
+            let owner = Owner::Data(nid, slot);
+            let mark = Mark { address, owner };
+            match move_block(rt, area, hand, file, index, mark, now, bytes) {
+                Ok(()) => Ok(Fate::Moved),
+                Err(error) => Err(error),
+            }
+        }
+        None => Ok(Fate::Gone),
+    }
+}
+
+// Moves the block at an index of a file, which has this mark.
+fn move_block<V: VolumeName, B: Block + Drop, R: Wait>(
+    rt: &R,
+    area: &MainArea<V, B>,
+    hand: &mut Permit,
+    file: &mut FileState<B>,
+    index: u32,
+    mark: Mark,
+    now: u64,
+    bytes: &mut [u8],
+) -> Result<(), Error>
+    requires book { hand.old.book ≡ V.Books.books.book }
+    requires shape { file.old.shape ≡ V.Numbers.geometry.shape }
+    requires inside { index < file.old.length }
+    requires there { address_of (ticket_at file.old index) ≡ mark.address }
+    requires owner { owner_at file.old (path file.old.shape index) ≡ Some mark.owner }
+    requires address { 0 < mark.address }
+    requires bytes { length bytes.old ≡ block_bytes file.old.shape }
+    requires stored { IsStored file.old }
+    requires law { FileStateLaw V.Numbers.geometry.files file.old }
+    requires held { (others : Others) × InHand others file.old hand.old }
+    ensures serves { Serves file.old file.new hand.old hand.new }
+    ensures law { FileStateLaw V.Numbers.geometry.files file.new }
+    ensures useful { IsUseful each_node file.old → IsUseful each_node file.new }
+    ensures file { file_of file.new ≡ file_of file.old }
+    ensures moved { OnOk result ((before : Placed) × (after : Placed) × MovesAt mark file.old file.new index before after) }
+    ensures err { OnErr result ((file.new ≡ file.old) × (hand.new ≡ hand.old)) }
+    ensures error { IfErr result (λ error. (error ≡ Device) ⊎ (error ≡ NoSpace)) }
+{
+    file.read(index, bytes)?;
+    let log = Log::ColdData;
+    let ticket = append_elsewhere(rt, area, hand, log, mark, now, bytes)?;
+    match file.put(index, ticket) {
+        Some(before) => {
+            area.release(rt, hand, before);
+            Ok(())
+        }
+        None => unreachable!(),
+    }
+}

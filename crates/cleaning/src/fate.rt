@@ -1,0 +1,54 @@
+//! What becomes of the blocks that are to be moved.
+ghost use Rattle.std.specs.Prelude.{◌≡◌, ◌+◌, ◌<◌, ◌^◌};
+ghost use Rattle.cleaning.specs.declared.fate.Fate.TheVariants as fates;
+
+/// What became of a valid block of a section that is cleaned.
+#[derive(Clone, Copy, Debug, PartialEq, Eq)]
+pub enum Fate {
+    /// It stands in a log now, and its old place is valid no more.
+    Moved,
+    /// Nobody names it any more as its summary says: it was moved or given back meanwhile.
+    Gone,
+}
+
+/// How many blocks were moved, and how many were gone.
+#[derive(Clone, Copy, Debug, PartialEq, Eq)]
+pub struct Counts {
+    pub moved: u32,
+    pub gone: u32,
+}
+
+impl Counts {
+    /// No block.
+    pub const NONE: Counts = Counts { moved: 0, gone: 0 };
+
+    /// One block more, of this fate.
+    pub fn with(self, fate: Fate) -> Counts
+        requires { self.moved + self.gone + 1 < 2 ^ 32 }
+        ensures moved { fate ≡ fates.Moved → result ≡ record self { moved = self.moved + 1 } }
+        ensures gone { fate ≡ fates.Gone → result ≡ record self { gone = self.gone + 1 } }
+        ensures both { result.moved + result.gone ≡ self.moved + self.gone + 1 }
+    {
+        match fate {
+            Fate::Moved => Counts {
+                moved: self.moved + 1,
+                gone: self.gone,
+            },
+            Fate::Gone => Counts {
+                moved: self.moved,
+                gone: self.gone + 1,
+            },
+        }
+    }
+
+    /// Those of two segments.
+    pub fn plus(self, other: Counts) -> Counts
+        requires { self.moved + self.gone + (other.moved + other.gone) < 2 ^ 32 }
+        ensures { result ≡ record { moved = self.moved + other.moved; gone = self.gone + other.gone } }
+    {
+        Counts {
+            moved: self.moved + other.moved,
+            gone: self.gone + other.gone,
+        }
+    }
+}

@@ -1,0 +1,43 @@
+//! A block that cleaning moves gets a new place.
+ghost use Rattle.std.specs.Prelude.{◌≡◌, ◌≢◌, ◌∷◌, ◌<◌, ◌⊎◌, length, OnErr, IfOk, IfErr};
+ghost use Rattle.geometry.specs.declared.error.Error.TheVariants.{NoSpace, Device};
+ghost use Rattle.geometry.specs.Owner.{IsOwner};
+ghost use Rattle.geometry.specs.Shape.{block_bytes};
+
+use books::Permit;
+use device::Block;
+use geometry::{Error, Mark};
+use names::VolumeName;
+use shared_area::{Log, MainArea, Who};
+use std::sync::Wait;
+use tickets::Ticket;
+
+// Appends a block that has this mark to a log, by the segments that are reserved for cleaning too.
+pub(crate) fn append_elsewhere<V: VolumeName, B: Block + Drop, R: Wait>(
+    rt: &R,
+    area: &MainArea<V, B>,
+    hand: &mut Permit,
+    log: Log,
+    mark: Mark,
+    now: u64,
+    bytes: &[u8],
+) -> Result<Ticket<B>, Error>
+    requires book { hand.old.book ≡ V.Books.books.book }
+    requires owner { IsOwner mark.owner }
+    requires bytes { length bytes.now ≡ block_bytes V.Numbers.geometry.shape }
+    ensures hand { IfOk result (λ ticket. hand.new ≡ record hand.old { tickets = ticket.mark ∷ hand.old.tickets }) }
+    ensures owner { IfOk result (λ ticket. ticket.mark.owner ≡ mark.owner) }
+    ensures content { IfOk result (λ ticket. ticket.content ≡ bytes.now) }
+    ensures some { IfOk result (λ ticket. 0 < ticket.mark.address) }
+    ensures elsewhere { IfOk result (λ ticket. ticket.mark.address ≢ mark.address) }
+    ensures err { OnErr result (hand.new ≡ hand.old) }
+    ensures error { IfErr result (λ error. (error ≡ Device) ⊎ (error ≡ NoSpace)) }
+{
+    let ticket = area.append(rt, hand, log, mark.owner, now, bytes, Who::Reserved)?;
+    if ticket.address() == mark.address {
+        // A log writes no block that is valid, and the one at the address is. So this is not reached.
+        for _ in rt.forever() {}
+        unreachable!();
+    }
+    Ok(ticket)
+}

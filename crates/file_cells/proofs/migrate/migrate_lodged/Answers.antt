@@ -1,0 +1,85 @@
+use Rattle.std.proofs.Common.{ap, sym, ◌∙◌}
+use Rattle.geometry.specs.Shape.{block_bytes}
+use Rattle.claims.specs.Rules.{Ruled}
+use Rattle.books.specs.declared.claim.Layout.{Layout}
+use Rattle.books.specs.Accounts.{FileView, HandView}
+use Rattle.tree.proofs.Results.{if_ok, on_err}
+use Rattle.nodes.specs.File.{weight_of}
+use Rattle.nodes.specs.Held.{no_others}
+use Rattle.file_cells.proofs.Lodging.{taken, in_hand, home_again, account_kept, lodged, lodged_again}
+use Rattle.file_cells.proofs.Moves.{moved_lodged, keeps_lodged}
+use Rattle.file_cells.proofs.migrate.migrate_lodged.Goals as goal
+
+pub migrate-done-requires-clause-book : goal.migrate-done-requires-clause-book
+migrate-done-requires-clause-book g c =
+    let a = c.args.account.now in
+    let h = c.args.hand.now in
+    ap (λ (v : HandView). v.book) (taken g.V.Books.BooksName.books.book a a a h c.unlodge_all.new.permit h h c.requires.hand c.unlodge_all.ensures.permit)
+
+pub migrate-done-requires-clause-held : goal.migrate-done-requires-clause-held
+migrate-done-requires-clause-held g c =
+    let a = c.args.account.now in
+    let h = c.args.hand.now in
+    (no_others, in_hand g.V.Books.BooksName.books.book a a a h c.unlodge_all.new.permit h h c.requires.hand c.args.file.now c.unlodge_all.ensures.permit c.requires.lodged.lodged)
+
+pub lodge_all-requires : goal.lodge_all-requires
+lodge_all-requires g c =
+    let a = c.args.account.now in
+    let h = c.args.hand.now in
+    let here = ap (λ (v : HandView). v.book) (taken g.V.Books.BooksName.books.book a a a h c.unlodge_all.new.permit h h c.requires.hand c.unlodge_all.ensures.permit) in
+    let books = sym (ap (λ (b : Ruled Layout). b.book) c.books-2.ensures.books) in
+    record { books = (ap (λ (v : FileView). v.book) c.unlodge_all.ensures.file ∙ c.requires.book ∙ books, c.migrate-done.ensures.serves.book ∙ here ∙ books) }
+
+pub returns-clause-lodged : goal.returns-clause-lodged
+returns-clause-lodged g c =
+    let h = c.args.hand.now in
+    lodged_again g.V.Books.BooksName.books.book c.args.account.now c.unlodge_all.new.file c.lodge_all.new.file h c.unlodge_all.new.permit c.migrate-done.new.hand h c.requires.hand
+    g.V.Numbers.GeometryName.geometry c.args.file.now c.migrate-done.new.file c.requires.lodged c.unlodge_all.ensures.file c.lodge_all.ensures.file c.unlodge_all.ensures.permit c.migrate-done.ensures.serves c.migrate-done.ensures.law (c.migrate-done.ensures.useful c.requires.lodged.useful)
+
+pub returns-clause-account : goal.returns-clause-account
+returns-clause-account g c =
+    let h = c.args.hand.now in
+    account_kept g.V.Books.BooksName.books.book c.args.account.now c.unlodge_all.new.file c.lodge_all.new.file h c.unlodge_all.new.permit c.migrate-done.new.hand h c.requires.hand
+    c.unlodge_all.ensures.file c.lodge_all.ensures.file
+
+pub returns-clause-hand : goal.returns-clause-hand
+returns-clause-hand g c =
+    let h = c.args.hand.now in
+    home_again g.V.Books.BooksName.books.book c.args.account.now c.unlodge_all.new.file c.lodge_all.new.file h c.unlodge_all.new.permit c.migrate-done.new.hand c.lodge_all.new.permit c.requires.hand
+    c.unlodge_all.ensures.permit c.migrate-done.ensures.serves.book c.lodge_all.ensures.permit
+
+pub migrate-done-requires-clause-bytes : goal.migrate-done-requires-clause-bytes
+migrate-done-requires-clause-bytes g c = c.requires.bytes ∙ ap block_bytes (sym c.requires.lodged.shape_is)
+
+pub returns-clause-moved : goal.returns-clause-moved
+returns-clause-moved g c =
+    let h = c.args.hand.now in
+    let book = g.V.Books.BooksName.books.book in
+    let serves = c.migrate-done.ensures.serves in
+    let now = lodged book c.args.account.now c.unlodge_all.new.file c.lodge_all.new.file h c.unlodge_all.new.permit c.migrate-done.new.hand h c.requires.hand
+    c.migrate-done.new.file c.unlodge_all.ensures.file c.lodge_all.ensures.file
+    (serves.others no_others (in_hand book c.args.account.now c.args.account.now c.args.account.now h c.unlodge_all.new.permit h h c.requires.hand c.args.file.now c.unlodge_all.ensures.permit c.requires.lodged.lodged)) in
+    if_ok c.migrate-done.result c.migrate-done.ensures.moved (λ fate moves is.
+    moved_lodged c.args.file.now c.migrate-done.new.file c.args.account.now c.lodge_all.new.file c.requires.lodged.lodged now c.args.address c.args.owner (moves is))
+
+pub returns-clause-gone : goal.returns-clause-gone
+returns-clause-gone g c =
+    let h = c.args.hand.now in
+    let book = g.V.Books.BooksName.books.book in
+    let serves = c.migrate-done.ensures.serves in
+    let now = lodged book c.args.account.now c.unlodge_all.new.file c.lodge_all.new.file h c.unlodge_all.new.permit c.migrate-done.new.hand h c.requires.hand
+    c.migrate-done.new.file c.unlodge_all.ensures.file c.lodge_all.ensures.file
+    (serves.others no_others (in_hand book c.args.account.now c.args.account.now c.args.account.now h c.unlodge_all.new.permit h h c.requires.hand c.args.file.now c.unlodge_all.ensures.permit c.requires.lodged.lodged)) in
+    if_ok c.migrate-done.result c.migrate-done.ensures.gone (λ fate gone is.
+    keeps_lodged c.args.file.now c.migrate-done.new.file c.args.account.now c.lodge_all.new.file c.requires.lodged.lodged now (gone is).1)
+
+pub returns-clause-err : goal.returns-clause-err
+returns-clause-err g c =
+    let h = c.args.hand.now in
+    let book = g.V.Books.BooksName.books.book in
+    let serves = c.migrate-done.ensures.serves in
+    let now = lodged book c.args.account.now c.unlodge_all.new.file c.lodge_all.new.file h c.unlodge_all.new.permit c.migrate-done.new.hand h c.requires.hand
+    c.migrate-done.new.file c.unlodge_all.ensures.file c.lodge_all.ensures.file
+    (serves.others no_others (in_hand book c.args.account.now c.args.account.now c.args.account.now h c.unlodge_all.new.permit h h c.requires.hand c.args.file.now c.unlodge_all.ensures.permit c.requires.lodged.lodged)) in
+    on_err c.migrate-done.result c.migrate-done.ensures.err (λ same.
+    keeps_lodged c.args.file.now c.migrate-done.new.file c.args.account.now c.lodge_all.new.file c.requires.lodged.lodged now (λ w. ap (λ f. weight_of f w) same.0))
