@@ -3,5 +3,4 @@ pub mod Parts
 pub mod Contents
 pub mod Assembled
 pub mod AssemblyLaw
-pub mod TreeView
 pub mod ShardSlots

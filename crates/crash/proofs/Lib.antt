@@ -2,5 +2,4 @@ pub mod Invariant
 pub mod Keeping
 pub mod Mounting
 pub mod Law
-pub mod Threading
 pub mod CrashExample

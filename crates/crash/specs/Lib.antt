@@ -1,4 +1,3 @@
 pub mod Core
 pub mod Disk
 pub mod Crash
-pub mod Threaded

@@ -28,7 +28,7 @@ impl<B: Block> FileState<B> {
     ghost use Rattle.nodes.specs.Places.{IsPlace};
 
     // The place of an index.
-    pub fn place(&self, index: u32) -> Place
+    pub(crate) fn place(&self, index: u32) -> Place
         requires inside { index < largest_length self.now.shape }
         requires file { IsFile self.now }
         ensures { IsPlace self.now index result }

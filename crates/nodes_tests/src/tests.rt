@@ -443,7 +443,7 @@ fn spare_nodes_leave_no_mark(rt: HostRuntime) {
     );
     assert!(rt; refused == (2, Owner::Data(32, 9)));
     assert!(rt; !file.dirty());
-    assert!(rt; !file.has_path(1222));
+    assert!(rt; file.owner(1222).is_none());
     assert_eq!(rt; file.slot(223), 233);
     let spent = delete(&rt, &books, &mut segment, &mut shard, &mut permit, file);
     assert_eq!(rt; spent, (1, 3));

@@ -152,7 +152,7 @@ fn one_block_marks_one_node(rt: HostRuntime) {
     };
     assert!(rt; flush_all(&mut file, &mut recorder) == Ok(()));
     recorder.lent.clear();
-    assert!(rt; file.has_path(224));
+    assert!(rt; file.owner(224).is_some());
     write(
         &rt,
         rt.alloc(),
