@@ -107,6 +107,29 @@ impl<V: VolumeName, B: Block + Drop> FileCell<V, B> {
             None => unreachable!(),
         }
     }
+
+    /// What is left of a file's lock where the volume is left: its account, with nothing lodged. All that the file has is given
+    /// back, and no pass is asked for.
+    pub fn give_up<R: Wait>(self, rt: &R, area: &MainArea<V, B>, hand: &mut Permit) -> FileAccount
+        requires hand { hand.old ≡ at_home V.Books.books.book }
+        ensures hand { hand.new ≡ hand.old }
+        ensures book { result.book ≡ V.Books.books.book }
+        ensures inode { result.inode ≡ self.number }
+        ensures tickets { result.tickets ≡ [] }
+        ensures tokens { result.tokens ≡ [] }
+    {
+        let FileCell {
+            number: _,
+            mut account,
+            state,
+            volume: _,
+        } = self;
+        if let Some(file) = state {
+            area.books().unlodge_all(&mut account, hand);
+            give_up(rt, area, hand, file);
+        }
+        account
+    }
 }
 
 // Makes the pass of a file that none is out for, which shows what the file is.

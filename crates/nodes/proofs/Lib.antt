@@ -14,3 +14,4 @@ pub mod Numbered
 pub mod Lacking
 pub mod Namers
 pub mod Useful
+pub mod Placing

@@ -1,12 +1,12 @@
 -- Which nodes of a file name something, from what is known of others.
-use Rattle.std.proofs.Common.{Bool, true, false, not, ◌||◌, ◌&&◌, ◌≡◌, ℕ, ◌+◌, ◌-◌, ◌*◌, ◌<◌, ◌≤◌, ◌⊎◌, Option, Some, None, nat_lt, refl, sym, ◌∙◌, inl, inr, lit<, arith}
+use Rattle.std.proofs.Common.{Bool, true, false, ◌≡◌, ℕ, ◌+◌, ◌-◌, ◌*◌, ◌<◌, ◌≤◌, ◌⊎◌, Option, Some, refl, sym, ◌∙◌, inl, inr, lit<, arith}
 use borrow.Author.Tests.{lt-ltb, le-ltb}
 use Rattle.std.proofs.lemmas.Bool.{cases_lt}
 use Rattle.geometry.specs.Path.{inode_entries, node_entries}
 use Rattle.tickets.specs.Placed.{Placed}
 use Rattle.tree.specs.declared.branch.Branch.{Branch}
 use Rattle.tree.specs.Laws.{times_positive, nothing_at_zero}
-use Rattle.tree.specs.Tree.{AsksEither, SparesIndex, SparesPast, AsksPast, only_at_zero, UsefulIn, ShapedIn, entry_at}
+use Rattle.tree.specs.Tree.{AsksEither, SparesIndex, SparesPast, AsksPast, only_at_zero, entry_at}
 use Rattle.tree.specs.Useful.{never_below, either_below, entries_below, found_below, found_from}
 use Rattle.nodes.specs.declared.file.FileState.{FileState}
 use Rattle.nodes.specs.File.{IsFile, IsBare, ticket_at, joined, in_tickets, in_direct, in_indirect, in_double, find_direct, find_indirect, find_double, shaped_direct, shaped_indirect, shaped_double}

@@ -4,3 +4,5 @@ pub mod Held
 pub mod Owners
 pub mod Lacking
 pub mod Useful
+pub mod Places
+pub mod Puts

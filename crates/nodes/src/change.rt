@@ -8,6 +8,7 @@ ghost use Rattle.tree.specs.Change.{Weighing, ticket_weight, WeighsAs, nothing};
 ghost use Rattle.nodes.specs.Marks.{unchanged, lengthened, shortened};
 
 use crate::file::FileState;
+use crate::place::Place;
 use device::Block;
 use tickets::Ticket;
 use tree::Spare;
@@ -16,6 +17,7 @@ impl<B: Block> FileState<B> {
     ghost use Rattle.nodes.specs.File.{IsFile, IsBare, Shows, ticket_at, missing_to, count_of, inode_of, below_weight};
     ghost use Rattle.nodes.specs.Owners.{namer_at};
     ghost use Rattle.nodes.specs.Marks.{MarksNode};
+    ghost use Rattle.nodes.specs.Puts.{Puts, Cuts, IsCutTo};
     ghost use Rattle.nodes.specs.Useful.{IsUseful, each_node, is_off, reaches, ends_by};
 
     /// Puts a ticket at the index, and hands out the one that stood there: the file is the written file. Marks the node that
@@ -55,33 +57,14 @@ impl<B: Block> FileState<B> {
         requires within { index < self.old.length }
         requires file { IsFile self.old }
         requires path { missing_to self.old index ≡ 0 }
-        ensures old { result ≡ ticket_at self.old index }
-        ensures sets { SetsAt (ticket_at self.old) (ticket_at self.new) index (Some ticket) }
-        ensures namer { Same (namer_at self.old) (namer_at self.new) }
-        ensures useful { (asked : ℕ → ℕ → Bool) → SparesIndex asked index → IsUseful asked self.old → IsUseful asked self.new }
-        ensures change { MarksNode unchanged self.old self.new (λ w. ticket_weight w result) (λ w. w.ticket ticket) }
-        ensures length { self.new.length ≡ self.old.length }
-        ensures shape { self.new.shape ≡ self.old.shape }
-        ensures kind { self.new.kind ≡ self.old.kind }
-        ensures file { IsFile self.new }
+        ensures { Puts self.old self.new index ticket result }
     {
-        let slots = self.shape.inode_entries() as usize;
-        let entries = self.shape.node_entries() as usize;
-        let index = index as usize;
-        if index < slots {
-            return self.tickets.put(slots, entries, index, ticket);
+        match self.place(index) {
+            Place::InTickets(at) => self.tickets.put(at.count, at.entries, at.index, ticket),
+            Place::InDirect(at) => self.direct.put(at.count, at.entries, at.index, ticket),
+            Place::InIndirect(at) => self.indirect.put(at.count, at.entries, at.index, ticket),
+            Place::InDouble(at) => self.double.put(at.count, at.entries, at.index, ticket),
         }
-        let index = index - slots;
-        let width = 2 * entries;
-        if index < width {
-            return self.direct.put(2, entries, index, ticket);
-        }
-        let index = index - width;
-        let width = 2 * (entries * entries);
-        if index < width {
-            return self.indirect.put(2, entries, index, ticket);
-        }
-        self.double.put(1, entries, index - width, ticket)
     }
 
     /// Hands out one ticket at or past the length, or the token of a node that names nothing, and marks the node that named
@@ -127,19 +110,7 @@ impl<B: Block> FileState<B> {
 
     fn cut_entries(&mut self, length: u32) -> Option<Spare<Ticket<B>>>
         requires file { IsFile self.old }
-        ensures none { MatchOption result
-            ((self.new ≡ self.old) × EmptyFrom (ticket_at self.old) length × (length ≡ 0 → IsBare self.old))
-            (λ _. Unit {0}) }
-        ensures out { MatchOption result (Unit {0}) (λ spare. HandsOut (ticket_at self.old) (ticket_at self.new) length spare) }
-        ensures namer { KeepsNamers (ticket_at self.new) (namer_at self.old) (namer_at self.new) }
-        ensures useful { (asked : ℕ → ℕ → Bool) → SparesPast asked length → IsUseful asked self.old → IsUseful asked self.new }
-        ensures past { MatchOption result (IsUseful (reaches length) self.new) (λ _. Unit {0}) }
-        ensures change { MatchOption result (Unit {0})
-            (λ spare. (out : Weighing Placed → ℕ) × WeighsAs spare out × MarksNode unchanged self.old self.new out nothing) }
-        ensures length { self.new.length ≡ self.old.length }
-        ensures shape { self.new.shape ≡ self.old.shape }
-        ensures kind { self.new.kind ≡ self.old.kind }
-        ensures file { IsFile self.new }
+        ensures { MatchOption result ((self.new ≡ self.old) × IsCutTo self.old length) (λ spare. Cuts self.old self.new length spare) }
     {
         let slots = self.shape.inode_entries() as usize;
         let entries = self.shape.node_entries() as usize;

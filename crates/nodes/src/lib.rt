@@ -7,6 +7,7 @@ mod look;
 mod migrate;
 mod owner;
 mod path;
+mod place;
 mod spare;
 
 pub use file::FileState;

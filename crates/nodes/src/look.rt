@@ -4,6 +4,7 @@ ghost use Rattle.geometry.specs.Path.{path, largest_length};
 ghost use Rattle.nodes.specs.File.{address_of};
 
 use crate::file::FileState;
+use crate::place::Place;
 use device::{Block, DeviceError};
 
 impl<B: Block> FileState<B> {
@@ -16,48 +17,12 @@ impl<B: Block> FileState<B> {
         ensures ticket { result ≡ address_of (ticket_at self.now index) }
         ensures path { result ≡ address_of (ends_at self.now (path self.now.shape index)) }
     {
-        let slots = self.shape.inode_entries() as usize;
-        let entries = self.shape.node_entries() as usize;
-        let index = index as usize;
-        if index < slots {
-            return self.tickets.address(slots, entries, index);
+        match self.place(index) {
+            Place::InTickets(at) => self.tickets.address(at.count, at.entries, at.index),
+            Place::InDirect(at) => self.direct.address(at.count, at.entries, at.index),
+            Place::InIndirect(at) => self.indirect.address(at.count, at.entries, at.index),
+            Place::InDouble(at) => self.double.address(at.count, at.entries, at.index),
         }
-        let index = index - slots;
-        let width = 2 * entries;
-        if index < width {
-            return self.direct.address(2, entries, index);
-        }
-        let index = index - width;
-        let width = 2 * (entries * entries);
-        if index < width {
-            return self.indirect.address(2, entries, index);
-        }
-        self.double.address(1, entries, index - width)
-    }
-
-    /// Whether no node is missing on the way to the index, so that a ticket can be put there.
-    pub fn has_path(&self, index: u32) -> bool
-        requires inside { index < largest_length self.now.shape }
-        requires file { IsFile self.now }
-        ensures { IsTrue result ↔ (missing_to self.now index ≡ 0) }
-    {
-        let slots = self.shape.inode_entries() as usize;
-        let entries = self.shape.node_entries() as usize;
-        let index = index as usize;
-        if index < slots {
-            return true;
-        }
-        let index = index - slots;
-        let width = 2 * entries;
-        if index < width {
-            return self.direct.has_path(2, entries, index);
-        }
-        let index = index - width;
-        let width = 2 * (entries * entries);
-        if index < width {
-            return self.indirect.has_path(2, entries, index);
-        }
-        self.double.has_path(1, entries, index - width)
     }
 
     /// Reads the block at the index into `out`, which has as many bytes, or zeros where there is none. After a failure of
@@ -69,23 +34,12 @@ impl<B: Block> FileState<B> {
         ensures same { self.new ≡ self.old }
         ensures bytes { OnOk result (MatchOption (ticket_at self.old index) (out.new ≡ replicate (length out.old) 0) (λ ticket. out.new ≡ ticket.content)) }
     {
-        let slots = self.shape.inode_entries() as usize;
-        let entries = self.shape.node_entries() as usize;
-        let index = index as usize;
-        if index < slots {
-            return self.tickets.read(slots, entries, index, out);
+        match self.place(index) {
+            Place::InTickets(at) => self.tickets.read(at.count, at.entries, at.index, out),
+            Place::InDirect(at) => self.direct.read(at.count, at.entries, at.index, out),
+            Place::InIndirect(at) => self.indirect.read(at.count, at.entries, at.index, out),
+            Place::InDouble(at) => self.double.read(at.count, at.entries, at.index, out),
         }
-        let index = index - slots;
-        let width = 2 * entries;
-        if index < width {
-            return self.direct.read(2, entries, index, out);
-        }
-        let index = index - width;
-        let width = 2 * (entries * entries);
-        if index < width {
-            return self.indirect.read(2, entries, index, out);
-        }
-        self.double.read(1, entries, index - width, out)
     }
 
     /// The bytes of the block at the index as they are now, whatever is written later; None where there is none. A failure
@@ -97,22 +51,11 @@ impl<B: Block> FileState<B> {
         ensures none { IfOk result (λ lease. lease ≡ None → ticket_at self.old index ≡ None) }
         ensures bytes { IfOk result (λ lease. MatchOption lease (Unit {0}) (λ l. MatchOption (ticket_at self.old index) ⊥ (λ ticket. B.Lease.items l ≡ ticket.content))) }
     {
-        let slots = self.shape.inode_entries() as usize;
-        let entries = self.shape.node_entries() as usize;
-        let index = index as usize;
-        if index < slots {
-            return self.tickets.lend(slots, entries, index);
+        match self.place(index) {
+            Place::InTickets(at) => self.tickets.lend(at.count, at.entries, at.index),
+            Place::InDirect(at) => self.direct.lend(at.count, at.entries, at.index),
+            Place::InIndirect(at) => self.indirect.lend(at.count, at.entries, at.index),
+            Place::InDouble(at) => self.double.lend(at.count, at.entries, at.index),
         }
-        let index = index - slots;
-        let width = 2 * entries;
-        if index < width {
-            return self.direct.lend(2, entries, index);
-        }
-        let index = index - width;
-        let width = 2 * (entries * entries);
-        if index < width {
-            return self.indirect.lend(2, entries, index);
-        }
-        self.double.lend(1, entries, index - width)
     }
 }

@@ -14,6 +14,7 @@ impl<B: Block> FileState<B> {
     ghost use Rattle.nodes.specs.File.{IsFile, Shows, ticket_at, inode_of, below_weight, weight_of};
     ghost use Rattle.nodes.specs.Owners.{namer_at};
     ghost use Rattle.nodes.specs.Marks.{MarksNode};
+    ghost use Rattle.nodes.specs.Puts.{Swaps};
     ghost use Rattle.nodes.specs.Useful.{IsUseful};
 
     /// Where a node of this number has the address `from` at its entry `at`, puts in the ticket, whose block has the same
@@ -62,17 +63,10 @@ impl<B: Block> FileState<B> {
         requires address { 0 < from }
         ensures named { OnOk result (names nid at from (inode_of self.old) ≡ true) }
         ensures address { IfOk result (λ before. before.mark.address ≡ from) }
-        ensures swaps { IfOk result (λ before. SwapsOne (ticket_at self.old) (ticket_at self.new) before ticket) }
-        ensures namer { Same (namer_at self.old) (namer_at self.new) }
-        ensures useful { (asked : ℕ → ℕ → Bool) → IsUseful asked self.old → IsUseful asked self.new }
-        ensures change { IfOk result (λ before. MarksNode unchanged self.old self.new (λ w. w.ticket before) (λ w. w.ticket ticket)) }
+        ensures swaps { IfOk result (λ before. Swaps self.old self.new before ticket) }
         ensures elsewhere { OnErr result (names nid at from (inode_of self.old) ≡ false) }
         ensures refused { OnErr result (self.new ≡ self.old) }
         ensures back { IfErr result (λ back. back ≡ ticket) }
-        ensures length { self.new.length ≡ self.old.length }
-        ensures shape { self.new.shape ≡ self.old.shape }
-        ensures kind { self.new.kind ≡ self.old.kind }
-        ensures file { IsFile self.new }
     {
         if self.token.number() != nid {
             return Err(ticket);
@@ -97,17 +91,10 @@ impl<B: Block> FileState<B> {
         requires address { 0 < from }
         ensures named { OnOk result (0 < below_weight self.old (each_naming nid at from)) }
         ensures address { IfOk result (λ before. before.mark.address ≡ from) }
-        ensures swaps { IfOk result (λ before. SwapsOne (ticket_at self.old) (ticket_at self.new) before ticket) }
-        ensures namer { Same (namer_at self.old) (namer_at self.new) }
-        ensures useful { (asked : ℕ → ℕ → Bool) → IsUseful asked self.old → IsUseful asked self.new }
-        ensures change { IfOk result (λ before. MarksNode unchanged self.old self.new (λ w. w.ticket before) (λ w. w.ticket ticket)) }
+        ensures swaps { IfOk result (λ before. Swaps self.old self.new before ticket) }
         ensures elsewhere { OnErr result (below_weight self.old (each_naming nid at from) ≡ 0) }
         ensures refused { OnErr result (self.new ≡ self.old) }
         ensures back { IfErr result (λ back. back ≡ ticket) }
-        ensures length { self.new.length ≡ self.old.length }
-        ensures shape { self.new.shape ≡ self.old.shape }
-        ensures kind { self.new.kind ≡ self.old.kind }
-        ensures file { IsFile self.new }
     {
         let entries = self.shape.node_entries() as usize;
         let place = at as usize;

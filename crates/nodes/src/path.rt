@@ -9,6 +9,7 @@ ghost use Rattle.spares.specs.Spares.{KeepsNames};
 ghost use Rattle.nodes.specs.Lacking.{spare_tokens, AreEmptyNodes, end_number};
 
 use crate::file::FileState;
+use crate::place::Place;
 use crate::spare::SparePath;
 use device::Block;
 use spares::{is_ready_in, plant_in, prepare_in};
@@ -28,24 +29,21 @@ impl<B: Block> FileState<B> {
         requires file { IsFile self.now }
         ensures { IsTrue result ↔ (lacking_to self.now index spares.now ≡ 0) }
     {
-        let slots = self.shape.inode_entries() as usize;
-        let entries = self.shape.node_entries() as usize;
-        let index = index as usize;
-        if index < slots {
-            return true;
+        match self.place(index) {
+            Place::InTickets(_) => true,
+            Place::InDirect(at) => {
+                let spares = &spares.nodes.below.below;
+                is_ready_in(&self.direct, spares, at.count, at.entries, at.index)
+            }
+            Place::InIndirect(at) => {
+                let spares = &spares.nodes.below;
+                is_ready_in(&self.indirect, spares, at.count, at.entries, at.index)
+            }
+            Place::InDouble(at) => {
+                let spares = &spares.nodes;
+                is_ready_in(&self.double, spares, at.count, at.entries, at.index)
+            }
         }
-        let index = index - slots;
-        let width = 2 * entries;
-        if index < width {
-            let spares = &spares.nodes.below.below;
-            return is_ready_in(&self.direct, spares, 2, entries, index);
-        }
-        let index = index - width;
-        let width = 2 * (entries * entries);
-        if index < width {
-            return is_ready_in(&self.indirect, &spares.nodes.below, 2, entries, index);
-        }
-        is_ready_in(&self.double, &spares.nodes, 1, entries, index - width)
     }
 
     /// Makes the first node that is missing on the way to the index and was not made yet. Where memory is missing, or no node
@@ -66,34 +64,45 @@ impl<B: Block> FileState<B> {
         ensures refused { OnErr result (spares.new ≡ spares.old) }
         ensures token { IfErr result (λ back. back ≡ token) }
     {
-        let slots = self.shape.inode_entries() as usize;
-        let entries = self.shape.node_entries() as usize;
-        let index = index as usize;
-        if index < slots {
-            return Err(token);
+        match self.place(index) {
+            Place::InTickets(_) => Err(token),
+            Place::InDirect(at) => {
+                let spares = &mut spares.nodes.below.below;
+                prepare_in(
+                    &self.direct,
+                    spares,
+                    alloc,
+                    at.count,
+                    at.entries,
+                    at.index,
+                    token,
+                )
+            }
+            Place::InIndirect(at) => {
+                let spares = &mut spares.nodes.below;
+                prepare_in(
+                    &self.indirect,
+                    spares,
+                    alloc,
+                    at.count,
+                    at.entries,
+                    at.index,
+                    token,
+                )
+            }
+            Place::InDouble(at) => {
+                let spares = &mut spares.nodes;
+                prepare_in(
+                    &self.double,
+                    spares,
+                    alloc,
+                    at.count,
+                    at.entries,
+                    at.index,
+                    token,
+                )
+            }
         }
-        let index = index - slots;
-        let width = 2 * entries;
-        if index < width {
-            let spares = &mut spares.nodes.below.below;
-            return prepare_in(&self.direct, spares, alloc, 2, entries, index, token);
-        }
-        let index = index - width;
-        let width = 2 * (entries * entries);
-        if index < width {
-            let spares = &mut spares.nodes.below;
-            return prepare_in(&self.indirect, spares, alloc, 2, entries, index, token);
-        }
-        let index = index - width;
-        prepare_in(
-            &self.double,
-            &mut spares.nodes,
-            alloc,
-            1,
-            entries,
-            index,
-            token,
-        )
     }
 
     /// Puts the first node that is missing on the way to the index into the file, and marks the node that names it. False:
@@ -119,30 +128,20 @@ impl<B: Block> FileState<B> {
         ensures kind { self.new.kind ≡ self.old.kind }
         ensures file { IsFile self.new }
     {
-        let slots = self.shape.inode_entries() as usize;
-        let entries = self.shape.node_entries() as usize;
-        let index = index as usize;
-        if index < slots {
-            return false;
+        match self.place(index) {
+            Place::InTickets(_) => false,
+            Place::InDirect(at) => {
+                let spares = &mut spares.nodes.below.below;
+                plant_in(&mut self.direct, spares, at.count, at.entries, at.index)
+            }
+            Place::InIndirect(at) => {
+                let spares = &mut spares.nodes.below;
+                plant_in(&mut self.indirect, spares, at.count, at.entries, at.index)
+            }
+            Place::InDouble(at) => {
+                let spares = &mut spares.nodes;
+                plant_in(&mut self.double, spares, at.count, at.entries, at.index)
+            }
         }
-        let index = index - slots;
-        let width = 2 * entries;
-        if index < width {
-            let spares = &mut spares.nodes.below.below;
-            return plant_in(&mut self.direct, spares, 2, entries, index);
-        }
-        let index = index - width;
-        let width = 2 * (entries * entries);
-        if index < width {
-            let spares = &mut spares.nodes.below;
-            return plant_in(&mut self.indirect, spares, 2, entries, index);
-        }
-        plant_in(
-            &mut self.double,
-            &mut spares.nodes,
-            1,
-            entries,
-            index - width,
-        )
     }
 }

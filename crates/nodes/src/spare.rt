@@ -1,9 +1,9 @@
 //! The nodes that the way to an index lacks, made beside a file.
-ghost use Rattle.std.specs.Prelude.{◌≡◌, ℕ, ◌+◌, MatchOption};
+ghost use Rattle.std.specs.Prelude.{◌≡◌, ℕ, ◌+◌, MatchOption, None};
 ghost use Rattle.books.specs.declared.claim.Entry.{Entry};
 
 use device::Block;
-use spares::{Planting, SpareNodes};
+use spares::SpareNodes;
 use tickets::{NidToken, Ticket};
 use tree::Branch;
 
@@ -24,8 +24,19 @@ impl<B: Block> SparePath<B> {
         ensures none { (h : Entry → ℕ) → spare_tokens h result ≡ 0 }
         ensures empty { (e : ℕ) → AreEmptyNodes e result }
     {
+        let direct = SpareNodes {
+            node: None,
+            below: (),
+        };
+        let indirect = SpareNodes {
+            node: None,
+            below: direct,
+        };
         SparePath {
-            nodes: Branch::no_spares(),
+            nodes: SpareNodes {
+                node: None,
+                below: indirect,
+            },
         }
     }
 
@@ -33,7 +44,10 @@ impl<B: Block> SparePath<B> {
     pub fn end_number(&self) -> u32
         ensures { result ≡ end_number self.now }
     {
-        Branch::end_number(&self.nodes)
+        match &self.nodes.below.below.node {
+            Some(node) => node.token.number(),
+            None => 0,
+        }
     }
 
     /// Hands out the token of one of the nodes. None: there is none.
@@ -43,7 +57,16 @@ impl<B: Block> SparePath<B> {
         ensures token { MatchOption result (Unit {0}) (λ token. (h : Entry → ℕ) → spare_tokens h self.new + h token ≡ spare_tokens h self.old) }
         ensures empty { (e : ℕ) → AreEmptyNodes e self.old → AreEmptyNodes e self.new }
     {
-        Branch::give_back(&mut self.nodes)
+        if let Some(node) = self.nodes.node.take() {
+            return Some(node.into_token());
+        }
+        if let Some(node) = self.nodes.below.node.take() {
+            return Some(node.into_token());
+        }
+        match self.nodes.below.below.node.take() {
+            Some(node) => Some(node.into_token()),
+            None => None,
+        }
     }
 
     /// Ends a path of which no node is left.
@@ -51,6 +74,21 @@ impl<B: Block> SparePath<B> {
         requires { (h : Entry → ℕ) → spare_tokens h self ≡ 0 }
     {
         let SparePath { nodes } = self;
-        Branch::end(nodes);
+        let SpareNodes { node, below } = nodes;
+        end_slot(node);
+        let SpareNodes { node, below } = below;
+        end_slot(node);
+        let SpareNodes { node, below: () } = below;
+        end_slot(node);
+    }
+}
+
+// Ends a slot without a node.
+fn end_slot<C>(node: Option<Branch<C>>)
+    requires { node ≡ None }
+{
+    match node {
+        None => {}
+        Some(_) => unreachable!(),
     }
 }

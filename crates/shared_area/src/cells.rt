@@ -79,6 +79,18 @@ impl<V: VolumeName, B: Block + Drop> SegmentCell<V, B> {
         }
     }
 
+    /// The segment, out of its lock.
+    pub fn into_state(self) -> SegmentState<B>
+        ensures { IsSegmentOf V.Numbers.geometry V.Books.books.book V.Words.words self.number result }
+    {
+        let SegmentCell {
+            number: _,
+            state,
+            volume: _,
+        } = self;
+        state
+    }
+
     /// What a choice of a victim looks at.
     pub fn row(&self) -> SegmentRow
         ensures row { result ≡ row_of self.now.state.segment }
@@ -180,6 +192,18 @@ impl<V: VolumeName, B: Block + Drop> ShardCell<V, B> {
             shard,
             volume: PhantomData,
         }
+    }
+
+    /// The shard, out of its lock.
+    pub fn into_shard(self) -> Shard<B>
+        ensures { IsShardAt V.Books.books.book V.Numbers.geometry.nodes self.number result }
+    {
+        let ShardCell {
+            number: _,
+            shard,
+            volume: _,
+        } = self;
+        shard
     }
 
     /// As `Shard::take`: none exactly where the number is taken.

@@ -115,6 +115,7 @@ pub fn lock_shards<V: VolumeName, B: Block + Drop>(
 }
 
 /// The memory of a main area's locks, before anything is locked in them but the shards.
+#[derive(Drop)]
 pub struct Frames<V: VolumeName, B: Block + Drop> {
     states: Vec<SegmentState<B>>,
     opened: Vec<StoredOpenSlip>,

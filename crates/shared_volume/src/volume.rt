@@ -5,6 +5,7 @@ ghost use Rattle.geometry.specs.declared.error.Error.TheVariants.{Device};
 ghost use Rattle.geometry.specs.File.{bytes_at};
 ghost use Rattle.geometry.specs.Shape.{block_bytes};
 
+use crate::cells::{PacksCell, SpareCell};
 use device::{Block, Meta};
 use file_cells::{FileCell, FilePass};
 use geometry::{Error, Geometry};
@@ -20,10 +21,12 @@ pub struct Volume<V: VolumeName, M: Meta, B: Block + Drop> {
     pub(crate) alloc: Global,
     pub(crate) area: MainArea<V, B>,
     pub(crate) files: Vec<Mutex<FileCell<V, B>>>,
-    // The meta area, for checkpoints.
-    pub(crate) meta: Mutex<M>,
+    // What a checkpoint needs.
+    pub(crate) packs: Mutex<PacksCell<V, M>>,
     // Whether a checkpoint failed while it was written: from then on nothing is changed.
     pub(crate) wounded: AtomicBool,
+    // So that leaving takes no memory.
+    pub(crate) spare: Mutex<SpareCell<V, B>>,
     ghost filed: { vec_len files ≡ V.Numbers.geometry.files },
 }
 
@@ -33,7 +36,8 @@ impl<V: VolumeName, M: Meta, B: Block + Drop> Volume<V, M, B> {
         alloc: Global,
         area: MainArea<V, B>,
         files: Vec<Mutex<FileCell<V, B>>>,
-        meta: M,
+        packs: PacksCell<V, M>,
+        spare: SpareCell<V, B>,
     ) -> Volume<V, M, B>
         requires { vec_len files ≡ V.Numbers.geometry.files }
     {
@@ -41,8 +45,9 @@ impl<V: VolumeName, M: Meta, B: Block + Drop> Volume<V, M, B> {
             alloc,
             area,
             files,
-            meta: Mutex::new(meta),
+            packs: Mutex::new(packs),
             wounded: AtomicBool::new(false),
+            spare: Mutex::new(spare),
         }
     }
 

@@ -2,7 +2,7 @@
 ghost use Rattle.std.specs.Prelude.{Bool, ◌≡◌, ℕ, ◌+◌, ◌%◌, ◌^◌, ◌<◌, is_none, OnOk, OnErr, IfErr, MatchOption, IsTrue, ◌↔◌, Option, Some, None, true, false};
 ghost use Rattle.books.specs.declared.claim.Entry.{Entry};
 ghost use Rattle.tree.specs.Tree.{Same, SparesIndex};
-ghost use Rattle.tree.specs.Change.{TreeNode, ChangesSlot, IsNewNode, nothing, unnumbered};
+ghost use Rattle.tree.specs.Change.{TreeNode, ChangesSlot, IsNewNode, nothing};
 ghost use Rattle.spares.specs.Spares.{KeepsNames, lacking_below, token_weight, IsEmptyNode, number_at_end};
 
 use crate::entries::{is_ready_in, plant_in, prepare_in};
@@ -28,11 +28,6 @@ pub trait Planting: Subtree {
 
     ghost end_number: { Self.Spares → ℕ };
 
-    /// No spare nodes.
-    fn no_spares() -> Self::Spares
-        ensures none { (h : Entry → ℕ) → tokens_of h result ≡ 0 }
-        ensures empty { (e : ℕ) → empty_nodes e result };
-
     /// Whether each node that is missing on the way to the index has been made.
     fn is_ready(slot: &Option<Self>, spares: &Self::Spares, entries: usize, index: usize) -> bool
         requires some { 0 < entries }
@@ -40,10 +35,6 @@ pub trait Planting: Subtree {
         requires inside { index < Self.span_of entries }
         requires shaped { Self.shaped entries slot.now }
         ensures { IsTrue result ↔ (lacking entries slot.now index spares.now ≡ 0) };
-
-    /// The number of the node at the end of the way, whose entries name tickets; 0 where it was not made.
-    fn end_number(spares: &Self::Spares) -> u32
-        ensures { result ≡ end_number spares.now };
 
     /// Makes the first node that is missing and was not made yet. Where memory is missing, or no node is, the token is handed
     /// back, and nothing has changed.
@@ -94,20 +85,7 @@ pub trait Planting: Subtree {
             × ((h : Entry → ℕ) → tokens_of h spares.new + h n.token ≡ tokens_of h spares.old) }
         ensures none { result ≡ false → (Self.missing entries slot.old index ≡ 0) × (slot.new ≡ slot.old) × (spares.new ≡ spares.old) };
 
-    /// Hands out the token of a spare node. None: there is none.
-    fn give_back(spares: &mut Self::Spares) -> Option<NidToken>
-        requires empty { (e : ℕ) × empty_nodes e spares.old }
-        ensures none { MatchOption result ((spares.new ≡ spares.old) × ((h : Entry → ℕ) → tokens_of h spares.old ≡ 0)) (λ _. Unit {0}) }
-        ensures token { MatchOption result (Unit {0}) (λ token. (h : Entry → ℕ) → tokens_of h spares.new + h token ≡ tokens_of h spares.old) }
-        ensures empty { (e : ℕ) → empty_nodes e spares.old → empty_nodes e spares.new };
-
-    /// Ends spare nodes of which none is left.
-    fn end(spares: Self::Spares)
-        requires { (h : Entry → ℕ) → tokens_of h spares ≡ 0 };
-
     ghost missing_none: { (e i : ℕ) → Self.is_leaf ≡ false → 0 < Self.missing e None i };
-
-    ghost end_named: { (e i : ℕ) (slot : Option Self) (s : Self.Spares) → Self.is_leaf ≡ false → 0 < Self.missing e slot i → lacking e slot i s ≡ 0 → tokens_of unnumbered s ≡ 0 → 0 < end_number s };
 }
 
 impl<B: Block> Planting for Ticket<B> {
@@ -125,16 +103,8 @@ impl<B: Block> Planting for Ticket<B> {
 
     ghost missing_none = { λ _ _ no. absurd (no_node no) };
 
-    ghost end_named = { λ _ _ _ _ no _ _ _. absurd (no_node no) };
-
-    fn no_spares() {}
-
     fn is_ready(_slot: &Option<Ticket<B>>, _spares: &(), _entries: usize, _index: usize) -> bool {
         true
-    }
-
-    fn end_number(_spares: &()) -> u32 {
-        0
     }
 
     fn prepare(
@@ -156,12 +126,6 @@ impl<B: Block> Planting for Ticket<B> {
     ) -> bool {
         false
     }
-
-    fn give_back(_spares: &mut ()) -> Option<NidToken> {
-        None
-    }
-
-    fn end(_spares: ()) {}
 }
 
 /// A spare node, or none, and those of the levels below it.
@@ -183,18 +147,9 @@ impl<C: Planting> Planting for Branch<C> {
 
     ghost end_number = { λ s. number_at_end C.is_leaf C.end_number s.node s.below };
 
-    ghost use Rattle.spares.specs.Laws.{some_missing, end_has_number};
+    ghost use Rattle.spares.specs.Laws.{some_missing};
 
     ghost missing_none = { λ e i _. some_missing (C.missing e None (i % C.span_of e)) };
-
-    ghost end_named = { λ e i slot s _ gone ready numbered. end_has_number C.is_leaf (C.missing e) (C.lacking e) (C.end_number) (C.tokens_of unnumbered) (C.span_of e) (C.missing_none e) (C.leaf_path e) (λ k t u. C.end_named e k t u) slot i s.node s.below gone ready numbered };
-
-    fn no_spares() -> SpareNodes<C> {
-        SpareNodes {
-            node: None,
-            below: C::no_spares(),
-        }
-    }
 
     fn is_ready(
         slot: &Option<Branch<C>>,
@@ -208,16 +163,6 @@ impl<C: Planting> Planting for Branch<C> {
                 spares.node.is_some()
                     && C::is_ready(&None, &spares.below, entries, index % C::span(entries))
             }
-        }
-    }
-
-    fn end_number(spares: &SpareNodes<C>) -> u32 {
-        if !C::is_leaf() {
-            return C::end_number(&spares.below);
-        }
-        match &spares.node {
-            Some(node) => node.token.number(),
-            None => 0,
         }
     }
 
@@ -273,21 +218,5 @@ impl<C: Planting> Planting for Branch<C> {
             },
             None => unreachable!(),
         }
-    }
-
-    fn give_back(spares: &mut SpareNodes<C>) -> Option<NidToken> {
-        match spares.node.take() {
-            Some(node) => Some(node.into_token()),
-            None => C::give_back(&mut spares.below),
-        }
-    }
-
-    fn end(spares: SpareNodes<C>) {
-        let SpareNodes { node, below } = spares;
-        match node {
-            None => {}
-            Some(_) => unreachable!(),
-        }
-        C::end(below);
     }
 }

@@ -73,7 +73,7 @@ impl<C: Subtree> Subtree for Branch<C> {
 
     ghost use Rattle.std.specs.Prelude.{refl};
     ghost use Rattle.tree.specs.Laws.{times_positive, nothing_past, no_leaf};
-    ghost use Rattle.tree.specs.Useful.{never_below, either_below, found_below};
+    ghost use Rattle.tree.specs.Useful.{never_below, either_below};
 
     ghost span_positive = { λ e h. times_positive e (C.span_of e) h (C.span_positive e h) };
 
@@ -88,8 +88,6 @@ impl<C: Subtree> Subtree for Branch<C> {
     ghost useful_never = { λ e first s. never_below (λ b. b.entries.slots.items) (C.useful e) (C.span_of e) (λ f x. C.useful_never e f x) e first s };
 
     ghost useful_either = { λ e asked one other first s h w either p q. either_below (λ b. b.entries.slots.items) (C.useful e) (C.span_of e) (C.shaped e) (C.span_positive e h) (λ a f. C.useful_none e a f) (λ a o r f x v k y z. C.useful_either e a o r f x h v k y z) e h asked one other first s w either p q };
-
-    ghost useful_found = { λ e asked first i s t h w is holds. found_below (λ b. b.entries.slots.items) (C.useful e) (C.span_of e) (C.shaped e) (C.span_positive e h) (λ a f. C.useful_none e a f) (λ a o r f x v k y z. C.useful_either e a o r f x h v k y z) (C.find e) (λ j. C.find_none e j) (λ f x. C.useful_never e f x) (λ a f j x u v k n. C.useful_found e a f j x u h v k n) e asked first i s t w is holds };
 
     ghost weight_none = { λ _. refl };
 
@@ -126,13 +124,6 @@ impl<C: Subtree> Subtree for Branch<C> {
         match slot {
             Some(branch) => branch.entries.address(entries, entries, index),
             None => 0,
-        }
-    }
-
-    fn has_path(slot: &Option<Branch<C>>, entries: usize, index: usize) -> bool {
-        match slot {
-            Some(branch) => branch.entries.has_path(entries, entries, index),
-            None => false,
         }
     }
 

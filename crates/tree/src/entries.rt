@@ -1,7 +1,7 @@
 //! The entries of a node, one after another.
 ghost use Rattle.std.specs.Prelude.{◌≡◌, ◌*◌, ◌-◌, ◌^◌, ◌<◌, ◌/◌, ◌%◌, Option, Some, None, length, replicate, OnOk, IfOk, MatchOption, IsTrue, ◌↔◌, ◌||◌, true, false};
 ghost use Rattle.sums.specs.Weights.{weigh};
-ghost use Rattle.tree.specs.Tree.{find_in, missing_in, ShapedIn, AreNone, entry_at, number_of};
+ghost use Rattle.tree.specs.Tree.{find_in, ShapedIn, AreNone, entry_at, number_of};
 ghost use Rattle.tree.specs.Change.{nothing, each_marked};
 
 use crate::subtree::Subtree;
@@ -90,18 +90,6 @@ impl<C: Subtree> Entries<C> {
     {
         let span = C::span(entries);
         C::address(&self.slots[index / span], entries, index % span)
-    }
-
-    /// Whether no node is missing on the way to the index.
-    pub fn has_path(&self, count: usize, entries: usize, index: usize) -> bool
-        requires some { 0 < entries }
-        requires fits { C.span_of entries < 2 ^ 64 }
-        requires inside { index < count * C.span_of entries }
-        requires shaped { ShapedIn (C.shaped entries) count self.now.slots.items }
-        ensures { IsTrue result ↔ (missing_in (C.missing entries) (C.span_of entries) self.now.slots.items index ≡ 0) }
-    {
-        let span = C::span(entries);
-        C::has_path(&self.slots[index / span], entries, index % span)
     }
 
     /// Whether neither these entries nor a node below them is marked.

@@ -68,14 +68,6 @@ pub trait Subtree {
         requires shaped { shaped entries slot.now }
         ensures { result ≡ number_of address_of (find entries slot.now index) };
 
-    /// Whether no node is missing on the way to the index.
-    fn has_path(slot: &Option<Self>, entries: usize, index: usize) -> bool
-        requires some { 0 < entries }
-        requires fits { span_of entries < 2 ^ 64 }
-        requires inside { index < span_of entries }
-        requires shaped { shaped entries slot.now }
-        ensures { IsTrue result ↔ (missing entries slot.now index ≡ 0) };
-
     /// Whether no node is marked as changed.
     fn is_clean(slot: &Option<Self>) -> bool
         ensures { IsTrue result ↔ (weight each_marked slot.now ≡ 0) };
@@ -182,9 +174,6 @@ pub trait Subtree {
 
     ghost useful_either: { (e : ℕ) (asked one other : ℕ → ℕ → Bool) (first : ℕ) (s : Option Self) → 0 < e → shaped e s → AsksEither first (first + span_of e) asked one other → useful e one first s → useful e other first s → useful e asked first s };
 
-    ghost useful_found: { (e : ℕ) (asked : ℕ → ℕ → Bool) (first i : ℕ) (s : Option Self) (t : Self.Leaf) → 0 < e → shaped e s → find e s i ≡ Some t
-        → ((start end : ℕ) → asked start end ≡ true → (start ≤ first + i) × (first + i < end)) → useful e asked first s };
-
     ghost weight_none: { (w : Weighing Self.Leaf) → weight w None ≡ 0 };
 
     ghost number_none: { number None ≡ 0 };
@@ -249,8 +238,6 @@ impl<B: Block> Subtree for Ticket<B> {
 
     ghost useful_either = { λ _ _ _ _ _ _ _ _ _ _ _. tt };
 
-    ghost useful_found = { λ _ _ _ _ _ _ _ _ _ _. tt };
-
     ghost weight_none = { λ _. refl };
 
     ghost number_none = { refl };
@@ -287,10 +274,6 @@ impl<B: Block> Subtree for Ticket<B> {
             Some(ticket) => ticket.address(),
             None => 0,
         }
-    }
-
-    fn has_path(_slot: &Option<Ticket<B>>, _entries: usize, _index: usize) -> bool {
-        true
     }
 
     fn is_clean(_slot: &Option<Ticket<B>>) -> bool {

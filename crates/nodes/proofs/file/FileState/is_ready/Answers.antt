@@ -1,38 +1,33 @@
-use Rattle.std.proofs.Common.{◌≡◌, sym, subst, IsTrue, ◌↔◌}
-use Rattle.nodes.proofs.Lacking.{lacking_second, lacking_third, lacking_fourth}
+use Rattle.std.proofs.Common.{refl}
+use Rattle.nodes.specs.Places.{OfTickets, OfDirect, OfIndirect, OfDouble}
+use Rattle.nodes.proofs.Placing.{lacked_there}
 use Rattle.nodes.proofs.file.FileState.is_ready.Goals as goal
 
-pub returns-then-index-width : goal.returns-then-index-width
-returns-then-index-width g c =
-    let f = c.args.self.now in
-    let i = c.args.index in
-    let d = c.inode_entries-slots.ensures in
-    let e = c.node_entries-entries.ensures in
-    let one = rw d at c.if-index-slots.false in
-    let two = rw (d, e) at c.if-index-width.true in
-    let is = simp (d, e) at c.is_ready_in.ensures in
-    subst (λ n. IsTrue c.is_ready_in.result ↔ (n ≡ 0)) (sym (lacking_second f i c.args.spares.now one two)) is
+pub returns-in-InTickets : goal.returns-in-InTickets
+returns-in-InTickets g c =
+    let none = lacked_there c.args.self.now c.args.index c.in-InTickets.field-0 c.args.spares.now OfTickets c.in-InTickets.ensures in
+    (λ _. none, λ _. refl)
 
-pub returns-then-index-width-2 : goal.returns-then-index-width-2
-returns-then-index-width-2 g c =
-    let f = c.args.self.now in
-    let i = c.args.index in
-    let d = c.inode_entries-slots.ensures in
-    let e = c.node_entries-entries.ensures in
-    let one = rw d at c.if-index-slots.false in
-    let two = rw (d, e) at c.if-index-width.false in
-    let three = rw (d, e) at c.if-index-width-2.true in
-    let is = simp (d, e) at c.is_ready_in-then-index-width-2.ensures in
-    subst (λ n. IsTrue c.is_ready_in-then-index-width-2.result ↔ (n ≡ 0)) (sym (lacking_third f i c.args.spares.now one two three)) is
+pub is_ready_in-requires : goal.is_ready_in-requires
+is_ready_in-requires g c =
+    let is = c.in-InDirect.ensures in
+    record { some = is.some; fits = is.fits; inside = is.inside; shaped = is.shaped }
 
-pub returns : goal.returns
-returns g c =
-    let f = c.args.self.now in
-    let i = c.args.index in
-    let d = c.inode_entries-slots.ensures in
-    let e = c.node_entries-entries.ensures in
-    let one = rw d at c.if-index-slots.false in
-    let two = rw (d, e) at c.if-index-width.false in
-    let three = rw (d, e) at c.if-index-width-2.false in
-    let is = simp (d, e) at c.is_ready_in-2.ensures in
-    subst (λ n. IsTrue c.is_ready_in-2.result ↔ (n ≡ 0)) (sym (lacking_fourth f i c.args.spares.now one two three)) is
+pub returns-in-InDirect : goal.returns-in-InDirect
+returns-in-InDirect g c = rw (lacked_there c.args.self.now c.args.index c.in-InDirect.at c.args.spares.now OfDirect c.in-InDirect.ensures) c.is_ready_in.ensures
+
+pub is_ready_in-requires-in-InIndirect : goal.is_ready_in-requires-in-InIndirect
+is_ready_in-requires-in-InIndirect g c =
+    let is = c.in-InIndirect.ensures in
+    record { some = is.some; fits = is.fits; inside = is.inside; shaped = is.shaped }
+
+pub returns-in-InIndirect : goal.returns-in-InIndirect
+returns-in-InIndirect g c = rw (lacked_there c.args.self.now c.args.index c.in-InIndirect.at c.args.spares.now OfIndirect c.in-InIndirect.ensures) c.is_ready_in-in-InIndirect.ensures
+
+pub is_ready_in-requires-in-InDouble : goal.is_ready_in-requires-in-InDouble
+is_ready_in-requires-in-InDouble g c =
+    let is = c.in-InDouble.ensures in
+    record { some = is.some; fits = is.fits; inside = is.inside; shaped = is.shaped }
+
+pub returns-in-InDouble : goal.returns-in-InDouble
+returns-in-InDouble g c = rw (lacked_there c.args.self.now c.args.index c.in-InDouble.at c.args.spares.now OfDouble c.in-InDouble.ensures) c.is_ready_in-in-InDouble.ensures

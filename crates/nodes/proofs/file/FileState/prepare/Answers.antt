@@ -1,45 +1,68 @@
-use Rattle.std.proofs.Common.{arith}
-use Rattle.nodes.proofs.Lacking.{lacking_second, lacking_third, lacking_fourth}
-use Rattle.nodes.proofs.Results.{on_ok}
+use Rattle.std.proofs.Common.{refl, arith}
+use Rattle.nodes.specs.Places.{OfDirect, OfIndirect, OfDouble}
+use Rattle.nodes.proofs.Placing.{lacked_there}
+use Rattle.nodes.proofs.Results.{on_ok, on_err}
 use Rattle.nodes.proofs.file.FileState.prepare.Goals as goal
 
-pub returns-then-index-width-clause-made : goal.returns-then-index-width-clause-made
-returns-then-index-width-clause-made g c =
-    let f = c.args.self.now in
-    let i = c.args.index in
-    let d = c.inode_entries-slots.ensures in
-    let e = c.node_entries-entries.ensures in
-    let one = rw d at c.if-index-slots.false in
-    let two = rw (d, e) at c.if-index-width.true in
-    let made = simp (d, e) at c.prepare_in.ensures.made in
-    on_ok c.prepare_in.result made (λ more.
-    (let was = lacking_second f i c.args.spares.now one two in
-    let is = lacking_second f i (record { nodes = record c.args.spares.now.nodes { below = record c.args.spares.now.nodes.below { below = c.prepare_in.new.spares } } }) one two in omega arith))
+pub returns-in-InTickets : goal.returns-in-InTickets
+returns-in-InTickets g c = record { made = tt; tokens = tt; empty = c.requires.empty; refused = refl; token = refl }
 
-pub returns-then-index-width-2-clause-made : goal.returns-then-index-width-2-clause-made
-returns-then-index-width-2-clause-made g c =
-    let f = c.args.self.now in
-    let i = c.args.index in
-    let d = c.inode_entries-slots.ensures in
-    let e = c.node_entries-entries.ensures in
-    let one = rw d at c.if-index-slots.false in
-    let two = rw (d, e) at c.if-index-width.false in
-    let three = rw (d, e) at c.if-index-width-2.true in
-    let made = simp (d, e) at c.prepare_in-then-index-width-2.ensures.made in
-    on_ok c.prepare_in-then-index-width-2.result made (λ more.
-    (let was = lacking_third f i c.args.spares.now one two three in
-    let is = lacking_third f i (record { nodes = record c.args.spares.now.nodes { below = c.prepare_in-then-index-width-2.new.spares } }) one two three in omega arith))
+pub prepare_in-requires : goal.prepare_in-requires
+prepare_in-requires g c =
+    let is = c.in-InDirect.ensures in
+    record { some = is.some; fits = is.fits; inside = is.inside; shaped = is.shaped; empty = rw is.entries c.requires.empty.1.1 }
 
-pub returns-clause-made : goal.returns-clause-made
-returns-clause-made g c =
+pub returns-in-InDirect : goal.returns-in-InDirect
+returns-in-InDirect g c =
     let f = c.args.self.now in
-    let i = c.args.index in
-    let d = c.inode_entries-slots.ensures in
-    let e = c.node_entries-entries.ensures in
-    let one = rw d at c.if-index-slots.false in
-    let two = rw (d, e) at c.if-index-width.false in
-    let three = rw (d, e) at c.if-index-width-2.false in
-    let made = simp (d, e) at c.prepare_in-2.ensures.made in
-    on_ok c.prepare_in-2.result made (λ more.
-    (let was = lacking_fourth f i c.args.spares.now one two three in
-    let is = lacking_fourth f i (record { nodes = c.prepare_in-2.new.spares }) one two three in omega arith))
+    let is = c.in-InDirect.ensures in
+    let done = c.prepare_in.ensures in
+    let was = lacked_there f c.args.index c.in-InDirect.at c.args.spares.now OfDirect is in
+    let now = lacked_there f c.args.index c.in-InDirect.at (record { nodes = record c.args.spares.now.nodes { below = record c.args.spares.now.nodes.below { below = c.prepare_in.new.spares } } }) OfDirect is in
+    record {
+      made = on_ok c.prepare_in.result done.made (λ more. omega arith);
+      tokens = on_ok c.prepare_in.result done.tokens (λ all h. let one = all h in omega arith);
+      empty = (c.requires.empty.0, (c.requires.empty.1.0, rw is.entries at done.empty));
+      refused = on_err c.prepare_in.result done.refused (λ same k. record { nodes = record c.args.spares.now.nodes { below = record c.args.spares.now.nodes.below { below = same k } } });
+      token = done.token;
+    }
+
+pub prepare_in-requires-in-InIndirect : goal.prepare_in-requires-in-InIndirect
+prepare_in-requires-in-InIndirect g c =
+    let is = c.in-InIndirect.ensures in
+    record { some = is.some; fits = is.fits; inside = is.inside; shaped = is.shaped; empty = rw is.entries c.requires.empty.1 }
+
+pub returns-in-InIndirect : goal.returns-in-InIndirect
+returns-in-InIndirect g c =
+    let f = c.args.self.now in
+    let is = c.in-InIndirect.ensures in
+    let done = c.prepare_in-in-InIndirect.ensures in
+    let was = lacked_there f c.args.index c.in-InIndirect.at c.args.spares.now OfIndirect is in
+    let now = lacked_there f c.args.index c.in-InIndirect.at (record { nodes = record c.args.spares.now.nodes { below = c.prepare_in-in-InIndirect.new.spares } }) OfIndirect is in
+    record {
+      made = on_ok c.prepare_in-in-InIndirect.result done.made (λ more. omega arith);
+      tokens = on_ok c.prepare_in-in-InIndirect.result done.tokens (λ all h. let one = all h in omega arith);
+      empty = (c.requires.empty.0, rw is.entries at done.empty);
+      refused = on_err c.prepare_in-in-InIndirect.result done.refused (λ same k. record { nodes = record c.args.spares.now.nodes { below = same k } });
+      token = done.token;
+    }
+
+pub prepare_in-requires-in-InDouble : goal.prepare_in-requires-in-InDouble
+prepare_in-requires-in-InDouble g c =
+    let is = c.in-InDouble.ensures in
+    record { some = is.some; fits = is.fits; inside = is.inside; shaped = is.shaped; empty = rw is.entries c.requires.empty }
+
+pub returns-in-InDouble : goal.returns-in-InDouble
+returns-in-InDouble g c =
+    let f = c.args.self.now in
+    let is = c.in-InDouble.ensures in
+    let done = c.prepare_in-in-InDouble.ensures in
+    let was = lacked_there f c.args.index c.in-InDouble.at c.args.spares.now OfDouble is in
+    let now = lacked_there f c.args.index c.in-InDouble.at (record { nodes = c.prepare_in-in-InDouble.new.spares }) OfDouble is in
+    record {
+      made = on_ok c.prepare_in-in-InDouble.result done.made (λ more. omega arith);
+      tokens = on_ok c.prepare_in-in-InDouble.result done.tokens (λ all h. let one = all h in omega arith);
+      empty = rw is.entries at done.empty;
+      refused = on_err c.prepare_in-in-InDouble.result done.refused (λ same k. record { nodes = same k });
+      token = done.token;
+    }

@@ -1,0 +1,9 @@
+//! How the blocks of a main area come back out of it, once nothing is valid in it.
+#![tactic(auto)]
+
+mod area;
+mod owned;
+mod spare;
+
+pub use area::empty_area;
+pub use spare::{Spare, SpareRows};

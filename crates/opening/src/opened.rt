@@ -1,0 +1,127 @@
+//! A volume whose queues have no name yet.
+ghost use Rattle.std.specs.Prelude.{◌≡◌, vec_len, IfOk, IfErr};
+ghost use Rattle.device.specs.Parts.{HasSize};
+ghost use Rattle.geometry.specs.declared.error.Error.TheVariants.{NoMemory};
+
+use crate::formatted::OpenFault;
+use crate::frames::VolumeFrames;
+use crate::tables::Tables;
+use device::{Block, Meta, Parts};
+use names::{BooksName, GeometryName, Named, PoolName, TurnName, WordsName};
+use readers::{Seat, name_seats};
+use shared_volume::{PacksCell, SpareCell, Volume};
+use std::alloc::Global;
+use std::marker::PhantomData;
+use std::sync::Wait;
+use turnstile::OpenedTurnstile;
+
+/// The parts of a device and the tables of a volume, of which the type names the books, the words and the numbers.
+pub struct NamedTables<L: BooksName, W: WordsName, N: GeometryName, M: Meta, B: Block + Drop> {
+    pub parts: Parts<M, B>,
+    pub(crate) tables: Tables<B>,
+    pub(crate) names: PhantomData<(L, W, N)>,
+    pub ghost size: { HasSize M.seen B.address_of B.content_of N.geometry parts },
+    pub ghost of_books: { tables.books ≡ L.books },
+    pub ghost of_words: { tables.words ≡ W.words },
+    pub ghost of_geometry: { tables.geometry ≡ N.geometry },
+}
+
+/// A new volume under the names of its books, its words and its numbers, with the channel of permits and the queues of free
+/// segments, by which the last names are picked.
+pub struct Opened<L: BooksName, W: WordsName, N: GeometryName, M: Meta, B: Block + Drop> {
+    pub named: NamedTables<L, W, N, M, B>,
+    pub channel: OpenedTurnstile<L>,
+    pub queues: pool::Opened<W>,
+    pub(crate) alloc: Global,
+    pub ghost slots: { queues.ordinary.slots ≡ named.tables.geometry.segments },
+}
+
+impl<L: BooksName, W: WordsName, N: GeometryName, M: Meta, B: Block + Drop> Opened<L, W, N, M, B> {
+    /// The volume under all its names, and the seats of its readers. Segments 0 to 5 are open, one for each log, and the others
+    /// are free.
+    ///
+    /// The only error is NoMemory, and hands the parts back.
+    pub fn name<P: PoolName, T: TurnName, R: Wait>(
+        self,
+        rt: &R,
+    ) -> Result<
+        (
+            Volume<Named<L, W, P, T, N>, M, B>,
+            Vec<Seat<Named<L, W, P, T, N>>>,
+        ),
+        OpenFault<M, B>,
+    >
+        requires ordinary { self.queues.ordinary ≡ P.ordinary }
+        requires reserve { self.queues.reserve ≡ P.reserve }
+        requires turns { self.channel.turns ≡ T.turns }
+        requires key { self.channel.key ≡ T.key }
+        ensures seats { IfOk result (λ opened. vec_len opened.1 ≡ 64) }
+        ensures back { IfErr result (λ fault. fault.parts ≡ self.named.parts) }
+        ensures error { IfErr result (λ fault. fault.error ≡ NoMemory) }
+    {
+        let Opened {
+            named,
+            channel,
+            queues,
+            alloc,
+        } = self;
+        let NamedTables {
+            parts,
+            tables,
+            names: _,
+        } = named;
+        let Tables {
+            geometry,
+            books,
+            permits,
+            files,
+            shards,
+            words,
+            seats,
+            checkpoint,
+            rooms,
+            rights,
+            free,
+        } = tables;
+        let seats = match name_seats(alloc, seats) {
+            Ok(seats) => seats,
+            Err(error) => return Err(OpenFault { parts, error }),
+        };
+        let frames = match VolumeFrames::new(alloc, &geometry, shards, files) {
+            Ok(frames) => frames,
+            Err(error) => return Err(OpenFault { parts, error }),
+        };
+        let VolumeFrames {
+            area,
+            files,
+            spare,
+            accounts,
+        } = frames;
+        let Parts { meta, mut blocks } = parts;
+        let (turnstile, all) = channel.named::<T>(books, permits);
+        let (pool, mut pass) = queues.named::<P>();
+        let area = area.fill(
+            rt,
+            geometry,
+            turnstile,
+            words,
+            pool,
+            &mut pass,
+            rooms,
+            rights,
+            free,
+            &mut blocks,
+        );
+        area.turnstile().scatter(rt, all);
+        let packs = PacksCell {
+            meta,
+            pass,
+            checkpoint,
+        };
+        let spare = SpareCell {
+            rows: spare.with_blocks(blocks),
+            accounts,
+        };
+        Ok((Volume::of(alloc, area, files, packs, spare), seats))
+    }
+}
