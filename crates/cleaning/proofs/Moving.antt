@@ -316,3 +316,10 @@ has_ticket k some none =
 -- nothing has changed
 pub serves_stays : {B L : Type 0} (old new : FileState B L) (x y : HandView) → IsStored old → new ≡ old → y ≡ x → Serves old new x y
 serves_stays old new x y is same hand = subst (λ f. Serves old f x y) (sym same) (subst (λ h. Serves old old x h) (sym hand) (serves_not old x is))
+
+-- what a visitor that was lent a hand left in it is what is in hand
+pub given : (z y x : HandView) → z ≡ y → y ≡ x → z ≡ x
+given z y x back same = back ∙ same
+
+pub serves_given : {B L : Type 0} (old new : FileState B L) (x z y : HandView) → z ≡ y → Serves old new x y → Serves old new x z
+serves_given old new x z y back serves = subst (λ h. Serves old new x h) (sym back) serves

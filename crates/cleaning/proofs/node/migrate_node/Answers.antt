@@ -1,14 +1,13 @@
-use Rattle.std.proofs.Common.{rules, ◌≡◌, ap, sym, ◌∙◌, subst, inl, inr}
+use Rattle.std.proofs.Common.{rules, ap, sym, ◌∙◌, subst, inl, inr}
 use Rattle.std.proofs.lemmas.Bool.{cases_Bool}
 use Rattle.geometry.specs.Shape.{block_bytes}
 use Rattle.nodes.specs.File.{weight_of}
 use Rattle.nodes.specs.Useful.{each_node}
 use Rattle.file_law.specs.Law.{FileStateLaw}
 use Rattle.shared_files.proofs.Serving.{same_file}
-use Rattle.shared_files.specs.Contents.{Serves}
 use Rattle.cleaning.specs.Moves.{IsMovable}
 use Rattle.cleaning.proofs.Lawful.{law_moved}
-use Rattle.cleaning.proofs.Moving.{nodes_movable, carries, fares, serves_moved, serves_stays, stays_even}
+use Rattle.cleaning.proofs.Moving.{nodes_movable, carries, fares, serves_moved, serves_stays, serves_given, given, stays_even}
 use Rattle.cleaning.proofs.node.migrate_node.Goals as goal
 
 pub visit_node-requires-clause-ready : goal.visit_node-requires-clause-ready
@@ -48,16 +47,15 @@ returns-in-Ok-clause-serves g c =
       | inl found ↦ (
           let one = done.visited found in
           let name = one.3.0 in
-          let back : c.hand-1.given.0 ≡ c.visit_node.new.visitor.hand.now = search (rules, name) in
-          subst (λ h. Serves old new x h) (sym back)
+          serves_given old new x _ c.visit_node.new.visitor.hand.now (search (rules, name))
           (serves_moved old new x c.visit_node.new.visitor.hand.now c.requires.stored done.file done.shape done.kind done.length done.number done.same done.namer one.0 one.1 one.2
           c.args.address (fares c.args.address one.0.token one.1 x c.visit_node.new.visitor.hand.now c.visit_node.new.visitor.fate one.3.2) c.requires.law))
       | inr missing ↦ (
           let none = done.none missing in
           let name = ap (λ v. v.hand.ghost_name) none.2 in
           let kept = ap (λ v. v.hand.now) none.2 in
-          let back : c.hand-1.given.0 ≡ c.visit_node.new.visitor.hand.now = search (rules, name) in
-          serves_stays old new x c.hand-1.given.0 c.requires.stored none.1 (back ∙ kept))
+          serves_given old new x _ c.visit_node.new.visitor.hand.now (search (rules, name))
+          (serves_stays old new x c.visit_node.new.visitor.hand.now c.requires.stored none.1 kept))
     ]
 
 pub returns-in-Ok-clause-law : goal.returns-in-Ok-clause-law
@@ -100,15 +98,13 @@ returns-in-Ok-clause-gone g c = λ is.
       | inl found ↦ (
           let one = done.visited found in
           let name = one.3.0 in
-          let back : c.hand-1.given.0 ≡ c.visit_node.new.visitor.hand.now = search (rules, name) in
           elim one.3.2 [
-            | inl stays ↦ (inr (one.0, one.2.among, one.3.1, stays.1), stays_even c.args.file.now c.visit_node.new.file one.0 one.1 one.2 stays.2, back ∙ stays.3)
+            | inl stays ↦ (inr (one.0, one.2.among, one.3.1, stays.1), stays_even c.args.file.now c.visit_node.new.file one.0 one.1 one.2 stays.2, given _ c.visit_node.new.visitor.hand.now c.args.hand.now (search (rules, name)) stays.3)
             | inr moves ↦ (let moved = moves.0 in absurd (cc))
           ])
       | inr missing ↦ (
           let none = done.none missing in
           let name = ap (λ v. v.hand.ghost_name) none.2 in
           let kept = ap (λ v. v.hand.now) none.2 in
-          let back : c.hand-1.given.0 ≡ c.visit_node.new.visitor.hand.now = search (rules, name) in
-          (inl none.0, λ w. ap (λ f. weight_of f w) none.1, back ∙ kept))
+          (inl none.0, λ w. ap (λ f. weight_of f w) none.1, given _ c.visit_node.new.visitor.hand.now c.args.hand.now (search (rules, name)) kept))
     ])
