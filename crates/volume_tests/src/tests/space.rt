@@ -1,0 +1,59 @@
+//! Where blocks go, and what is left when they are written.
+use super::{BLOCK, Row, counts, find_full, keep, read, with_volume, write};
+use device::{MemBlock, MemMeta};
+use geometry::{Error, Kind};
+use names::VolumeName;
+use shared_volume::{FilePass, Volume};
+use std::process::Abort;
+use std::sync::Wait;
+use std::test::*;
+
+// A block of each kind of file: 0x11 of an ordinary one, 0x22 of a directory, 0x33 of media.
+pub(crate) fn write_first_blocks<V: VolumeName, R: Wait + Abort>(
+    rt: &R,
+    volume: &Volume<V, MemMeta, MemBlock>,
+    passes: &mut Vec<FilePass<V>>,
+) -> Result<(), Error> {
+    for (kind, byte) in [(Kind::File, 0x11u8), (Kind::Dir, 0x22), (Kind::Media, 0x33)] {
+        let mut pass = volume.create(rt, kind)?;
+        write(rt, volume, &mut pass, 0, byte)?;
+        keep(rt, passes, pass);
+    }
+    Ok(())
+}
+
+pub(crate) fn write_nine_times<V: VolumeName, R: Wait + Abort>(
+    rt: &R,
+    volume: &Volume<V, MemMeta, MemBlock>,
+    passes: &mut Vec<FilePass<V>>,
+) -> Result<(), Error> {
+    let mut pass = volume.create(rt, Kind::File)?;
+    for byte in 1..10u8 {
+        write(rt, volume, &mut pass, 0, byte)?;
+    }
+    assert_eq!(rt; counts(volume.status(rt)), (9u32, 1u32, 6u32, 0u32));
+    assert_eq!(rt; read(rt, volume, &pass, 0)?, (true, [9; BLOCK]));
+    keep(rt, passes, pass);
+    Ok(())
+}
+
+#[test]
+fn first_block_of_each_kind_goes_to_its_log(rt: HostRuntime) -> Result<(), Fail> {
+    let parts = with_volume(&rt, rt.alloc(), 16, 32, Row::FirstAddresses)?;
+    assert_eq!(rt; find_full(&parts, 0x11), (1u32, 33u32));
+    assert_eq!(rt; find_full(&parts, 0x22), (1u32, 25u32));
+    assert_eq!(rt; find_full(&parts, 0x33), (1u32, 41u32));
+    // Nothing else is written.
+    assert_eq!(rt; find_full(&parts, 0).0, 125u32);
+    Ok(())
+}
+
+#[test]
+fn nine_writes_of_a_block_retire_a_segment(rt: HostRuntime) -> Result<(), Fail> {
+    let parts = with_volume(&rt, rt.alloc(), 16, 32, Row::NineWrites)?;
+    assert_eq!(rt; find_full(&parts, 1), (1u32, 33u32));
+    assert_eq!(rt; find_full(&parts, 8), (1u32, 40u32));
+    // The logs have segments 0 to 5 and the reserve 6 to 9, so the next is segment 10.
+    assert_eq!(rt; find_full(&parts, 9), (1u32, 81u32));
+    Ok(())
+}
