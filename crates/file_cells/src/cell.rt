@@ -131,6 +131,3 @@ impl<V: VolumeName, B: Block + Drop> FileCell<V, B> {
         pass.length = file.length();
     }
 }
-
-// A cell may go to another thread where its blocks may: the names in its type are no values.
-unsafe impl<V: VolumeName, B: Block + Drop + Send> Send for FileCell<V, B> {}

@@ -25,9 +25,3 @@ pub struct SpareCell<V: VolumeName, B: Block + Drop> {
     pub ghost none: { vec_len accounts ≡ 0 },
     pub ghost fit: { V.Numbers.geometry.files ≤ vec_capacity accounts },
 }
-
-// What a checkpoint needs may go to another thread where the meta area may.
-unsafe impl<V: VolumeName, M: Meta + Send> Send for PacksCell<V, M> {}
-
-// And what is spare where the blocks may.
-unsafe impl<V: VolumeName, B: Block + Drop + Send> Send for SpareCell<V, B> {}

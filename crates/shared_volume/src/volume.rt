@@ -105,7 +105,3 @@ impl<V: VolumeName, M: Meta, B: Block + Drop> Volume<V, M, B> {
         cell.read(self.area.books(), pass, index, out)
     }
 }
-
-// What a thread does with a volume it does under a lock, and the names in its type are no values. That threads may share it is
-// said and proved here once, so that nobody who shares it has to look into it.
-unsafe impl<V: VolumeName, M: Meta + Send, B: Block + Drop + Send> Sync for Volume<V, M, B> {}
