@@ -124,7 +124,7 @@ fn look_once<V: VolumeName, R: Wait + Abort>(
 }
 
 #[test]
-fn reader_looks_while_its_file_is_overwritten(rt: HostRuntime) -> Result<(), Fail> {
+fn reader_has_what_was_overwritten(rt: HostRuntime) -> Result<(), Fail> {
     for _run in 0..200u32 {
         let (same, after, status) = with_volume(&rt, rt.alloc())?;
         assert!(rt; same);
