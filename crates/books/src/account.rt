@@ -5,8 +5,8 @@ ghost use Rattle.std.specs.Prelude.{◌≡◌};
 use crate::claim::Claim;
 use claims::Holder;
 use geometry::Mark;
+use remembered::Remembered;
 use std::marker::Model;
-use std::snapshot::Snapshot;
 
 /// A segment's account, `{ book; segment; marks }` to contracts: it lies in the segment's lock, and has the segment's
 /// marked blocks (Linux `filesystems/f2fs`, segment information table). It has no bytes.
@@ -143,7 +143,7 @@ pub struct Token {
     pub(crate) inode: u32,
     pub(crate) address: u32,
     // The hand that the token was put into, which has its entry in front.
-    pub(crate) hand: Snapshot<Holder<Claim>>,
+    pub(crate) hand: Remembered<Holder<Claim>>,
 }
 
 impl Model for Token {

@@ -25,8 +25,6 @@ pub mod looks;
 pub mod marks;
 pub mod numbers;
 pub mod passes;
-#[cfg(test)]
-mod tests;
 
 pub use account::{
     Audit, Dealer, FileAccount, PassAccount, Permit, Permits, SegmentAccount, ShardAccount, Ticket,

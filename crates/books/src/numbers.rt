@@ -10,6 +10,7 @@ ghost use Rattle.books.specs.Rules.{bare_entry, moved_to, with_lodged, lodged_of
 use crate::account::{FileAccount, Permit, ShardAccount, Ticket, Token};
 use crate::books::Books;
 use geometry::{Mark, Owner};
+use remembered::Remembered;
 use std::marker::Brand;
 use std::snapshot::Snapshot;
 
@@ -44,7 +45,7 @@ impl Books {
             number,
             inode,
             address: 0,
-            hand: Snapshot::of(&permit.holder),
+            hand: Remembered::of(&permit.holder),
         }
     }
 
@@ -111,7 +112,7 @@ impl Books {
             &about,
         );
         token.address = mark.address;
-        token.hand = Snapshot::of(&permit.holder);
+        token.hand = Remembered::of(&permit.holder);
         old
     }
 

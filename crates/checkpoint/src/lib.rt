@@ -12,6 +12,3 @@ mod writing;
 pub use image_packs::ImagePacks;
 pub use stored::Stored;
 pub use taken::Taken;
-
-#[cfg(test)]
-mod tests;

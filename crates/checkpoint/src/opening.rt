@@ -1,5 +1,5 @@
 //! The packs of an area that was written before, and the first pack of one that was not.
-ghost use Rattle.std.specs.Prelude.{◌≡◌, ◌⊎◌, ◌<◌, List, ℕ, [], ◌∷◌, length, Some, None, IfOk, IfErr};
+ghost use Rattle.std.specs.Prelude.{◌≡◌, ◌⊎◌, ◌<◌, ◌≤◌, List, ℕ, [], ◌∷◌, length, Some, None, IfOk, IfErr};
 ghost use Rattle.geometry.specs.Area.{meta_bytes};
 ghost use Rattle.geometry.specs.declared.error.Error.TheVariants.{NoMemory, Device, NoPack};
 ghost use Rattle.device.specs.Disk.{Leaves, LeavesOnly};
@@ -34,6 +34,8 @@ impl<M: Meta> ImagePacks<M> {
         ensures no_pack { IfErr result (λ e. e.0 ≡ NoPack
             → picked (reading_of (body_bytes geometry)) (M.seen meta) ≡ None) }
         ensures device { IfErr result (λ e. e.0 ≡ Device → M.failed meta < M.failed e.1) }
+        ensures failures { IfOk result (λ packs. M.failed meta ≤ M.failed packs.area.meta) }
+        ensures failures_err { IfErr result (λ e. M.failed meta ≤ M.failed e.1) }
 
         ensures any_moment { (old new : List ℕ) →
             let between = KeepsArea (M.seen meta) (Between (reading_of (body_bytes geometry)) old new) in

@@ -19,4 +19,5 @@ pub use keeper::{Files, migrate};
 pub use node::migrate_node;
 pub use policy::{Policy, choose};
 pub use section::{Cleaned, clean};
+pub use shared_files::{cut_blocks, give_node, give_up, write_block};
 pub use survey::Survey;

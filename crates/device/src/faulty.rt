@@ -188,6 +188,3 @@ impl<B: Block> Block for Faulty<B> {
         self.failures.told().saturating_add(self.inner.failures())
     }
 }
-
-#[cfg(test)]
-mod tests;

@@ -7,6 +7,3 @@ pub mod meta;
 pub use block::{MemBlock, MemLease};
 pub use device::MemDevice;
 pub use meta::MemMeta;
-
-#[cfg(test)]
-mod tests;

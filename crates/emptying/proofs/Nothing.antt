@@ -1,5 +1,5 @@
 -- Where the files have nothing, the shards and the segments have nothing.
-use Rattle.std.proofs.Common.{◌≡◌, ℕ, zero, suc, ◌+◌, ◌<◌, ◌≤◌, ◌==◌, List, [], ◌∷◌, ◌++◌, Option, Some, Bool, true, false, if◌then◌else◌, length, get_or, map, refl, sym, ap, subst, ◌∙◌, ⊎_elim, arith}
+use Rattle.std.proofs.Common.{◌≡◌, ℕ, zero, suc, ◌+◌, ◌<◌, ◌≤◌, ◌==◌, List, [], ◌∷◌, ◌++◌, Option, Some, Bool, true, false, if◌then◌else◌, length, get_or, set, map, refl, sym, ap, subst, ◌∙◌, ⊎_elim, arith}
 use Rattle.std.specs.Prelude.{slice_get}
 use Rattle.std.specs.Option.{unwrap_or}
 use Rattle.std.proofs.lemmas.Option.{slice_get_within, slice_get-get_or}
@@ -41,3 +41,12 @@ lodged_few shards =
 pub each_got : {A : Type 0} (P : ℕ → A → Type 0) (xs : List A) (x : A) → ((k : ℕ) (v : A) → slice_get xs k ≡ Some v → P k v) → P (length xs) x
     → (k : ℕ) (v : A) → slice_get (xs ++ x ∷ []) k ≡ Some v → P k v
 each_got P xs x each here k v got = ⊎_elim (λ t. each k v t) (λ t. subst (P k) t.1 (subst (λ n. P n x) (sym t.0) here)) (slice_get_push xs x k v got)
+
+-- one of the items is another
+pub each_reset : {A : Type 0} (P : ℕ → A → Type 0) (xs : List A) (i : ℕ) (x : A) → ((k : ℕ) (v : A) → slice_get xs k ≡ Some v → P k v) → P i x
+    → (k : ℕ) (v : A) → slice_get (set xs i x) k ≡ Some v → P k v
+each_reset P [] i x each here k v got = each k v got
+each_reset P (y ∷ xs) zero x each here zero v got = let same : x ≡ v = cc in subst (P zero) same here
+each_reset P (y ∷ xs) zero x each here (suc k) v got = each (suc k) v got
+each_reset P (y ∷ xs) (suc i) x each here zero v got = each zero v got
+each_reset P (y ∷ xs) (suc i) x each here (suc k) v got = each_reset (λ n. P (suc n)) xs i x (λ n w there. each (suc n) w there) here k v got

@@ -4,9 +4,11 @@ ghost use Rattle.device.specs.Parts.{IsBlockRun};
 ghost use Rattle.geometry.specs.Area.{block_count};
 ghost use Rattle.geometry.specs.Shape.{block_bytes};
 ghost use Rattle.names.specs.Names.{layout_of};
+ghost use Rattle.node_reading.specs.Blocks.{bytes_at};
 ghost use Rattle.emptying.specs.Rows.{AreSegments, AreShards, HaveNothing, AreEmpty, AreEmptyFalling};
+ghost use Rattle.emptying.specs.Home.{AreAtHome};
 
-use crate::owned::{own_segments, own_shards};
+use crate::owned_area::OwnedArea;
 use crate::spare::Spare;
 use audits::{learn_segments, learn_shards};
 use books::{Audit, Books, FileAccount};
@@ -17,6 +19,7 @@ use nat::Shard;
 use shared_area::MainArea;
 use sit::SegmentState;
 use std::sync::Wait;
+use turnstile::AllPermits;
 
 /// All blocks of a main area in the order of their addresses, where no file has lodged anything: an audit of the books shows
 /// that no block is valid then. It waits for all permits, and takes no memory.
@@ -24,38 +27,51 @@ pub fn empty_area<V: VolumeName, B: Block + Drop, R: Wait>(
     rt: &R,
     area: MainArea<V, B>,
     spare: Spare<V, B>,
-    mut files: Vec<FileAccount>,
+    files: Vec<FileAccount>,
 ) -> Vec<B>
     requires files { HaveNothing V.Books.books.book files.items }
     requires every_file { vec_len files ≡ V.Numbers.geometry.files }
     ensures run { IsBlockRun B.address_of B.content_of (block_bytes V.Numbers.geometry.shape) 1 result.items }
     ensures count { vec_len result ≡ block_count V.Numbers.geometry }
 {
-    let Spare {
-        blocks,
-        segments,
-        shards,
-        volume: _,
-    } = spare;
-    let geometry = area.geometry();
-    let _layout = area.books();
     let all = area.turnstile().gather(rt);
-    let (turnstile, segment_cells, shard_cells) = area.into_parts();
-    let mut segments = own_segments(rt, segment_cells, segments);
-    let mut shards = own_shards(rt, shard_cells, shards);
-    let mut auditing = turnstile.audit(all);
-    let books = turnstile.books();
-    show_empty::<V, B>(
-        books,
-        &mut auditing.audit,
-        &mut segments,
-        &mut shards,
-        &mut files,
-    );
-    let all = turnstile.end_audit(auditing);
-    turnstile.end(all);
-    segments.reverse();
-    empty_segments(&geometry, segments, blocks)
+    OwnedArea::own(rt, area, spare).empty(all, files)
+}
+
+impl<V: VolumeName, B: Block + Drop> OwnedArea<V, B> {
+    /// All blocks in the order of their addresses, with the bytes that they have at home, where no file has lodged anything: an
+    /// audit of the books, which all permits are in, shows that no block is valid then. It takes no memory.
+    pub fn empty(self, all: AllPermits<V::Books, V::Turns>, mut files: Vec<FileAccount>) -> Vec<B>
+        requires tickets { all.hand.tickets ≡ [] }
+        requires tokens { all.hand.tokens ≡ [] }
+        requires files { HaveNothing V.Books.books.book files.items }
+        requires every_file { vec_len files ≡ V.Numbers.geometry.files }
+        ensures run { IsBlockRun B.address_of B.content_of (block_bytes V.Numbers.geometry.shape) 1 result.items }
+        ensures count { vec_len result ≡ block_count V.Numbers.geometry }
+        ensures home { AreAtHome (bytes_at B.content_of result.items) self.segments.items }
+    {
+        let OwnedArea {
+            geometry,
+            turnstile,
+            words: _,
+            mut segments,
+            mut shards,
+            blocks,
+        } = self;
+        let mut auditing = turnstile.audit(all);
+        let books = turnstile.books();
+        show_empty::<V, B>(
+            books,
+            &mut auditing.audit,
+            &mut segments,
+            &mut shards,
+            &mut files,
+        );
+        let all = turnstile.end_audit(auditing);
+        turnstile.end(all);
+        segments.reverse();
+        empty_segments(&geometry, segments, blocks)
+    }
 }
 
 // An audit learns all accounts, of which those of the files have nothing lodged, and settles: no block is valid.
@@ -76,7 +92,7 @@ fn show_empty<V: VolumeName, B: Block + Drop>(
     requires files { HaveNothing V.Books.books.book files.old.items }
     requires every_file { vec_len files.old ≡ V.Numbers.geometry.files }
     ensures empty { AreEmpty V.Numbers.geometry.shape segments.new.items }
-    ensures count { vec_len segments.new ≡ vec_len segments.old }
+    ensures same { segments.new.items ≡ segments.old.items }
     ensures book { audit.new.book ≡ audit.old.book }
 {
     learn_segments(books, audit, segments);
@@ -97,6 +113,7 @@ fn empty_segments<B: Block + Drop>(
     requires room { block_count geometry.now ≤ vec_capacity blocks }
     ensures run { IsBlockRun B.address_of B.content_of (block_bytes geometry.now.shape) 1 result.items }
     ensures count { vec_len result ≡ block_count geometry.now }
+    ensures home { AreAtHome (bytes_at B.content_of result.items) segments.items }
 {
     'segments: while let Some(segment) = segments.pop() {
         segment.empty_into(&mut blocks);

@@ -3,7 +3,9 @@
 
 mod area;
 mod owned;
+mod owned_area;
 mod spare;
 
 pub use area::empty_area;
+pub use owned_area::OwnedArea;
 pub use spare::{Spare, SpareRows};

@@ -1,36 +1,33 @@
-//! The program: it checks an image file, or does its first run.
+//! The program: it checks an image file, or runs a script.
 #![tactic(auto)]
 
-mod check;
-mod content;
-mod lines;
-mod reading;
-mod run;
-mod session;
-mod status;
-mod stop;
-
-use check::check_image;
-use run::run_script;
 use script::words::USAGE;
 use script::{Words, WordsError};
-use status::MISUSED;
+use simulator::status::MISUSED;
+use simulator::{check_image, run_script, tell_failure};
 use std::fs::File;
 use std::io::Write;
 use std::process::ExitCode;
+use std::rt::Runtime;
+use std::sync::Wait;
 use std::{env, io};
-use stop::tell_failure;
 
 fn main(rt: HostRuntime) -> ExitCode {
-    let status = match called(&rt) {
+    let mut out = rt.stdout();
+    let mut errors = rt.stderr();
+    let status = match called(&rt, &mut out, &mut errors) {
         Ok(status) => status,
-        Err(_) => tell_failure(&mut rt.stderr()),
+        Err(_) => tell_failure(&mut errors),
     };
     ExitCode::from(status)
 }
 
 // Does what the words ask for, and answers the exit status.
-fn called(rt: &HostRuntime) -> io::Result<u8> {
+fn called<R: Runtime + AllocGlobal + Wait, W: Write, E: Write>(
+    rt: &R,
+    out: &mut W,
+    errors: &mut E,
+) -> io::Result<u8> {
     let mut words = Vec::new(rt.alloc());
     for word in env::args(rt)? {
         words.push(word)?;
@@ -38,11 +35,11 @@ fn called(rt: &HostRuntime) -> io::Result<u8> {
     match Words::parse(rt.alloc(), words.as_slice()) {
         Ok(Words::Check { image }) => {
             let mut file = File::open(rt, image)?;
-            Ok(check_image(rt.alloc(), &mut file, &mut rt.stdout(), &mut rt.stderr()))
+            Ok(check_image(rt.alloc(), &mut file, out, errors))
         }
-        Ok(Words::Run { save }) => run_saving(rt, save),
+        Ok(Words::Run { save }) => run_saving(rt, out, errors, save),
         Err(WordsError::Usage) => {
-            eprintln!(rt; "{USAGE}")?;
+            writeln!(errors, "{USAGE}")?;
             Ok(MISUSED)
         }
         Err(WordsError::NoMemory) => Err(io::Error::from(io::ErrorKind::OutOfMemory)),
@@ -50,19 +47,18 @@ fn called(rt: &HostRuntime) -> io::Result<u8> {
 }
 
 // Runs the script on standard input. The bytes of the device, if some were put aside, become those of the file at `save`.
-fn run_saving(rt: &HostRuntime, save: Option<&str>) -> io::Result<u8> {
+fn run_saving<R: Runtime + AllocGlobal + Wait, W: Write, E: Write>(
+    rt: &R,
+    out: &mut W,
+    errors: &mut E,
+    save: Option<&str>,
+) -> io::Result<u8> {
     let mut bytes = Vec::new(rt.alloc());
     let saved = match save {
         Some(_) => Some(&mut bytes),
         None => None,
     };
-    let status = run_script(
-        rt.alloc(),
-        &mut rt.reader(),
-        &mut rt.stdout(),
-        &mut rt.stderr(),
-        saved,
-    );
+    let status = run_script(rt, rt.alloc(), &mut rt.reader(), out, errors, saved);
     match save {
         Some(path) if !bytes.is_empty() => {
             let mut file = File::create(rt, path)?;
@@ -72,6 +68,3 @@ fn run_saving(rt: &HostRuntime, save: Option<&str>) -> io::Result<u8> {
         _ => Ok(status),
     }
 }
-
-#[cfg(test)]
-mod tests;

@@ -18,14 +18,15 @@ use Rattle.turnstile.specs.Turns.{at_home}
 use Rattle.nodes.specs.declared.file.FileState.{FileState}
 use Rattle.nodes.specs.File.{IsFile, IsBare, inode_of, ticket_at, blocks_below, content_of, file_of}
 use Rattle.nodes.specs.Held.{AreHeld, no_others}
-use Rattle.nodes.specs.Useful.{IsUseful, each_node}
-use Rattle.nodes.proofs.Useful.{useful_bare}
-use Rattle.file_law.specs.Law.{FileStateLaw}
-use Rattle.file_law.proofs.Lasting.{law_new}
-use Rattle.shared_files.specs.Contents.{InHand, Serves}
-use Rattle.shared_files.proofs.Born.{stored_new, in_hand_new}
-use Rattle.file_cells.specs.Cell.{IsLodged, IsCell}
+use Rattle.cleaning.specs.Law.{FileStateLaw}
+use Rattle.cleaning.proofs.Lasting.{law_new}
+use Rattle.cleaning.specs.Contents.{InHand, Serves}
+use Rattle.cleaning.proofs.Born.{stored_new, in_hand_new}
+use Rattle.file_cells.specs.Cell.{IsLodged, IsCell, CellView}
 use Rattle.file_cells.specs.Pass.{Pass, IsPassOf}
+
+pub same_number : {B L : Type 0} {x y : CellView B L} → x ≡ y → x.number ≡ y.number
+same_number {B} {L} is = ap (λ (c : CellView B L). c.number) is
 
 -- all is taken into the hand, and lodged again
 abbrev pub emptied : FileView → FileView
@@ -61,12 +62,11 @@ module _ (book : TableId) (a a1 a2 : FileView) (h h1 h2 h3 : HandView) (home : h
     pub lodged : (f : FileState B L) → a1 ≡ emptied a → a2 ≡ refilled h2 a1 → InHand no_others f h2 → AreHeld f a2.tickets a2.tokens
     lodged f empty full held = subst (λ (v : FileView). AreHeld f v.tickets v.tokens) (sym (full ∙ ap (refilled h2) empty)) held
 
-    pub lodged_again : (geometry : Geometry) (f g : FileState B L) → IsLodged geometry a f → a1 ≡ emptied a → a2 ≡ refilled h2 a1 → h1 ≡ holding a h → Serves f g h1 h2 → FileStateLaw geometry.files g → IsUseful each_node g → IsLodged geometry a2 g
-    lodged_again geometry f g was empty full is serves law useful = record {
+    pub lodged_again : (geometry : Geometry) (f g : FileState B L) → IsLodged geometry a f → a1 ≡ emptied a → a2 ≡ refilled h2 a1 → h1 ≡ holding a h → Serves f g h1 h2 → FileStateLaw geometry.files g → IsLodged geometry a2 g
+    lodged_again geometry f g was empty full is serves law = record {
       stored = serves.stored;
       shape_is = serves.shape ∙ was.shape_is;
       law = law;
-      useful = useful;
       lodged = lodged g empty full (serves.others no_others (in_hand f is was.lodged));
     }
 
@@ -105,7 +105,7 @@ module _ {B L : Type 0} (book : TableId) (geometry : Geometry) (number : ℕ) (a
   cell_noted a2 a3 g lodged named kept note = subst (λ x. IsCell book geometry number x (Some g)) (sym note) (record {
     book_is = kept.0 ∙ was.book_is;
     inode_is = kept.1 ∙ was.inode_is;
-    keeps = (record { stored = lodged.stored; shape_is = lodged.shape_is; law = lodged.law; useful = lodged.useful; lodged = lodged.lodged }, named ∙ was.keeps.1, refl);
+    keeps = (record { stored = lodged.stored; shape_is = lodged.shape_is; law = lodged.law; lodged = lodged.lodged }, named ∙ was.keeps.1, refl);
   })
 
   -- the pass shows the file of the state
@@ -154,6 +154,13 @@ pub reads : {B L : Type 0} (f : FileState B L) → IsFile f → (i : ℕ) (out :
 reads f is i out n bytes e read =
     read_slot (ticket_at f i) out n bytes e read ∙ ap (λ b. unwrap_or b (replicate bytes 0)) (sym ((shows_file_of f is).blocks i))
 
+-- ---- a file that was loaded comes into its cell
+
+-- what its pass shows
+pub pass_loaded : {B L : Type 0} (f : FileState B L) (number : ℕ) (p : PassView) → number ≡ f.token.number → p.content ≡ as_content (file_of f)
+    → ◌≡◌ {A = Pass} (record { number = number; file = as_file p.content }) (record { number = f.token.number; file = file_of f })
+pass_loaded f number p named shows = let same = ap as_file shows ∙ as_file_again (file_of f) in λ i. record { number = named i; file = same i }
+
 -- ---- a file without blocks comes into its cell
 
 module _ {B L : Type 0} (f : FileState B L) (kind : Kind) where
@@ -187,7 +194,6 @@ module _ {B L : Type 0} (book : TableId) (geometry : Geometry) (number : ℕ) (a
         stored = stored_new f k own bare is none (let n = ap (λ (e : Entry). e.number) token in omega arith);
         shape_is = shape;
         law = law_new geometry.files f bare marked (own ∙ (token ∙ ap (λ n. bare_entry n n) (sym numbered)));
-        useful = useful_bare f bare;
         lodged = in_hand_new f k own bare (record { book = book; tickets = a2.tickets; tokens = a2.tokens }) tickets_born tokens_born;
       },
       numbered,

@@ -7,17 +7,15 @@ use Rattle.books.specs.Contents.{as_content}
 use Rattle.nodes.specs.declared.file.FileState.{FileState}
 use Rattle.nodes.specs.File.{file_of}
 use Rattle.nodes.specs.Held.{AreHeld}
-use Rattle.nodes.specs.Useful.{IsUseful, each_node}
-use Rattle.file_law.specs.Law.{FileStateLaw}
-use Rattle.shared_files.specs.Contents.{IsStored}
+use Rattle.cleaning.specs.Law.{FileStateLaw}
+use Rattle.cleaning.specs.Contents.{IsStored}
 
--- A file's state between calls, under the law that an image of it needs. Each of its nodes but the inode names something.
--- The account has lodged its tickets and tokens, each as often.
+-- A file's state between calls, under the law that an image of it needs. The account has lodged its tickets and tokens, each
+-- as often.
 pub record IsLodged {B L : Type 0} (geometry : Geometry) (account : FileView) (f : FileState B L) : Type 0 where
   pub stored : IsStored f
   pub shape_is : f.shape ≡ geometry.shape
   pub law : FileStateLaw geometry.files f
-  pub useful : IsUseful each_node f
   pub lodged : AreHeld f account.tickets account.tokens
 
 -- there is a file, which the account shows, or none
@@ -31,7 +29,12 @@ pub record IsCell {B L : Type 0} (book : TableId) (geometry : Geometry) (number 
   pub inode_is : account.inode ≡ number
   pub keeps : Keeps geometry number account state
 
--- what contracts see of a cell: the number of its inode, and its account
-pub record CellView : Type 0 where
+-- what contracts see of a cell: the number of its inode, its account, and the file, where there is one
+pub record CellView (B L : Type 0) : Type 0 where
   pub number : ℕ
   pub account : FileView
+  pub state : Option (FileState B L)
+
+-- what is in the lock keeps its law
+abbrev pub IsLawfulCell : {B L : Type 0} → TableId → Geometry → CellView B L → Type 0
+IsLawfulCell book geometry c = IsCell book geometry c.number c.account c.state

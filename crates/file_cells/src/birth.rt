@@ -6,17 +6,17 @@ ghost use Rattle.books.specs.Contents.{as_content};
 ghost use Rattle.books.specs.Rules.{bare_entry};
 ghost use Rattle.nodes.specs.File.{file_of};
 ghost use Rattle.turnstile.specs.Turns.{at_home};
-ghost use Rattle.file_cells.specs.Cell.{IsCell};
+ghost use Rattle.file_cells.specs.Cell.{IsCell, IsLodged};
 
 use crate::cell::FileCell;
 use crate::pass::FilePass;
 use books::{Books, FileAccount, Noted, PassAccount, Permit};
+use cleaning::{give_node, give_up};
 use device::Block;
 use geometry::{Error, Kind};
 use names::VolumeName;
 use nodes::FileState;
 use shared_area::MainArea;
-use shared_files::{give_node, give_up};
 use std::alloc::Global;
 use std::marker::{Brand, PhantomData};
 use std::sync::Wait;
@@ -35,6 +35,29 @@ impl<V: VolumeName, B: Block + Drop> FileCell<V, B> {
             state,
             volume: PhantomData,
         }
+    }
+
+    /// A file that stands on a device comes into its lock, with the account that has lodged what it has, and of which no pass is
+    /// out: the lock's content, and the pass. It takes no memory.
+    pub fn load(
+        books: &Books,
+        mut account: FileAccount,
+        file: FileState<B>,
+    ) -> (FileCell<V, B>, FilePass<V>)
+        requires books { books.now ≡ V.Books.books }
+        requires book { account.book ≡ V.Books.books.book }
+        requires inode { account.inode ≡ file.token.number }
+        requires none { account.content ≡ None }
+        requires lodged { IsLodged V.Numbers.geometry account file }
+        requires some { 0 < file.token.number }
+        requires within { file.token.number ≤ V.Numbers.geometry.files }
+        ensures number { result.0.number ≡ file.token.number }
+        ensures pass { result.1 ≡ record { number = file.token.number; file = file_of file } }
+    {
+        let number = file.number();
+        let shown = issue_file::<B, Brand>(books, &mut account, &file);
+        let pass = FilePass::of(number, file.length(), shown);
+        (FileCell::of(number, account, Some(file)), pass)
     }
 
     /// A file without blocks comes into its lock, with the token of its inode, which is in hand: its pass.
@@ -94,17 +117,53 @@ impl<V: VolumeName, B: Block + Drop> FileCell<V, B> {
         ensures number { self.new.number ≡ self.old.number }
         ensures none { self.new.account.content ≡ None }
     {
+        let file = self.take(area.books(), hand, pass);
+        give_up(rt, area, hand, file);
+    }
+
+    /// Spends the pass, and takes the file, which is what the pass showed: its tickets and tokens are in hand.
+    pub fn take(&mut self, books: &Books, hand: &mut Permit, pass: FilePass<V>) -> FileState<B>
+        requires books { books.now ≡ V.Books.books }
+        requires hand { hand.old ≡ at_home V.Books.books.book }
+        requires number { self.old.number ≡ pass.number }
+        ensures state { self.old.state ≡ Some result }
+        ensures file { file_of result ≡ pass.file }
+        ensures lodged { IsLodged V.Numbers.geometry self.old.account result }
+        ensures hand { hand.new ≡ record hand.old { tickets = self.old.account.tickets; tokens = self.old.account.tokens } }
+        ensures none { (self.new.state ≡ None) × (self.new.account.content ≡ None) }
+        ensures number { self.new.number ≡ self.old.number }
+    {
         let FilePass {
             number: _,
             length: _,
             account: spent,
             volume: _,
         } = pass;
-        area.books().spend(&mut self.account, spent);
-        area.books().unlodge_all(&mut self.account, hand);
+        books.spend(&mut self.account, spent);
+        books.unlodge_all(&mut self.account, hand);
         match self.state.take() {
-            Some(file) => give_up(rt, area, hand, file),
+            Some(file) => file,
             None => unreachable!(),
+        }
+    }
+
+    /// The account of a number that has no file.
+    pub fn into_account(self) -> FileAccount
+        requires none { self.state ≡ None }
+        ensures book { result.book ≡ V.Books.books.book }
+        ensures inode { result.inode ≡ self.number }
+        ensures tickets { result.tickets ≡ [] }
+        ensures tokens { result.tokens ≡ [] }
+    {
+        let FileCell {
+            number: _,
+            account,
+            state,
+            volume: _,
+        } = self;
+        match state {
+            None => account,
+            Some(_) => unreachable!(),
         }
     }
 

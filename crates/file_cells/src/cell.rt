@@ -18,7 +18,7 @@ use std::alloc::Global;
 use std::marker::{Brand, Model, PhantomData};
 use std::sync::Wait;
 
-/// A file in its lock, `{ number; account }` to contracts. While the lock is free, the account has lodged what the file's state has, and shows what the file is;
+/// A file in its lock, `{ number; account; state }` to contracts. While the lock is free, the account has lodged what the file's state has, and shows what the file is;
 /// where there is no file it has nothing.
 pub struct FileCell<V: VolumeName, B: Block + Drop> {
     /// The number of its inode, from 1 on.
@@ -33,9 +33,9 @@ pub struct FileCell<V: VolumeName, B: Block + Drop> {
 impl<V: VolumeName, B: Block + Drop> Model for FileCell<V, B> {
     ghost use Rattle.file_cells.specs.Cell.{CellView, IsCell};
 
-    ghost Value = { CellView };
+    ghost Value = { CellView B B.Lease };
 
-    ghost view = { λ c. record { number = c.number; account = c.account } };
+    ghost view = { λ c. record { number = c.number; account = c.account; state = c.state } };
 
     ghost invariant = { λ c. IsCell V.Books.books.book V.Numbers.geometry c.number c.account c.state };
 }

@@ -11,12 +11,12 @@ ghost use Rattle.turnstile.specs.Turns.{at_home};
 ghost use Rattle.file_cells.specs.Cell.{IsLodged};
 
 use books::{Books, FileAccount, Noted, PassAccount, Permit};
+use cleaning::{cut_blocks, give_up, write_block};
 use device::Block;
 use geometry::Error;
 use names::VolumeName;
 use nodes::FileState;
 use shared_area::MainArea;
-use shared_files::{cut_blocks, give_up, write_block};
 use std::alloc::Global;
 use std::sync::Wait;
 

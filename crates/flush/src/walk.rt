@@ -9,8 +9,7 @@ use crate::entries::{flush_entries, write_branch};
 use crate::writer::NodeWriter;
 use device::Block;
 use geometry::Error;
-use tickets::Ticket;
-use tree::{Branch, Subtree};
+use tree::{Branch, Subtree, Ticket};
 
 /// A tree whose marked nodes can be written.
 pub trait Walk: Subtree {

@@ -6,7 +6,7 @@ ghost use Rattle.tree.specs.Change.{TreeNode};
 ghost use Rattle.flush.specs.Writing.{marked_node};
 
 use geometry::{Class, Error, Kind};
-use tickets::NidToken;
+use tree::NidToken;
 
 /// What a node's block is to spell, beside its number and that of its inode.
 #[derive(Clone, Copy)]

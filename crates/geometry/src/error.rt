@@ -93,6 +93,3 @@ impl<T: Drop> From<AllocFailed<T>> for Error {
         Error::NoMemory
     }
 }
-
-#[cfg(test)]
-mod tests;

@@ -28,6 +28,3 @@ pub fn path(shape: Shape, index: u64) -> Option<Path>
     let left = left - 2 * square;
     Some(Path::Double(left / square, left / entries % entries, left % entries))
 }
-
-#[cfg(test)]
-mod tests;

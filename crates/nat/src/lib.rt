@@ -6,8 +6,6 @@
 mod shard;
 mod slot;
 mod table;
-#[cfg(test)]
-mod tests;
 
 pub use shard::Shard;
 pub use table::NodeTable;

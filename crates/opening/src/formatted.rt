@@ -4,7 +4,7 @@ ghost use Rattle.device.specs.Parts.{HasSize};
 ghost use Rattle.geometry.specs.declared.error.Error.TheVariants.{NoMemory};
 
 use crate::opened::{NamedTables, Opened};
-use crate::tables::Tables;
+use crate::unnamed::Tables;
 use device::{Block, Meta, Parts};
 use geometry::{Error, Geometry};
 use names::{BooksName, GeometryName, WordsName};

@@ -5,11 +5,10 @@ ghost use Rattle.books.specs.Accounts.{AreEmptyFiles, AreEmptyShards};
 
 use books::{FileAccount, ShardAccount};
 use device::Block;
-use emptying::SpareRows;
-use file_cells::FileCell;
 use geometry::{Error, Geometry};
 use names::VolumeName;
 use shared_area::Frames;
+use shared_volume::{FileCell, SpareRows};
 use std::alloc::Global;
 use std::sync::Mutex;
 

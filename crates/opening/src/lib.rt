@@ -8,9 +8,14 @@
 
 mod formatted;
 mod frames;
+mod front;
 mod opened;
-mod tables;
+mod unnamed;
+mod unwritten;
 
 pub use formatted::{Formatted, OpenFault, format};
 pub use opened::{NamedTables, Opened};
-pub use tables::Tables;
+pub use shared_volume::{
+    Cleaned, CloseFault, Closed, FilePass, Policy, Reader, Seat, Status, Volume,
+};
+pub use unnamed::Tables;

@@ -1,15 +1,16 @@
 //! A volume whose queues have no name yet.
-ghost use Rattle.std.specs.Prelude.{◌≡◌, vec_len, IfOk, IfErr};
+ghost use Rattle.std.specs.Prelude.{◌≡◌, ◌⊎◌, vec_len, IfOk, IfErr};
 ghost use Rattle.device.specs.Parts.{HasSize};
-ghost use Rattle.geometry.specs.declared.error.Error.TheVariants.{NoMemory};
+ghost use Rattle.geometry.specs.declared.error.Error.TheVariants.{NoMemory, Device};
 
 use crate::formatted::OpenFault;
 use crate::frames::VolumeFrames;
-use crate::tables::Tables;
+use crate::unnamed::Tables;
+use crate::unwritten::Unwritten;
 use device::{Block, Meta, Parts};
+use geometry::Error;
 use names::{BooksName, GeometryName, Named, PoolName, TurnName, WordsName};
-use readers::{Seat, name_seats};
-use shared_volume::{PacksCell, SpareCell, Volume};
+use shared_volume::{PacksCell, Seat, SpareCell, Volume, name_seats};
 use std::alloc::Global;
 use std::marker::PhantomData;
 use std::sync::Wait;
@@ -38,9 +39,9 @@ pub struct Opened<L: BooksName, W: WordsName, N: GeometryName, M: Meta, B: Block
 
 impl<L: BooksName, W: WordsName, N: GeometryName, M: Meta, B: Block + Drop> Opened<L, W, N, M, B> {
     /// The volume under all its names, and the seats of its readers. Segments 0 to 5 are open, one for each log, and the others
-    /// are free.
+    /// are free. Its first pack is written, of version 1.
     ///
-    /// The only error is NoMemory, and hands the parts back.
+    /// Answers NoMemory where a growth was refused, and Device where the device failed, and hands parts of the same size back.
     pub fn name<P: PoolName, T: TurnName, R: Wait>(
         self,
         rt: &R,
@@ -56,8 +57,9 @@ impl<L: BooksName, W: WordsName, N: GeometryName, M: Meta, B: Block + Drop> Open
         requires turns { self.channel.turns ≡ T.turns }
         requires key { self.channel.key ≡ T.key }
         ensures seats { IfOk result (λ opened. vec_len opened.1 ≡ 64) }
-        ensures back { IfErr result (λ fault. fault.parts ≡ self.named.parts) }
-        ensures error { IfErr result (λ fault. fault.error ≡ NoMemory) }
+        ensures base { IfOk result (λ opened. opened.0.base.version ≡ 1) }
+        ensures back { IfErr result (λ fault. HasSize M.seen B.address_of B.content_of N.geometry fault.parts) }
+        ensures error { IfErr result (λ fault. (fault.error ≡ NoMemory) ⊎ (fault.error ≡ Device)) }
     {
         let Opened {
             named,
@@ -87,9 +89,19 @@ impl<L: BooksName, W: WordsName, N: GeometryName, M: Meta, B: Block + Drop> Open
             Ok(seats) => seats,
             Err(error) => return Err(OpenFault { parts, error }),
         };
+        let kept = match Vec::with_capacity(alloc, geometry.segments as usize) {
+            Ok(kept) => kept,
+            Err(error) => {
+                let error = Error::from(error);
+                return Err(OpenFault { parts, error });
+            }
+        };
         let frames = match VolumeFrames::new(alloc, &geometry, shards, files) {
             Ok(frames) => frames,
-            Err(error) => return Err(OpenFault { parts, error }),
+            Err(error) => {
+                kept.destroy_empty();
+                return Err(OpenFault { parts, error });
+            }
         };
         let VolumeFrames {
             area,
@@ -113,15 +125,18 @@ impl<L: BooksName, W: WordsName, N: GeometryName, M: Meta, B: Block + Drop> Open
             &mut blocks,
         );
         area.turnstile().scatter(rt, all);
-        let packs = PacksCell {
-            meta,
-            pass,
-            checkpoint,
+        let unwritten = Unwritten {
+            area,
+            files,
+            packs: PacksCell::blank(meta, geometry, checkpoint, pass, kept),
+            spare: SpareCell {
+                rows: spare.with_blocks(blocks),
+                accounts,
+            },
         };
-        let spare = SpareCell {
-            rows: spare.with_blocks(blocks),
-            accounts,
-        };
-        Ok((Volume::of(alloc, area, files, packs, spare), seats))
+        match unwritten.begin(rt, alloc) {
+            Ok(volume) => Ok((volume, seats)),
+            Err(fault) => Err(fault),
+        }
     }
 }

@@ -17,6 +17,3 @@ pub use choice::{Ends, pick};
 pub use law::crash_law;
 pub use packs::Packs;
 pub use stored::Stored;
-
-#[cfg(test)]
-mod tests;

@@ -35,6 +35,8 @@ impl<M: Meta> Packs<M> {
         ensures no_pack { IfErr result (λ e. e.0 ≡ NoPack
             → picked (reading_of (body_bytes geometry.now)) (M.seen meta) ≡ None) }
         ensures device { IfErr result (λ e. e.0 ≡ Device → M.failed meta < M.failed e.1) }
+        ensures failures { IfOk result (λ packs. M.failed meta ≤ M.failed packs.meta) }
+        ensures failures_err { IfErr result (λ e. M.failed meta ≤ M.failed e.1) }
 
         // A crash at any moment of the call leaves the area between two packs, where one before it did.
         ensures any_moment { (old new : List ℕ) →

@@ -1,4 +1,3 @@
 pub mod Tallies
 pub mod Steps
 pub mod Gathering
-pub mod Fresh

@@ -11,8 +11,6 @@ mod opened;
 mod pass;
 mod pool;
 mod slip;
-#[cfg(test)]
-mod tests;
 
 pub use law::{Account, Tally};
 pub use opened::Opened;

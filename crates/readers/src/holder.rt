@@ -7,7 +7,7 @@ ghost use Rattle.sit.specs.Pinned.{HasBlockIn};
 use books::FileAccount;
 use device::Block;
 use names::VolumeName;
-use shared_area::{MainArea, SegmentCell};
+use shared_files::{MainArea, SegmentCell};
 use std::marker::{Model, PhantomData};
 use words::Words;
 

@@ -5,7 +5,7 @@ ghost use Rattle.readers.specs.Status.{all};
 use device::Block;
 use geometry::State;
 use names::VolumeName;
-use shared_area::MainArea;
+use shared_files::MainArea;
 use std::sync::Wait;
 
 /// How many segments are in each state. Each was counted in a state that it had while its lock was held, one segment after

@@ -24,11 +24,11 @@ use device::Block;
 use geometry::Error;
 use names::VolumeName;
 use nodes::FileState;
+use remembered::Remembered;
 use seek_data::next_data;
-use shared_area::MainArea;
+use shared_files::MainArea;
 use std::alloc::Global;
 use std::collections::BTreeMap;
-use std::snapshot::Snapshot;
 use std::sync::Wait;
 
 /// A snapshot of a file, whose lock is held and whose tickets are lodged in its account. All memory is made before the first
@@ -63,7 +63,7 @@ pub fn take_reader<'a, V: VolumeName, B: Block + Drop, R: Wait>(
             pin_all(rt, area, file, account, &mut seat, &mut pinned);
             Ok(Reader {
                 words: area.words(),
-                file: Snapshot::of(file),
+                file: Remembered::of(file),
                 length: file.length(),
                 leases,
                 pinned,

@@ -5,33 +5,21 @@ use Rattle.script.specs.declared.command.Allowed.{Allowed}
 use Rattle.script.specs.declared.command.Allowed.TheVariants.{Everything, Files}
 use Rattle.script.specs.declared.command.Command.{Command}
 use Rattle.script.specs.declared.command.Command.TheVariants.{Work as WorkOf, Now, Create, Delete, Status, Snap, Done, Fail, Remount}
-use Rattle.script.specs.declared.command.Work.{Work}
-use Rattle.script.specs.declared.command.Work.TheVariants.{Write, Fill, Read, Cut, Clean, Sync, Look}
 use Rattle.script.specs.declared.line.Statement.{Statement}
 use Rattle.script.specs.declared.line.Statement.TheVariants.{Format, Command as CommandStatement, Par, Worker, End}
 use Rattle.script.specs.declared.script.Numbers.{Numbers}
 use Rattle.script.specs.declared.script.Step.{Step}
 use Rattle.script.specs.declared.script.Step.TheVariants.{Command as CommandStep, Part}
 
--- it writes, reads or cuts a file
-abbrev pub is_work_on_file : Work → Bool
-is_work_on_file (Write file index byte) = true
-is_work_on_file (Fill file first last byte) = true
-is_work_on_file (Read file index) = true
-is_work_on_file (Cut file length) = true
-is_work_on_file (Clean cleaning) = false
-is_work_on_file Sync = false
-is_work_on_file (Look reader) = false
-
--- it makes a file, works on one, or sets the time
+-- it lets no call of the device fail, and mounts nothing
 abbrev pub is_of_files : Command → Bool
-is_of_files (WorkOf work) = is_work_on_file work
+is_of_files (WorkOf work) = true
 is_of_files (Now time) = true
 is_of_files (Create kind) = true
-is_of_files (Delete file) = false
-is_of_files Status = false
-is_of_files (Snap file) = false
-is_of_files (Done reader) = false
+is_of_files (Delete file) = true
+is_of_files Status = true
+is_of_files (Snap file) = true
+is_of_files (Done reader) = true
 is_of_files (Fail failure) = false
 is_of_files Remount = false
 

@@ -1,6 +1,6 @@
 //! The commands of a script. Files are named by their inode numbers, and readers by the order in which they were taken.
 ghost use Rattle.std.specs.Prelude.{◌≡◌};
-ghost use Rattle.script.specs.Allowed.{is_of_files, is_work_on_file};
+ghost use Rattle.script.specs.Allowed.{is_of_files};
 
 use geometry::Kind;
 
@@ -9,7 +9,7 @@ use geometry::Kind;
 pub enum Allowed {
     /// All of the grammar.
     Everything,
-    /// Those of files on one thread: `now`, `create`, `write`, `fill`, `read` and `cut`.
+    /// Those on one thread whose device works and is mounted once: all but `fail`, `remount` and parallel parts.
     Files,
 }
 
@@ -91,31 +91,19 @@ pub enum Command {
 }
 
 impl Command {
-    /// Whether it is of those of files on one thread.
+    /// Whether it is of those on one thread whose device works and is mounted once.
     pub fn is_of_files(self) -> bool
         ensures { result ≡ is_of_files self }
     {
         match self {
-            Command::Now(_) | Command::Create(_) => true,
-            Command::Work(work) => work.is_on_file(),
-            Command::Delete { .. }
+            Command::Work(_)
+            | Command::Now(_)
+            | Command::Create(_)
+            | Command::Delete { .. }
             | Command::Status
             | Command::Snap { .. }
-            | Command::Done { .. }
-            | Command::Fail(_)
-            | Command::Remount => false,
-        }
-    }
-}
-
-impl Work {
-    // Whether it writes, reads or cuts a file.
-    fn is_on_file(self) -> bool
-        ensures { result ≡ is_work_on_file self }
-    {
-        match self {
-            Work::Write { .. } | Work::Fill { .. } | Work::Read { .. } | Work::Cut { .. } => true,
-            Work::Clean(_) | Work::Sync | Work::Look { .. } => false,
+            | Command::Done { .. } => true,
+            Command::Fail(_) | Command::Remount => false,
         }
     }
 }

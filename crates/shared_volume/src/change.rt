@@ -9,7 +9,7 @@ ghost use Rattle.turnstile.specs.Turns.{at_home};
 use crate::volume::Volume;
 use books::Permit;
 use device::{Block, Meta};
-use file_cells::FilePass;
+use final_checkpoint::FilePass;
 use geometry::{Error, Kind};
 use names::VolumeName;
 use std::sync::Wait;

@@ -1,21 +1,25 @@
 //! How a volume is left.
 ghost use Rattle.std.specs.Prelude.{◌≡◌, ◌≤◌, length, vec_len, vec_capacity, IfOk, IfErr, IfSome};
+ghost use Rattle.geometry.specs.Area.{meta_bytes};
 ghost use Rattle.device.specs.Parts.{HasSize};
 ghost use Rattle.emptying.specs.Rows.{HaveNothing};
 ghost use Rattle.turnstile.specs.Turns.{at_home};
 ghost use Rattle.shared_volume.specs.Leaving.{IsLeftOut};
 
-use crate::cells::{PacksCell, SpareCell};
+use crate::cells::SpareCell;
 use crate::volume::Volume;
 use books::{FileAccount, Permit};
+use checkpoint::ImagePacks;
 use device::{Block, Meta, Parts};
 use emptying::empty_area;
-use file_cells::{FileCell, FilePass};
+use final_checkpoint::{FileCell, FilePass, own_file};
 use geometry::Error;
 use names::VolumeName;
+use packs::Packs;
 use readers::{Seat, seats_out};
 use shared_area::MainArea;
 use std::sync::{Mutex, Wait};
+use volume_packs::PacksCell;
 
 /// Why a volume was not left, with all that was handed in.
 pub struct CloseFault<V: VolumeName, M: Meta, B: Block + Drop> {
@@ -56,7 +60,12 @@ impl<V: VolumeName, M: Meta, B: Block + Drop> Volume<V, M, B> {
     }
 
     // What is missing beside these seats and so many passes.
-    fn find_missing<R: Wait>(&self, rt: &R, seats: &[Seat<V>], passes: usize) -> Option<Error>
+    pub(crate) fn find_missing<R: Wait>(
+        &self,
+        rt: &R,
+        seats: &[Seat<V>],
+        passes: usize,
+    ) -> Option<Error>
         ensures some { IfSome result (λ error. IsLeftOut (length seats.now) error) }
         ensures none { result ≡ None → 64 ≤ length seats.now }
     {
@@ -93,13 +102,10 @@ impl<V: VolumeName, M: Meta, B: Block + Drop> Volume<V, M, B> {
             packs,
             wounded: _,
             spare,
+            base: _,
         } = self;
         let SpareCell { rows, accounts } = spare.into_inner();
-        let PacksCell {
-            meta,
-            pass: _,
-            checkpoint: _,
-        } = packs.into_inner();
+        let meta = into_meta(packs.into_inner());
         let mut permit = area.turnstile().enter(rt);
         let accounts = give_up_files(rt, &area, &mut permit.hand, files, accounts);
         area.turnstile().leave(rt, permit);
@@ -108,6 +114,31 @@ impl<V: VolumeName, M: Meta, B: Block + Drop> Volume<V, M, B> {
             blocks: empty_area(rt, area, rows, accounts),
         }
     }
+}
+
+// The meta area of packs.
+pub(crate) fn into_meta<V: VolumeName, M: Meta>(packs: PacksCell<V, M>) -> M
+    ensures meta { result ≡ packs.packs.area.meta }
+    ensures size { length (M.seen result) ≡ meta_bytes V.Numbers.geometry }
+{
+    let PacksCell {
+        packs,
+        wounded: _,
+        checkpoint: _,
+        pass: _,
+        mut kept,
+    } = packs;
+    'kept: while let Some(slip) = kept.pop() {
+        slip.store();
+    }
+    kept.destroy_empty();
+    let ImagePacks { area, geometry: _ } = packs;
+    let Packs {
+        meta,
+        len: _,
+        version: _,
+    } = area;
+    meta
 }
 
 // All that the files have is given back: their accounts, which have lodged nothing, in the order of their numbers. There is
@@ -134,20 +165,4 @@ fn give_up_files<V: VolumeName, B: Block + Drop, R: Wait>(
     }
     files.destroy_empty();
     accounts
-}
-
-fn own_file<V: VolumeName, B: Block + Drop, R: Wait>(
-    rt: &R,
-    file: Mutex<FileCell<V, B>>,
-    number: u32,
-) -> FileCell<V, B>
-    ensures { result.number ≡ number }
-{
-    // Nothing ties a lock's place to what is in it, so the number is compared; it is always the one.
-    let cell = file.into_inner();
-    if cell.number == number {
-        return cell;
-    }
-    for _ in rt.forever() {}
-    unreachable!()
 }

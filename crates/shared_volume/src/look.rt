@@ -6,7 +6,7 @@ ghost use Rattle.readers.specs.Status.{all};
 
 use crate::volume::Volume;
 use device::{Block, Meta};
-use file_cells::FilePass;
+use final_checkpoint::FilePass;
 use geometry::Error;
 use names::VolumeName;
 use readers::{Reader, Seat, Status, count_states};

@@ -5,15 +5,24 @@ ghost use Rattle.geometry.specs.declared.error.Error.TheVariants.{Device};
 ghost use Rattle.geometry.specs.File.{bytes_at};
 ghost use Rattle.geometry.specs.Shape.{block_bytes};
 
-use crate::cells::{PacksCell, SpareCell};
+use crate::cells::SpareCell;
 use device::{Block, Meta};
-use file_cells::{FileCell, FilePass};
+use final_checkpoint::{FileCell, FilePass};
 use geometry::{Error, Geometry};
 use names::VolumeName;
 use shared_area::MainArea;
 use std::alloc::Global;
 use std::sync::atomic::{AtomicBool, Ordering};
 use std::sync::{Mutex, MutexGuard, Wait};
+use volume_packs::PacksCell;
+
+/// Of the image at which a volume was opened.
+#[derive(Clone, Copy, Debug, PartialEq, Eq)]
+pub struct Base {
+    pub version: u32,
+    /// How many blocks were valid.
+    pub total: u32,
+}
 
 /// A volume over a device: its main area, and its files, each in a lock of its own. All threads share it by `&`. Locks are
 /// taken in this order: a file's, then those of the main area.
@@ -27,6 +36,7 @@ pub struct Volume<V: VolumeName, M: Meta, B: Block + Drop> {
     pub(crate) wounded: AtomicBool,
     // So that leaving takes no memory.
     pub(crate) spare: Mutex<SpareCell<V, B>>,
+    pub(crate) base: Base,
     ghost filed: { vec_len files ≡ V.Numbers.geometry.files },
 }
 
@@ -38,8 +48,10 @@ impl<V: VolumeName, M: Meta, B: Block + Drop> Volume<V, M, B> {
         files: Vec<Mutex<FileCell<V, B>>>,
         packs: PacksCell<V, M>,
         spare: SpareCell<V, B>,
+        base: Base,
     ) -> Volume<V, M, B>
-        requires { vec_len files ≡ V.Numbers.geometry.files }
+        requires files { vec_len files ≡ V.Numbers.geometry.files }
+        ensures base { result.base ≡ base }
     {
         Volume {
             alloc,
@@ -48,7 +60,15 @@ impl<V: VolumeName, M: Meta, B: Block + Drop> Volume<V, M, B> {
             packs: Mutex::new(packs),
             wounded: AtomicBool::new(false),
             spare: Mutex::new(spare),
+            base,
         }
+    }
+
+    /// The version of the image at which the volume was opened, and how many blocks were valid in it.
+    pub fn base(&self) -> Base
+        ensures { result ≡ self.now.base }
+    {
+        self.base
     }
 
     /// The volume's numbers.

@@ -1,6 +1,6 @@
 //! Spare nodes below one entry.
 ghost use Rattle.std.specs.Prelude.{Bool, ◌≡◌, ℕ, ◌+◌, ◌%◌, ◌^◌, ◌<◌, is_none, OnOk, OnErr, IfErr, MatchOption, IsTrue, ◌↔◌, Option, Some, None, true, false};
-ghost use Rattle.books.specs.declared.claim.Entry.{Entry};
+ghost use Rattle.tree.specs.Entry.{Entry};
 ghost use Rattle.tree.specs.Tree.{Same, SparesIndex};
 ghost use Rattle.tree.specs.Change.{TreeNode, ChangesSlot, IsNewNode, nothing};
 ghost use Rattle.spares.specs.Spares.{KeepsNames, lacking_below, token_weight, IsEmptyNode, number_at_end};
@@ -9,8 +9,7 @@ use crate::entries::{is_ready_in, plant_in, prepare_in};
 use device::Block;
 use std::alloc::Global;
 use std::mem;
-use tickets::{NidToken, Ticket};
-use tree::{Branch, Subtree};
+use tree::{Branch, NidToken, Subtree, Ticket};
 
 /// A tree whose missing nodes can be made before they are needed.
 ///

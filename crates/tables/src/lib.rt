@@ -14,6 +14,3 @@ pub use encoding::encode;
 pub use file::{ReadImage, file_bytes};
 pub use law::reading_law;
 pub use superblock::{read_super, write_super};
-
-#[cfg(test)]
-mod tests;

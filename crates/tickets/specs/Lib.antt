@@ -1,1 +1,2 @@
 pub mod Placed
+pub use Rattle.books.specs.declared.claim.Entry

@@ -3,3 +3,4 @@ pub mod Change
 pub mod Laws
 pub mod Pruned
 pub mod Useful
+pub use Rattle.tickets.specs.Entry

@@ -5,8 +5,8 @@ ghost use Rattle.tree.specs.Tree.{find_in, ShapedIn, AreNone, entry_at, number_o
 ghost use Rattle.tree.specs.Change.{nothing, each_marked};
 
 use crate::subtree::Subtree;
-use device::DeviceError;
 use std::alloc::{AllocError, Global};
+use tickets::DeviceError;
 
 mod change;
 mod cut;

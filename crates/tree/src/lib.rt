@@ -11,3 +11,4 @@ pub use branch::Branch;
 pub use entries::{Entries, Pruned};
 pub use spare::Spare;
 pub use subtree::Subtree;
+pub use tickets::{NidToken, Ticket};

@@ -11,8 +11,6 @@ mod all;
 mod law;
 mod opened;
 mod permit;
-#[cfg(test)]
-mod tests;
 mod token;
 mod turnstile;
 

@@ -20,8 +20,6 @@ mod moves;
 mod plays;
 mod reading;
 mod table;
-#[cfg(test)]
-mod tests;
 mod tokens;
 
 pub use claim::{Claim, Life, Pins};

@@ -1,15 +1,17 @@
 //! Numbers, lengths and bytes of files.
-use super::{Row, keep, with_volume};
+use super::{Row, keep, read, valid, with_volume, write};
 use device::{MemBlock, MemMeta};
 use geometry::{Error, Kind};
 use names::VolumeName;
-use shared_volume::{FilePass, Volume};
+use opening::{FilePass, Volume};
+use std::alloc::Global;
 use std::process::Abort;
 use std::sync::Wait;
 use std::test::*;
 
 pub(crate) fn create_five_and_delete<V: VolumeName, R: Wait + Abort>(
     rt: &R,
+    alloc: Global,
     volume: &Volume<V, MemMeta, MemBlock>,
     passes: &mut Vec<FilePass<V>>,
 ) -> Result<(), Error> {
@@ -40,9 +42,88 @@ pub(crate) fn create_five_and_delete<V: VolumeName, R: Wait + Abort>(
     Ok(())
 }
 
+pub(crate) fn write_at_each_depth<V: VolumeName, R: Wait + Abort>(
+    rt: &R,
+    alloc: Global,
+    volume: &Volume<V, MemMeta, MemBlock>,
+    passes: &mut Vec<FilePass<V>>,
+) -> Result<(), Error> {
+    let mut pass = volume.create(rt, Kind::File)?;
+    write(rt, alloc, volume, &mut pass, 2, 1)?;
+    write(rt, alloc, volume, &mut pass, 22, 2)?;
+    write(rt, alloc, volume, &mut pass, 23, 3)?;
+    write(rt, alloc, volume, &mut pass, 1222, 4)?;
+    assert!(rt; write(rt, alloc, volume, &mut pass, 1223, 5) == Err(Error::TooFar));
+    assert_eq!(rt; pass.length(), 1223u32);
+    assert_eq!(rt; read(rt, alloc, volume, &pass, 1222), Some(4u8));
+    assert_eq!(rt; read(rt, alloc, volume, &pass, 1221), Some(0u8), "a hole");
+    assert_eq!(rt; valid(rt, volume)?, 4u32);
+    volume.cut(rt, &mut pass, 23)?;
+    assert_eq!(rt; read(rt, alloc, volume, &pass, 23), None, "untouched");
+    assert_eq!(rt; read(rt, alloc, volume, &pass, 22), Some(2u8));
+    assert_eq!(rt; valid(rt, volume)?, 2u32);
+    keep(rt, passes, pass);
+    Ok(())
+}
+
+// Two files append to one log and are overwritten, in turn.
+pub(crate) fn write_two_files<V: VolumeName, R: Wait + Abort>(
+    rt: &R,
+    alloc: Global,
+    volume: &Volume<V, MemMeta, MemBlock>,
+    passes: &mut Vec<FilePass<V>>,
+) -> Result<(), Error> {
+    let mut one = volume.create(rt, Kind::File)?;
+    let mut other = volume.create(rt, Kind::File)?;
+    for round in 0..2u8 {
+        for index in 0..3u8 {
+            write(
+                rt,
+                alloc,
+                volume,
+                &mut one,
+                u32::from(index),
+                16 + 4 * round + index,
+            )?;
+            write(
+                rt,
+                alloc,
+                volume,
+                &mut other,
+                u32::from(index),
+                32 + 4 * round + index,
+            )?;
+        }
+    }
+    for index in 0..3u8 {
+        let (place, byte) = (u32::from(index), 20 + index);
+        assert_eq!(rt; read(rt, alloc, volume, &one, place), Some(byte));
+        assert_eq!(rt; read(rt, alloc, volume, &other, place), Some(byte + 16));
+    }
+    assert_eq!(rt; (one.length(), other.length()), (3u32, 3u32));
+    assert_eq!(rt; valid(rt, volume)?, 6u32);
+    keep(rt, passes, one);
+    keep(rt, passes, other);
+    Ok(())
+}
+
 #[test]
 fn number_of_a_deleted_file_is_given_again(rt: HostRuntime) -> Result<(), Fail> {
     let parts = with_volume(&rt, rt.alloc(), 16, 32, Row::FiveCreates)?;
+    assert_eq!(rt; parts.blocks.len(), 128usize);
+    Ok(())
+}
+
+#[test]
+fn blocks_stand_at_all_depths(rt: HostRuntime) -> Result<(), Fail> {
+    let parts = with_volume(&rt, rt.alloc(), 16, 32, Row::Depths)?;
+    assert_eq!(rt; parts.blocks.len(), 128usize);
+    Ok(())
+}
+
+#[test]
+fn two_files_are_read_back(rt: HostRuntime) -> Result<(), Fail> {
+    let parts = with_volume(&rt, rt.alloc(), 16, 32, Row::TwoFiles)?;
     assert_eq!(rt; parts.blocks.len(), 128usize);
     Ok(())
 }

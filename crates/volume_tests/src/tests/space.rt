@@ -1,9 +1,10 @@
 //! Where blocks go, and what is left when they are written.
-use super::{BLOCK, Row, counts, find_full, keep, read, with_volume, write};
+use super::{Row, counts, find_full, keep, read, valid, with_volume, write};
 use device::{MemBlock, MemMeta};
 use geometry::{Error, Kind};
 use names::VolumeName;
-use shared_volume::{FilePass, Volume};
+use opening::{FilePass, Volume};
+use std::alloc::Global;
 use std::process::Abort;
 use std::sync::Wait;
 use std::test::*;
@@ -11,12 +12,13 @@ use std::test::*;
 // A block of each kind of file: 0x11 of an ordinary one, 0x22 of a directory, 0x33 of media.
 pub(crate) fn write_first_blocks<V: VolumeName, R: Wait + Abort>(
     rt: &R,
+    alloc: Global,
     volume: &Volume<V, MemMeta, MemBlock>,
     passes: &mut Vec<FilePass<V>>,
 ) -> Result<(), Error> {
     for (kind, byte) in [(Kind::File, 0x11u8), (Kind::Dir, 0x22), (Kind::Media, 0x33)] {
         let mut pass = volume.create(rt, kind)?;
-        write(rt, volume, &mut pass, 0, byte)?;
+        write(rt, alloc, volume, &mut pass, 0, byte)?;
         keep(rt, passes, pass);
     }
     Ok(())
@@ -24,15 +26,39 @@ pub(crate) fn write_first_blocks<V: VolumeName, R: Wait + Abort>(
 
 pub(crate) fn write_nine_times<V: VolumeName, R: Wait + Abort>(
     rt: &R,
+    alloc: Global,
     volume: &Volume<V, MemMeta, MemBlock>,
     passes: &mut Vec<FilePass<V>>,
 ) -> Result<(), Error> {
     let mut pass = volume.create(rt, Kind::File)?;
     for byte in 1..10u8 {
-        write(rt, volume, &mut pass, 0, byte)?;
+        write(rt, alloc, volume, &mut pass, 0, byte)?;
     }
     assert_eq!(rt; counts(volume.status(rt)), (9u32, 1u32, 6u32, 0u32));
-    assert_eq!(rt; read(rt, volume, &pass, 0)?, (true, [9; BLOCK]));
+    assert_eq!(rt; read(rt, alloc, volume, &pass, 0), Some(9u8));
+    keep(rt, passes, pass);
+    Ok(())
+}
+
+// One block is overwritten until the log and all segments outside of the reserve are full.
+pub(crate) fn write_until_full<V: VolumeName, R: Wait + Abort>(
+    rt: &R,
+    alloc: Global,
+    volume: &Volume<V, MemMeta, MemBlock>,
+    passes: &mut Vec<FilePass<V>>,
+) -> Result<(), Error> {
+    let mut pass = volume.create(rt, Kind::Media)?;
+    let mut written = 0u32;
+    for turn in 0..200u32 {
+        match write(rt, alloc, volume, &mut pass, 2, turn as u8) {
+            Ok(()) => written = written.saturating_add(1),
+            Err(error) => assert!(rt; error == Error::NoSpace, "{error}"),
+        }
+    }
+    assert_eq!(rt; written, 56u32);
+    assert_eq!(rt; read(rt, alloc, volume, &pass, 2), Some(55u8));
+    assert_eq!(rt; counts(volume.status(rt)), (4u32, 6u32, 5u32, 1u32));
+    assert_eq!(rt; valid(rt, volume)?, 1u32);
     keep(rt, passes, pass);
     Ok(())
 }
@@ -55,5 +81,12 @@ fn nine_writes_of_a_block_retire_a_segment(rt: HostRuntime) -> Result<(), Fail> 
     assert_eq!(rt; find_full(&parts, 8), (1u32, 40u32));
     // The logs have segments 0 to 5 and the reserve 6 to 9, so the next is segment 10.
     assert_eq!(rt; find_full(&parts, 9), (1u32, 81u32));
+    Ok(())
+}
+
+#[test]
+fn full_volume_has_no_space(rt: HostRuntime) -> Result<(), Fail> {
+    let parts = with_volume(&rt, rt.alloc(), 16, 32, Row::FullVolume)?;
+    assert_eq!(rt; parts.blocks.len(), 128usize);
     Ok(())
 }

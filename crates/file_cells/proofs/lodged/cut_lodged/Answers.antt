@@ -30,7 +30,7 @@ pub returns-clause-lodged : goal.returns-clause-lodged
 returns-clause-lodged g c =
     let h = c.args.hand.now in
     lodged_again g.V.Books.BooksName.books.book c.args.account.now c.unlodge_all.new.file c.lodge_all.new.file h c.unlodge_all.new.permit c.cut_blocks.new.hand h c.requires.hand
-    g.V.Numbers.GeometryName.geometry c.args.file.now c.cut_blocks.new.file c.requires.lodged c.unlodge_all.ensures.file c.lodge_all.ensures.file c.unlodge_all.ensures.permit c.cut_blocks.ensures.serves c.cut_blocks.ensures.law (c.cut_blocks.ensures.useful c.requires.lodged.useful)
+    g.V.Numbers.GeometryName.geometry c.args.file.now c.cut_blocks.new.file c.requires.lodged c.unlodge_all.ensures.file c.lodge_all.ensures.file c.unlodge_all.ensures.permit c.cut_blocks.ensures.serves c.cut_blocks.ensures.law
 
 pub returns-clause-account : goal.returns-clause-account
 returns-clause-account g c =

@@ -38,7 +38,7 @@ pub returns-clause-lodged : goal.returns-clause-lodged
 returns-clause-lodged g c =
     let h = c.args.hand.now in
     lodged_again g.V.Books.BooksName.books.book c.args.account.now c.unlodge_all.new.file c.lodge_all.new.file h c.unlodge_all.new.permit c.write_block-done.new.hand h c.requires.hand
-    g.V.Numbers.GeometryName.geometry c.args.file.now c.write_block-done.new.file c.requires.lodged c.unlodge_all.ensures.file c.lodge_all.ensures.file c.unlodge_all.ensures.permit c.write_block-done.ensures.serves c.write_block-done.ensures.law (c.write_block-done.ensures.useful c.requires.lodged.useful)
+    g.V.Numbers.GeometryName.geometry c.args.file.now c.write_block-done.new.file c.requires.lodged c.unlodge_all.ensures.file c.lodge_all.ensures.file c.unlodge_all.ensures.permit c.write_block-done.ensures.serves c.write_block-done.ensures.law
 
 pub returns-clause-account : goal.returns-clause-account
 returns-clause-account g c =

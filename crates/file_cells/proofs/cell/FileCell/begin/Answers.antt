@@ -3,9 +3,9 @@ use Rattle.geometry.specs.declared.geometry.Geometry.{Geometry}
 use Rattle.geometry.specs.File.{new_file}
 use Rattle.books.specs.Accounts.{PassView}
 use Rattle.books.specs.Rules.{bare_entry}
-use Rattle.file_cells.specs.Cell.{IsCell, CellView}
+use Rattle.file_cells.specs.Cell.{IsCell}
 use Rattle.file_cells.specs.Pass.{Pass}
-use Rattle.file_cells.proofs.Lodging.{cell_born, fresh_pass}
+use Rattle.file_cells.proofs.Lodging.{same_number, cell_born, fresh_pass}
 use Rattle.file_cells.proofs.cell.FileCell.begin.Goals as goal
 
 pub invariant_of-self : goal.invariant_of-self
@@ -15,7 +15,7 @@ invariant_of-self g c =
     let v = c.self.inside in
     let f = c.in-Ok.file in
     let new = c.in-Ok.ensures in
-    let numbered : v.number ≡ c.args.self.now.number = ap (λ (x : CellView). x.number) c.self.view_is in
+    let numbered : v.number ≡ c.args.self.now.number = same_number c.self.view_is in
     let some : 0 < v.number = subst (λ n. 0 < n) (sym numbered) c.requires.some in
     let was = subst (IsCell book geometry v.number v.account) (sym c.replace.ensures.value ∙ c.in-None-replace.is) c.self.invariant in
     subst (IsCell book geometry v.number c.issue_file-account.new.account) (sym c.replace.ensures.after)
@@ -27,7 +27,7 @@ pub returns-in-None-replace-clause-pass : goal.returns-in-None-replace-clause-pa
 returns-in-None-replace-clause-pass g c =
     let v = c.self.inside in
     let f = c.in-Ok.file in
-    let numbered : v.number ≡ c.args.self.now.number = ap (λ (x : CellView). x.number) c.self.view_is in
+    let numbered : v.number ≡ c.args.self.now.number = same_number c.self.view_is in
     c.of-pass.ensures
     ∙ (fresh_pass f c.args.kind c.issue_file-account.result v.number (ap (λ (x : PassView). x.content) c.issue_file-account.ensures.pass)
     c.in-Ok.ensures.kind c.in-Ok.ensures.length

@@ -1,32 +1,18 @@
 use Rattle.std.proofs.Common.{ap, sym, subst, ◌∙◌}
-use Rattle.books.specs.Accounts.{FileView, HandView}
-use Rattle.nodes.specs.Held.{AreHeld, no_others}
-use Rattle.file_cells.specs.Cell.{IsCell}
-use Rattle.file_cells.proofs.Lodging.{taken, in_hand, empty_hand}
+use Rattle.books.specs.Accounts.{HandView}
+use Rattle.nodes.specs.Held.{no_others}
+use Rattle.cleaning.specs.Contents.{InHand}
+use Rattle.file_cells.proofs.Lodging.{empty_hand}
 use Rattle.file_cells.proofs.cell.FileCell.end.Goals as goal
 
 pub give_up-requires-clause-held : goal.give_up-requires-clause-held
 give_up-requires-clause-held g c =
-    let book = g.V.Books.BooksName.books.book in
-    let geometry = g.V.Numbers.GeometryName.geometry in
-    let v = c.self.inside in
-    let f = c.in-Some.file in
-    let was = subst (IsCell book geometry v.number v.account) (sym c.take.ensures.value ∙ c.in-Some.is) c.self.invariant in
-    let a = c.spend.new.file in
-    let h = c.args.hand.now in
-    let held = subst (λ (x : FileView). AreHeld f x.tickets x.tokens) (sym c.spend.ensures.file) was.keeps.0.lodged in
-    (no_others, in_hand book a a a h c.unlodge_all.new.permit h h c.requires.hand f c.unlodge_all.ensures.permit held)
+    let took = c.take-file.ensures in
+    (no_others, subst (InHand no_others c.take-file.result) (sym took.hand) took.lodged.lodged)
 
 pub returns-clause-hand : goal.returns-clause-hand
 returns-clause-hand g c =
-    let book = g.V.Books.BooksName.books.book in
-    let geometry = g.V.Numbers.GeometryName.geometry in
-    let v = c.self.inside in
-    let f = c.in-Some.file in
-    let was = subst (IsCell book geometry v.number v.account) (sym c.take.ensures.value ∙ c.in-Some.is) c.self.invariant in
-    let a = c.spend.new.file in
-    let h = c.args.hand.now in
-    let held = subst (λ (x : FileView). AreHeld f x.tickets x.tokens) (sym c.spend.ensures.file) was.keeps.0.lodged in
-    let mine = in_hand book a a a h c.unlodge_all.new.permit h h c.requires.hand f c.unlodge_all.ensures.permit held in
-    let here = ap (λ (x : HandView). x.book) (taken book a a a h c.unlodge_all.new.permit h h c.requires.hand c.unlodge_all.ensures.permit) in
-    empty_hand book h c.give_up.new.hand c.requires.hand (c.give_up.ensures.book ∙ here) (c.give_up.ensures.tickets no_others mine (λ x. 1)) (c.give_up.ensures.tokens no_others mine (λ x. 1))
+    let took = c.take-file.ensures in
+    let mine = subst (InHand no_others c.take-file.result) (sym took.hand) took.lodged.lodged in
+    let here = ap (λ (v : HandView). v.book) took.hand ∙ ap (λ (v : HandView). v.book) c.requires.hand in
+    empty_hand g.V.Books.BooksName.books.book c.args.hand.now c.give_up.new.hand c.requires.hand (c.give_up.ensures.book ∙ here) (c.give_up.ensures.tickets no_others mine (λ x. 1)) (c.give_up.ensures.tokens no_others mine (λ x. 1))

@@ -1,2 +1,0 @@
-pub mod Area
-pub mod Rooms

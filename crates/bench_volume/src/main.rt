@@ -1,0 +1,88 @@
+//! How long the calls of a volume's files take on one thread.
+//!
+//! At each depth of the index tree a new volume of 16 segments gets a file whose first blocks are appended, then written
+//! again at indexes in no order, and then read. With no argument the volumes are tiny, a few blocks are taken, and what was
+//! done is counted. With `--measure` they have the kernel's shape, and the nanoseconds a call are told, beside those of one
+//! copy of as many bytes, and of finding the path to an index.
+#![tactic(auto)]
+
+mod bare;
+mod depth;
+mod desk;
+mod naming;
+mod work;
+
+use depth::DEPTHS;
+use geometry::Shape;
+use naming::measure;
+use std::fmt::Write;
+use std::rt::Runtime;
+use std::{env, io};
+use work::Work;
+
+// What is measured: so many blocks of a file, and so many writes and reads of them.
+#[derive(Clone, Copy)]
+pub struct Size {
+    pub shape: Shape,
+    pub blocks: u32,
+    pub calls: u32,
+}
+
+const SHOWN: Size = Size {
+    shape: Shape::TINY,
+    blocks: 3,
+    calls: 10,
+};
+
+const MEASURED: Size = Size {
+    shape: Shape::KERNEL,
+    blocks: 900,
+    calls: 4000,
+};
+
+fn main(rt: HostRuntime) -> io::Result<()> {
+    let is_measure = is_measure(&rt)?;
+    let size = if is_measure { MEASURED } else { SHOWN };
+    let mut text = String::new(rt.alloc());
+    for depth in DEPTHS {
+        let number = depth.number();
+        match measure(&rt, rt.alloc(), size, depth)? {
+            None => write!(text, "depth {number}: refused\n")?,
+            Some(work) if is_measure => tell_times(&mut text, number, work)?,
+            Some(work) => tell_counts(&mut text, number, work)?,
+        }
+    }
+    rt.print(text.as_str())
+}
+
+// Tells whether an argument asks for times.
+fn is_measure<R: Runtime>(rt: &R) -> io::Result<bool> {
+    for word in env::args(rt)? {
+        if word.as_str() == "--measure" {
+            return Ok(true);
+        }
+    }
+    Ok(false)
+}
+
+// How many calls were done at a depth.
+fn tell_counts(text: &mut String, depth: u32, work: Work) -> io::Result<()> {
+    let (append, overwrite) = (work.append.calls, work.overwrite.calls);
+    let (read, path, entries) = (work.read.calls, work.path.calls, work.entries);
+    write!(
+        text,
+        "depth {depth}: {append} appended, {overwrite} overwritten, {read} read, {path} found of sum {entries}\n"
+    )?;
+    Ok(())
+}
+
+// The nanoseconds of a call at a depth.
+fn tell_times(text: &mut String, depth: u32, work: Work) -> io::Result<()> {
+    let (append, overwrite) = (work.append.each(), work.overwrite.each());
+    let (read, path, copy) = (work.read.each(), work.path.each(), work.copy.each());
+    write!(
+        text,
+        "depth {depth}: append {append} ns, overwrite {overwrite} ns, read {read} ns, path {path} ns, copy {copy} ns\n"
+    )?;
+    Ok(())
+}

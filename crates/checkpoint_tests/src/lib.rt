@@ -1,0 +1,5 @@
+//! Tests of `checkpoint` by its public calls. They stand apart, so that to prove them does not take the proof of `checkpoint` again.
+#![tactic(auto)]
+
+#[cfg(test)]
+mod tests;

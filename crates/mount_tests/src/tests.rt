@@ -1,0 +1,203 @@
+//! What is done with a volume, step by step, and what it leaves.
+ghost use Rattle.std.specs.Prelude.{◌≡◌, vec_len};
+ghost use Rattle.device.specs.Parts.{IsBlockRun};
+ghost use Rattle.geometry.specs.Shape.{block_bytes};
+
+mod damage;
+mod ending;
+mod failing;
+mod open;
+mod trips;
+
+use device::{Block, MemBlock, MemMeta, Meta, Parts};
+use ending::{End, close, close_twice};
+use geometry::{Error, Kind};
+use names::VolumeName;
+use open::{with_mounted, with_volume};
+use opening::{FilePass, Policy, Seat, Volume};
+use std::alloc::Global;
+use std::process::Abort;
+use std::sync::Wait;
+use std::test::*;
+
+// So many bytes has a block of the tiny shape.
+const BLOCK: usize = 64;
+
+// What a buffer has before a read.
+const STALE: u8 = 0xee;
+
+// A step of what is done with a volume. Files are told by their places among the passes.
+#[derive(Clone, Copy)]
+enum Step<'a> {
+    Create(Kind),
+    // Writes a block for each byte, full of it, from an index on.
+    Write(usize, u32, &'a [u8]),
+    Cut(usize, u32),
+    DeleteLast,
+    // Cleans a section, of which so many blocks are moved.
+    Clean(u32),
+    Sync,
+    // The volume has exactly these files: a number, and a byte for each block, which is full of it.
+    Has(&'a [(u32, &'a [u8])]),
+}
+
+// The parts of a device, whose blocks of 64 bytes are in the order of their addresses.
+#[derive(Drop)]
+struct Device<M: Meta> {
+    parts: Parts<M, MemBlock>,
+    ghost run: { IsBlockRun ⟦<MemBlock as Block>⟧.address_of ⟦<MemBlock as Block>⟧.content_of 64 1 parts.blocks.items },
+}
+
+// What a volume left: its device, and the version and the total of the image it was opened at, and of the one it wrote last.
+#[derive(Drop)]
+struct Left<M: Meta> {
+    device: Device<M>,
+    opened: (u32, u32),
+    written: (u32, u32),
+}
+
+// Does the steps on a volume with these files, and ends it.
+fn run_volume<V: VolumeName, M: Meta, R: Wait + Abort>(
+    rt: &R,
+    alloc: Global,
+    volume: Volume<V, M, MemBlock>,
+    seats: Vec<Seat<V>>,
+    mut passes: Vec<FilePass<V>>,
+    steps: &[Step<'_>],
+    end: End,
+) -> Left<M> {
+    for step in steps {
+        run_step(rt, alloc, &volume, &mut passes, *step).expect(rt, "not refused");
+    }
+    match end {
+        End::Close => close(rt, volume, seats, passes),
+        End::SeatOut => close_twice(rt, alloc, volume, seats, passes),
+    }
+}
+
+fn run_step<V: VolumeName, M: Meta, R: Wait + Abort>(
+    rt: &R,
+    alloc: Global,
+    volume: &Volume<V, M, MemBlock>,
+    passes: &mut Vec<FilePass<V>>,
+    step: Step<'_>,
+) -> Result<(), Error> {
+    match step {
+        Step::Create(kind) => {
+            let pass = volume.create(rt, kind)?;
+            passes.push(pass)?;
+        }
+        Step::Write(place, from, bytes) => {
+            assert!(rt; place < passes.len());
+            write(rt, alloc, volume, &mut passes[place], from, bytes)?;
+        }
+        Step::Cut(place, length) => {
+            assert!(rt; place < passes.len());
+            volume.cut(rt, &mut passes[place], length)?;
+        }
+        Step::DeleteLast => {
+            let pass = passes.pop().expect(rt, "a file");
+            if let Err((_pass, error)) = volume.delete(rt, pass) {
+                return Err(error);
+            }
+        }
+        Step::Clean(moved) => {
+            let cleaned = volume.clean(rt, Policy::Foreground, 0)?;
+            assert_eq!(rt; (cleaned.moved, cleaned.gone), (moved, 0u32));
+        }
+        Step::Sync => {
+            let _stored = volume.sync(rt, &[])?;
+        }
+        Step::Has(files) => {
+            assert_eq!(rt; passes.len(), files.len());
+            for (pass, file) in passes.iter().zip(files) {
+                assert_eq!(rt; pass.number(), file.0);
+                assert_file(rt, alloc, volume, pass, file.1)?;
+            }
+        }
+    }
+    Ok(())
+}
+
+// Writes a block for each byte, from an index on.
+fn write<V: VolumeName, M: Meta, R: Wait + Abort>(
+    rt: &R,
+    alloc: Global,
+    volume: &Volume<V, M, MemBlock>,
+    pass: &mut FilePass<V>,
+    from: u32,
+    bytes: &[u8],
+) -> Result<(), Error> {
+    let mut block = new_block(rt, alloc, volume);
+    for (index, byte) in (from..u32::MAX).zip(bytes) {
+        block.as_mut_slice().fill(*byte);
+        volume.write(rt, pass, index, block.as_slice(), 0)?;
+    }
+    Ok(())
+}
+
+// A file has a block for each byte, which is full of it, and no more.
+fn assert_file<V: VolumeName, M: Meta, R: Wait + Abort>(
+    rt: &R,
+    alloc: Global,
+    volume: &Volume<V, M, MemBlock>,
+    pass: &FilePass<V>,
+    bytes: &[u8],
+) -> Result<(), Error> {
+    assert_eq!(rt; pass.length() as usize, bytes.len());
+    for (index, byte) in (0..u32::MAX).zip(bytes) {
+        assert!(rt;
+            read(rt, alloc, volume, pass, index)? == (true, Some(*byte)),
+            "at {index}"
+        );
+    }
+    assert!(rt;
+        read(rt, alloc, volume, pass, pass.length())? == (false, Some(STALE)),
+        "untouched"
+    );
+    Ok(())
+}
+
+// What a read answers, and the byte that the buffer is full of then, if it is full of one.
+fn read<V: VolumeName, M: Meta, R: Wait + Abort>(
+    rt: &R,
+    alloc: Global,
+    volume: &Volume<V, M, MemBlock>,
+    pass: &FilePass<V>,
+    index: u32,
+) -> Result<(bool, Option<u8>), Error> {
+    let mut block = new_block(rt, alloc, volume);
+    let found = volume.read(rt, pass, index, block.as_mut_slice())?;
+    let first = block.first().copied().unwrap_or(STALE);
+    let full = is_full(block.as_slice(), first).then_some(first);
+    Ok((found, full))
+}
+
+// The bytes of a block that was not read yet.
+fn new_block<V: VolumeName, M: Meta, R: Abort>(
+    rt: &R,
+    alloc: Global,
+    volume: &Volume<V, M, MemBlock>,
+) -> Vec<u8>
+    ensures { vec_len result ≡ block_bytes V.Numbers.geometry.shape }
+{
+    let size = volume.geometry().shape.block_bytes() as usize;
+    vec![in alloc; STALE; size].expect(rt, "memory")
+}
+
+fn is_full(block: &[u8], byte: u8) -> bool {
+    block.iter().all(|found| *found == byte)
+}
+
+// What a volume that is mounted from a device leaves after the steps.
+fn mount_again<M: Meta, R: Wait + Abort>(
+    rt: &R,
+    alloc: Global,
+    device: Device<M>,
+    steps: &[Step<'_>],
+) -> Left<M> {
+    match with_mounted(rt, alloc, device, steps) {
+        Ok(left) => left,
+        Err((_device, error)) => panic!(rt; "refused {error}"),
+    }
+}

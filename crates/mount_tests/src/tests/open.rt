@@ -1,0 +1,133 @@
+//! How a test comes to its volume, a new one or a mounted one: a function for each step, so that names are picked between them.
+ghost use Rattle.std.specs.Prelude.{◌≡◌};
+
+use super::{Device, End, Left, Step, run_volume};
+use device::{MemBlock, MemDevice, MemMeta, Meta};
+use geometry::{Error, Geometry, Shape};
+use mounting::{Mounted, MountedQueues, mount};
+use names::{BooksName, GeometryName, PoolName, TurnName, WordsName};
+use opening::{Formatted, Opened, format};
+use std::alloc::Global;
+use std::marker::Brand;
+use std::process::Abort;
+use std::sync::Wait;
+
+// What a new volume of 16 segments of 8 blocks, with 4 files and 32 numbers for nodes, leaves after the steps.
+pub(crate) fn with_volume<R: Wait + Abort>(
+    rt: &R,
+    alloc: Global,
+    steps: &[Step<'_>],
+    end: End,
+) -> Result<Left<MemMeta>, Error> {
+    let geometry = Geometry::new(Shape::TINY, 16, 1, 4, 32)?;
+    let parts = MemDevice::new(alloc, &geometry)?.split();
+    match format(alloc, parts, geometry) {
+        Ok(formatted) => with_tables::<Brand, Brand, Brand, R>(rt, alloc, formatted, steps, end),
+        Err(fault) => Err(fault.error),
+    }
+}
+
+fn with_tables<L: BooksName, W: WordsName, N: GeometryName, R: Wait + Abort>(
+    rt: &R,
+    alloc: Global,
+    formatted: Formatted<MemMeta, MemBlock>,
+    steps: &[Step<'_>],
+    end: End,
+) -> Result<Left<MemMeta>, Error>
+    requires books { formatted.tables.books ≡ L.books }
+    requires words { formatted.tables.words ≡ W.words }
+    requires geometry { formatted.tables.geometry ≡ N.geometry }
+{
+    match formatted.name::<L, W, N>() {
+        Ok(opened) => with_queues::<L, W, N, Brand, Brand, R>(rt, alloc, opened, steps, end),
+        Err(fault) => Err(fault.error),
+    }
+}
+
+fn with_queues<
+    L: BooksName,
+    W: WordsName,
+    N: GeometryName,
+    P: PoolName,
+    T: TurnName,
+    R: Wait + Abort,
+>(
+    rt: &R,
+    alloc: Global,
+    opened: Opened<L, W, N, MemMeta, MemBlock>,
+    steps: &[Step<'_>],
+    end: End,
+) -> Result<Left<MemMeta>, Error>
+    requires ordinary { opened.queues.ordinary ≡ P.ordinary }
+    requires reserve { opened.queues.reserve ≡ P.reserve }
+    requires turns { opened.channel.turns ≡ T.turns }
+    requires key { opened.channel.key ≡ T.key }
+{
+    match opened.name::<P, T, R>(rt) {
+        Ok((volume, seats)) => {
+            Ok(run_volume(rt, alloc, volume, seats, Vec::new(alloc), steps, end))
+        }
+        Err(fault) => Err(fault.error),
+    }
+}
+
+// What the volume of a device leaves after the steps, or why it is not mounted, with the device.
+pub(crate) fn with_mounted<M: Meta, R: Wait + Abort>(
+    rt: &R,
+    alloc: Global,
+    device: Device<M>,
+    steps: &[Step<'_>],
+) -> Result<Left<M>, (Device<M>, Error)> {
+    let Device { parts } = device;
+    match mount(alloc, parts) {
+        Ok(mounted) => {
+            let left = mounted_tables::<Brand, Brand, Brand, M, R>(rt, alloc, mounted, steps);
+            Ok(left)
+        }
+        Err(fault) => Err((Device { parts: fault.parts }, fault.error)),
+    }
+}
+
+fn mounted_tables<L: BooksName, W: WordsName, N: GeometryName, M: Meta, R: Wait + Abort>(
+    rt: &R,
+    alloc: Global,
+    mounted: Mounted<M, MemBlock>,
+    steps: &[Step<'_>],
+) -> Left<M>
+    requires books { mounted.books ≡ L.books }
+    requires words { mounted.words ≡ W.words }
+    requires geometry { mounted.geometry ≡ N.geometry }
+{
+    match mounted.name::<L, W, N>() {
+        Ok(opened) => mounted_queues::<L, W, N, Brand, Brand, M, R>(rt, alloc, opened, steps),
+        Err(fault) => panic!(rt; "refused {}", fault.error),
+    }
+}
+
+fn mounted_queues<
+    L: BooksName,
+    W: WordsName,
+    N: GeometryName,
+    P: PoolName,
+    T: TurnName,
+    M: Meta,
+    R: Wait + Abort,
+>(rt: &R, alloc: Global, opened: MountedQueues<L, W, N, M, MemBlock>, steps: &[Step<'_>]) -> Left<M>
+    requires ordinary { opened.queues.ordinary ≡ P.ordinary }
+    requires reserve { opened.queues.reserve ≡ P.reserve }
+    requires turns { opened.channel.turns ≡ T.turns }
+    requires key { opened.channel.key ≡ T.key }
+{
+    match opened.name::<P, T, R>(rt) {
+        Ok((volume, seats, passes)) => run_volume(
+            rt,
+            alloc,
+            volume,
+            seats,
+            passes,
+            steps,
+            End::Close,
+        ),
+        Err(fault) => panic!(rt; "refused {}", fault.error),
+    }
+}

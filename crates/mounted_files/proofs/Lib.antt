@@ -1,0 +1,5 @@
+pub mod Sums
+pub mod Nodes
+pub mod Laws
+pub mod Sorted
+pub mod Accounted

@@ -1,0 +1,1 @@
+pub use Rattle.files_loading.specs.Files

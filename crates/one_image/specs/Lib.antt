@@ -1,0 +1,2 @@
+pub mod OneImage
+pub use Rattle.checkpoint.specs.Holding

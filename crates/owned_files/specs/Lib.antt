@@ -1,0 +1,2 @@
+pub use Rattle.held_files.specs.Held
+pub use Rattle.held_files.specs.FileParts

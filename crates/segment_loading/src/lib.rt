@@ -1,0 +1,14 @@
+//! The blocks of a device come into the segments of a volume that is mounted, as a lawful image shows them: those that it
+//! marks leave home with a ticket, and each segment is free, open or sealed. All memory is made before the first of them
+//! moves, so nothing can be refused once they do.
+#![tactic(auto)]
+
+mod blocks;
+mod owners;
+mod segments;
+mod settling;
+mod table;
+
+pub use segments::{SegmentRights, load_segments};
+pub use settling::LoadedSegments;
+pub use table::{free_table, new_table, put_at, take_at};

@@ -1,0 +1,58 @@
+-- What is known between the steps of a script and its end: of the passes, of the device's parts, and of what was written. What a
+-- device's parts show is an argument.
+use Rattle.std.specs.Prelude.{◌≡◌, ◌⊎◌, ◌↔◌, ℕ, List, Option}
+use Rattle.std.specs.Io.KnownBytes.{Appends}
+use Rattle.assembly.specs.Items.{Among}
+use Rattle.device.specs.declared.parts.Parts.{Parts}
+use Rattle.device.specs.Parts.{HasSize}
+use Rattle.file_cells.specs.Pass.{Pass}
+use Rattle.geometry.specs.File.{File}
+use Rattle.geometry.specs.declared.geometry.Geometry.{Geometry}
+use Rattle.image.specs.Files.{files as files_of}
+use Rattle.image.specs.Image.{Image}
+use Rattle.image.specs.Rules.{IsLawful}
+use Rattle.node_reading.specs.Blocks.{bytes_at}
+use Rattle.one_image.specs.OneImage.{HoldVolume}
+use Rattle.script.specs.declared.script.Step.{Step}
+use Rattle.simulator.specs.Files.{ArePlaced, Files, no_files, passes_among}
+use Rattle.simulator.specs.Lines.{image_lines, unsynced_line}
+use Rattle.simulator.specs.Run.{WroteSteps, format_line}
+
+-- the steps were run on a volume without files, and these are the passes of its files at the end
+pub record RanSteps (steps : List Step) (geometry : Geometry) (passes : List Pass) (old new : Option (List ℕ)) : Type 0 where
+  pub end : Files
+  pub ran : WroteSteps steps (no_files geometry) end format_line old new
+  pub placed : ArePlaced end
+  pub numbers : end.geometry ≡ geometry
+  pub passes_are : passes ≡ passes_among end.passes
+
+module _ {M B : Type 0} (seen : M → List ℕ) (address_of : B → ℕ) (content_of : B → List ℕ) where
+  -- a volume was closed, and its parts hold a lawful image, whose files are exactly what the passes showed
+  pub record HoldsFiles (geometry : Geometry) (passes : List Pass) (parts : Parts M B) : Type 0 where
+    pub image : Image
+    pub size : HasSize seen address_of content_of geometry parts
+    pub held : HoldVolume geometry image (seen parts.meta) (bytes_at content_of parts.blocks.items)
+    pub lawful : IsLawful geometry image
+    pub shown : (number : ℕ) (file : File) → Among (number, file) (files_of geometry image (bytes_at content_of parts.blocks.items)) ↔ Among (record { number = number; file = file }) passes
+
+  -- a volume was left with these passes: it was closed, and nothing was written; or it was not, which was written
+  abbrev pub WasLeft : Geometry → List Pass → Parts M B → Option (List ℕ) → Option (List ℕ) → Type 0
+  WasLeft geometry passes parts old new =
+      (HoldsFiles geometry passes parts × (new ≡ old))
+      ⊎ (HasSize seen address_of content_of geometry parts × Appends old new unsynced_line)
+
+  -- the steps were run on a volume without files, and it was left
+  pub record LeftScript (steps : List Step) (parts : Parts M B) (old new : Option (List ℕ)) : Type 0 where
+    pub geometry : Geometry
+    pub passes : List Pass
+    pub middle : Option (List ℕ)
+    pub ran : RanSteps steps geometry passes old middle
+    pub left : WasLeft geometry passes parts middle new
+
+-- the files and the total of the lawful image that the parts hold were written
+pub record ToldParts {M B : Type 0} (seen : M → List ℕ) (content_of : B → List ℕ) (parts : Parts M B) (old new : Option (List ℕ)) : Type 0 where
+  pub geometry : Geometry
+  pub image : Image
+  pub held : HoldVolume geometry image (seen parts.meta) (bytes_at content_of parts.blocks.items)
+  pub lawful : IsLawful geometry image
+  pub told : Appends old new (image_lines geometry image (bytes_at content_of parts.blocks.items))

@@ -1,0 +1,114 @@
+//! What is put aside is a device that is mounted to the same files.
+ghost use Rattle.std.specs.Prelude.{◌≡◌, length, IfOk};
+ghost use Rattle.device.specs.Parts.{IsBlockRun};
+
+use super::images::{base_file, change, told};
+use device::{Block, MemBlock, MemMeta, Parts};
+use simulator::status::{DONE, REFUSED};
+use simulator::{run_script, tell_parts};
+use std::alloc::{AllocError, Global};
+use std::process::Abort;
+use std::sync::Wait;
+use std::test::Fail;
+
+// So many bytes has the meta area of 32 tiny segments with 64 node numbers, and so many blocks of so many bytes stand behind it.
+const AREA: usize = 6_136;
+
+const BLOCKS: u32 = 256;
+
+const BLOCK: usize = 64;
+
+// A device with the bytes of an image file.
+fn parts_of(alloc: Global, file: &[u8]) -> Result<Parts<MemMeta, MemBlock>, AllocError>
+    requires { length file.now ≡ 22520 }
+    ensures { IfOk result (λ parts. IsBlockRun ⟦<MemBlock as Block>⟧.address_of ⟦<MemBlock as Block>⟧.content_of 64 1 parts.blocks.items) }
+{
+    let meta = MemMeta::new(Vec::from_slice(alloc, &file[..AREA])?);
+    let blocks = blocks_of(alloc, &file[AREA..])?;
+    Ok(Parts { meta, blocks })
+}
+
+// Blocks with these bytes, from address 1 on.
+fn blocks_of(alloc: Global, bytes: &[u8]) -> Result<Vec<MemBlock>, AllocError>
+    requires { length bytes.now ≡ 16384 }
+    ensures { IfOk result (λ blocks. IsBlockRun ⟦<MemBlock as Block>⟧.address_of ⟦<MemBlock as Block>⟧.content_of 64 1 blocks.items) }
+{
+    let mut blocks = Vec::new(alloc);
+    for place in 0..BLOCKS {
+        let first = place as usize * BLOCK;
+        let own = Vec::from_slice(alloc, &bytes[first..first + BLOCK])?;
+        blocks.push(MemBlock::new(alloc, place + 1, own)?)?;
+    }
+    Ok(blocks)
+}
+
+// What a script prints that is done, and what it puts aside.
+fn saved_by<R: Wait + Abort>(rt: &R, alloc: Global, text: &str) -> (Vec<u8>, Vec<u8>) {
+    let mut out = Vec::new(alloc);
+    let mut errors = Vec::new(alloc);
+    let mut saved = Vec::new(alloc);
+    let mut input = text.as_bytes();
+    let status = run_script(
+        rt,
+        alloc,
+        &mut input,
+        &mut out,
+        &mut errors,
+        Some(&mut saved),
+    );
+    assert_eq!(rt; status, DONE);
+    (out, saved)
+}
+
+// The last lines are told of the closed device, and again of a device with the bytes that were put aside.
+#[test]
+fn what_is_put_aside_is_mounted_to_the_same_files(rt: HostRuntime) -> Result<(), Fail> {
+    let alloc = rt.alloc();
+    let text =
+        "format TINY 32 1 4 64\ncreate file\ncreate dir\ncreate media\nfill 1 0 5 11\nsync\nwrite 1 30 12\nfill 2 0 9 22\ncut 2 4\nfill 3 0 2 33\nsnap 3\ndelete 3\nwrite 1 0 13\n";
+    let lines =
+        "file 1 length 31 13 11 11 11 11 00 00 00 00 00 00 00 00 00 00 00 00 00 00 00 00 00 00 00 00 00 00 00 00 00 12\nfile 2 length 4 22 22 22 22\ntotal 16\n";
+    let (out, saved) = saved_by(&rt, alloc, text);
+    assert!(rt; out.as_slice().ends_with(lines.as_bytes()));
+    assert_eq!(rt; saved.len(), 22520);
+    let mut again = Vec::new(alloc);
+    let mounted = tell_parts(&rt, alloc, parts_of(alloc, saved.as_slice())?, &mut again);
+    assert!(rt; mounted.is_ok());
+    assert_eq!(rt; again.as_slice(), lines.as_bytes());
+    Ok(())
+}
+
+// The image file that is built by hand, and damaged, is what this script puts aside.
+#[test]
+fn each_byte_is_put_aside_as_it_was_built_by_hand(rt: HostRuntime) -> Result<(), Fail> {
+    let alloc = rt.alloc();
+    let text = "format TINY 32 1 4 64\ncreate file\nwrite 1 0 41\nwrite 1 1 42\n";
+    let (out, saved) = saved_by(&rt, alloc, text);
+    let lines = b"format ok\nfile 1\nok\nok\nfile 1 length 2 41 42\ntotal 3\n";
+    assert_eq!(rt; out.as_slice(), lines.as_slice());
+    let base = base_file(alloc)?;
+    assert!(rt; saved.as_slice() == base.as_slice());
+    Ok(())
+}
+
+// Version 2 is that of the sync, and version 3 that of the close. Where the last byte of this one was torn the other counts.
+#[test]
+fn a_close_writes_one_version_more(rt: HostRuntime) -> Result<(), Fail> {
+    let alloc = rt.alloc();
+    let text = "format TINY 32 1 4 64\ncreate file\nwrite 1 0 41\nsync\n";
+    let (out, mut saved) = saved_by(&rt, alloc, text);
+    let lines = b"format ok\nfile 1\nok\nversion 2 total 2 free 26\nfile 1 length 1 41\ntotal 2\n";
+    assert_eq!(rt; out.as_slice(), lines.as_slice());
+    let (line, status) = told(alloc, saved.as_slice());
+    assert_eq!(rt; line.as_slice(), b"version 3 total 2 free 26\n".as_slice());
+    assert_eq!(rt; status, DONE);
+    change(saved.as_mut_slice(), &[(6_132, 9)]);
+    let (line, status) = told(alloc, saved.as_slice());
+    assert_eq!(rt; line.as_slice(), b"version 2 total 2 free 26\n".as_slice());
+    assert_eq!(rt; status, DONE);
+    let _last = saved.pop();
+    let (line, status) = told(alloc, saved.as_slice());
+    assert_eq!(rt; line.as_slice(), b"refused 11 BadImage 1\n".as_slice());
+    assert_eq!(rt; status, REFUSED);
+    Ok(())
+}

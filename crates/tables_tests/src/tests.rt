@@ -1,0 +1,224 @@
+// Image files built by hand, and what is wrong with them after a few changes.
+use geometry::{Error, Geometry, Shape};
+use image::Image;
+use std::alloc::{AllocError, Global};
+use std::test::Fail;
+use tables::{ReadImage, decode, encode, read_super, write_super};
+
+// Places of a file, and the bytes that stand there.
+type Changes<'a> = &'a [(usize, u8)];
+
+// The superblock of 32 tiny segments, one a section, with 4 files and 64 node numbers.
+const SUPERBLOCK: [u8; 32] = [
+    0x46, 0x32, 0x53, 0x45, 0x47, 0x30, 0x30, 0x31, 1, 0, 0, 0, 0, 0, 0, 0, 0x20, 0, 0, 0, 1, 0, 0,
+    0, 4, 0, 0, 0, 0x40, 0, 0, 0,
+];
+
+const FILE_BYTES: usize = 22_520;
+
+// Version 1 of an empty volume, in slot 1: log k appends to segment k.
+const EMPTY: [(usize, u8); 7] = [
+    (3_100, 1),
+    (3_116, 1),
+    (3_124, 2),
+    (3_132, 3),
+    (3_140, 4),
+    (3_148, 5),
+    (6_132, 1),
+];
+
+// Version 2 beside it, in slot 0: file 1 has two blocks, at addresses 33 and 34, and its inode stands at address 9.
+const TWO_BLOCKS: [(usize, u8); 29] = [
+    (64, 2),
+    (68, 3),
+    (80, 1),
+    (84, 1),
+    (88, 2),
+    (96, 3),
+    (104, 4),
+    (108, 2),
+    (112, 5),
+    (120, 1),
+    (124, 9),
+    (645, 1),
+    (657, 1),
+    (684, 2),
+    (696, 3),
+    (1_112, 1),
+    (1_116, 0xff),
+    (1_117, 0xff),
+    (1_118, 0xff),
+    (1_119, 0xff),
+    (1_304, 1),
+    (1_312, 1),
+    (1_316, 1),
+    (3_096, 2),
+    (6_648, 2),
+    (6_656, 0x21),
+    (6_660, 0x22),
+    (6_688, 1),
+    (6_692, 1),
+];
+
+fn change(file: &mut [u8], changes: Changes) {
+    for (place, byte) in changes {
+        if *place < file.len() {
+            file[*place] = *byte;
+        }
+    }
+}
+
+fn empty_file(alloc: Global) -> Result<Vec<u8>, AllocError> {
+    let mut file = Vec::from_slice(alloc, &SUPERBLOCK)?;
+    file.resize(FILE_BYTES, 0)?;
+    change(file.as_mut_slice(), &EMPTY);
+    Ok(file)
+}
+
+fn base_file(alloc: Global) -> Result<Vec<u8>, AllocError> {
+    let mut file = empty_file(alloc)?;
+    change(file.as_mut_slice(), &TWO_BLOCKS);
+    for byte in file.as_mut_slice().iter_mut().skip(8_184).take(64) {
+        *byte = 0x41;
+    }
+    for byte in file.as_mut_slice().iter_mut().skip(8_248).take(64) {
+        *byte = 0x42;
+    }
+    Ok(file)
+}
+
+// The version, the total and the free segments of a file's image.
+fn told(alloc: Global, file: &[u8]) -> Result<(u32, u32, u32), Error> {
+    let (geometry, image) = Image::read(alloc, file)?;
+    Ok((image.version, image.total, image.free(&geometry)))
+}
+
+// What the base file tells once it is changed.
+fn told_after(alloc: Global, changes: Changes) -> Result<(u32, u32, u32), Error> {
+    let mut file = base_file(alloc)?;
+    change(file.as_mut_slice(), changes);
+    told(alloc, &file)
+}
+
+#[test]
+fn an_empty_volume_is_read(rt: HostRuntime) -> Result<(), Fail> {
+    let file = empty_file(rt.alloc())?;
+    assert_eq!(rt; told(rt.alloc(), &file), Ok((1, 0, 26)));
+    Ok(())
+}
+
+#[test]
+fn superblocks_are_read_and_written(rt: HostRuntime) -> Result<(), Fail> {
+    let geometry = Geometry::new(Shape::TINY, 32, 1, 4, 64)?;
+    let mut bytes = [0xffu8; 64];
+    write_super(&geometry, &mut bytes);
+    assert_eq!(rt; &bytes[..32], SUPERBLOCK.as_slice());
+    assert_eq!(rt; &bytes[32..], [0; 32].as_slice());
+    assert_eq!(rt; read_super(&bytes), Ok(geometry));
+    let kernel = Geometry::new(Shape::KERNEL, 4096, 16, 1024, 65536)?;
+    write_super(&kernel, &mut bytes);
+    assert_eq!(rt; read_super(&bytes), Ok(kernel));
+    Ok(())
+}
+
+#[test]
+fn no_other_bytes_are_a_superblock(rt: HostRuntime) -> Result<(), Fail> {
+    // The name, the format, the shape, the segments, and the zeros at the end.
+    for place in [0usize, 8, 12, 16, 63] {
+        let mut file = empty_file(rt.alloc())?;
+        change(file.as_mut_slice(), &[(place, 7)]);
+        assert_eq!(rt; read_super(&file), Err(Error::BadGeometry), "{place}");
+    }
+    Ok(())
+}
+
+#[test]
+fn the_base_is_read(rt: HostRuntime) -> Result<(), Fail> {
+    assert_eq!(rt; told_after(rt.alloc(), &[]), Ok((2, 3, 26)));
+    Ok(())
+}
+
+#[test]
+fn each_damage_has_its_fault(rt: HostRuntime) -> Result<(), Fail> {
+    let damages: [(Changes, u8); 13] = [
+        (&[(72, 0x20)], 1),
+        (&[(72, 0x01)], 2),
+        (&[(6_688, 0x02)], 3),
+        (&[(6_668, 0x05)], 4),
+        (
+            &[(152, 1), (156, 0x0a), (6_752, 5), (6_756, 1), (6_760, 1)],
+            5,
+        ),
+        (&[(6_660, 0x21)], 6),
+        (&[(696, 0x02)], 7),
+        (&[(696, 0x07)], 8),
+        (&[(1_308, 0x01)], 9),
+        (&[(684, 0x01)], 10),
+        // A log without a segment has no offset.
+        (
+            &[(72, 0xff), (73, 0xff), (74, 0xff), (75, 0xff), (76, 1)],
+            1,
+        ),
+        // An entry has both numbers or neither.
+        (&[(156, 0x0a)], 1),
+        // No block has this address.
+        (&[(125, 0x40)], 1),
+    ];
+    for (changes, fault) in damages {
+        assert_eq!(rt;
+            told_after(rt.alloc(), changes),
+            Err(Error::BadImage(fault))
+        );
+    }
+    Ok(())
+}
+
+#[test]
+fn the_other_pack_counts_where_one_is_torn(rt: HostRuntime) -> Result<(), Fail> {
+    assert_eq!(rt; told_after(rt.alloc(), &[(3_096, 0)]), Ok((1, 0, 26)));
+    assert_eq!(rt;
+        told_after(rt.alloc(), &[(64, 3), (3_096, 3)]),
+        Ok((1, 0, 26))
+    );
+    assert_eq!(rt;
+        told_after(rt.alloc(), &[(3_096, 0), (6_132, 0)]),
+        Err(Error::NoPack)
+    );
+    assert_eq!(rt; told_after(rt.alloc(), &[(6_132, 9)]), Ok((2, 3, 26)));
+    Ok(())
+}
+
+#[test]
+fn a_file_of_another_length_is_refused(rt: HostRuntime) -> Result<(), Fail> {
+    let mut file = base_file(rt.alloc())?;
+    file.push(0)?;
+    assert_eq!(rt; told(rt.alloc(), &file), Err(Error::BadImage(1)));
+    file.truncate(FILE_BYTES - 1);
+    assert_eq!(rt; told(rt.alloc(), &file), Err(Error::BadImage(1)));
+    // The size is tested before the packs, and the superblock before the size.
+    change(file.as_mut_slice(), &[(3_096, 0), (6_132, 0)]);
+    assert_eq!(rt; told(rt.alloc(), &file), Err(Error::BadImage(1)));
+    change(file.as_mut_slice(), &[(0, 0)]);
+    assert_eq!(rt; told(rt.alloc(), &file), Err(Error::BadGeometry));
+    for len in [63usize, 0] {
+        let mut short = base_file(rt.alloc())?;
+        short.truncate(len);
+        assert_eq!(rt; told(rt.alloc(), &short), Err(Error::BadGeometry));
+    }
+    Ok(())
+}
+
+#[test]
+fn what_is_written_is_read_back(rt: HostRuntime) -> Result<(), Fail> {
+    let file = base_file(rt.alloc())?;
+    let geometry = read_super(&file)?;
+    let body = file.get(64..3_096).ok_or("the file is long enough")?;
+    let image = decode(rt.alloc(), &geometry, body)?;
+    assert_eq!(rt; image.version, 2);
+    assert_eq!(rt; image.nat.len(), 64);
+    assert_eq!(rt; image.nodes.len(), 0);
+    let written = encode(rt.alloc(), &geometry, &image)?;
+    assert_eq!(rt; written.as_slice(), body);
+    assert!(rt; decode(rt.alloc(), &geometry, &file).is_err());
+    Ok(())
+}

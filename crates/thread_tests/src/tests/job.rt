@@ -1,0 +1,69 @@
+//! What one thread does.
+use super::fill;
+use super::looks::look;
+use super::waits::GatedBlock;
+use device::MemMeta;
+use names::VolumeName;
+use opening::{FilePass, Policy, Reader, Seat, Volume};
+use std::alloc::Global;
+use std::process::Abort;
+use std::sync::Wait;
+
+/// So many blocks has each file.
+pub(crate) const BLOCKS: u32 = 10;
+
+// So many times a cleaner cleans.
+const CLEANS: u32 = 10;
+
+/// A file that is to be filled with a byte, and then with another one; a cleaner; or a reader of a file that was full of a byte.
+#[derive(Drop)]
+pub(crate) enum Job<'a, V: VolumeName> {
+    Write {
+        pass: FilePass<V>,
+        bytes: (u8, u8),
+    },
+    Clean,
+    Look {
+        reader: Reader<'a, V, GatedBlock>,
+        byte: u8,
+    },
+}
+
+/// What a thread hands back: what it was given, and whether a reader had what it was to have.
+#[derive(Drop)]
+pub(crate) enum Done<V: VolumeName> {
+    Wrote(FilePass<V>),
+    Cleaned,
+    Looked(Seat<V>, bool),
+}
+
+/// Does what one thread does.
+pub(crate) fn work<V: VolumeName, R: Wait + Abort>(
+    rt: &R,
+    alloc: Global,
+    volume: &Volume<V, MemMeta, GatedBlock>,
+    job: Job<'_, V>,
+) -> Done<V> {
+    match job {
+        Job::Write { mut pass, bytes } => {
+            fill(rt, alloc, volume, &mut pass, BLOCKS, bytes.0);
+            fill(rt, alloc, volume, &mut pass, BLOCKS, bytes.1);
+            Done::Wrote(pass)
+        }
+        Job::Clean => {
+            clean_often(rt, volume);
+            Done::Cleaned
+        }
+        Job::Look { reader, byte } => {
+            let (same, seat) = look(rt, alloc, volume, reader, BLOCKS, byte);
+            Done::Looked(seat, same)
+        }
+    }
+}
+
+fn clean_often<V: VolumeName, R: Wait + Abort>(rt: &R, volume: &Volume<V, MemMeta, GatedBlock>) {
+    for _round in 0..CLEANS {
+        let cleaned = volume.clean(rt, Policy::Foreground, 0);
+        assert!(rt; cleaned.is_ok());
+    }
+}

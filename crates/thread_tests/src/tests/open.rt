@@ -1,0 +1,105 @@
+//! How a test comes to its volume: a function for each step, so that names are picked between them.
+ghost use Rattle.std.specs.Prelude.{◌≡◌};
+
+use super::waits::{GatedBlock, Gates, gated_parts};
+use super::{Row, run_row};
+use device::MemMeta;
+use geometry::{Error, Geometry, Shape};
+use names::{BooksName, GeometryName, PoolName, TurnName, VolumeName, WordsName};
+use opening::{CloseFault, Closed, FilePass, Formatted, Opened, Seat, Volume, format};
+use std::alloc::Global;
+use std::marker::Brand;
+use std::process::Abort;
+use std::sync::{Arc, Wait};
+use std::thread::Threads;
+
+/// Does a row on a new volume of so many segments of 8 blocks, with at most 8 files, on a device with gates. Closes the volume,
+/// and answers how many blocks its last image has.
+pub(crate) fn with_volume<R: Threads + Wait + Abort + Sync>(
+    rt: &R,
+    alloc: Global,
+    segments: u32,
+    gates: &Arc<Gates>,
+    row: Row,
+) -> Result<u32, Error> {
+    let geometry = Geometry::new(Shape::TINY, segments, 1, 8, 128)?;
+    let parts = gated_parts(alloc, &geometry, gates)?;
+    match format(alloc, parts, geometry) {
+        Ok(formatted) => { with_tables::<Brand, Brand, Brand, R>(rt, alloc, formatted, gates, row) }
+        Err(fault) => Err(fault.error),
+    }
+}
+
+fn with_tables<
+    L: BooksName + Send + Sync,
+    W: WordsName + Send + Sync,
+    N: GeometryName + Send + Sync,
+    R: Threads + Wait + Abort + Sync,
+>(
+    rt: &R,
+    alloc: Global,
+    formatted: Formatted<MemMeta, GatedBlock>,
+    gates: &Gates,
+    row: Row,
+) -> Result<u32, Error>
+    requires books { formatted.tables.books ≡ L.books }
+    requires words { formatted.tables.words ≡ W.words }
+    requires geometry { formatted.tables.geometry ≡ N.geometry }
+{
+    match formatted.name::<L, W, N>() {
+        Ok(opened) => with_queues::<L, W, N, Brand, Brand, R>(rt, alloc, opened, gates, row),
+        Err(fault) => Err(fault.error),
+    }
+}
+
+fn with_queues<
+    L: BooksName + Send + Sync,
+    W: WordsName + Send + Sync,
+    N: GeometryName + Send + Sync,
+    P: PoolName + Send + Sync,
+    T: TurnName + Send + Sync,
+    R: Threads + Wait + Abort + Sync,
+>(
+    rt: &R,
+    alloc: Global,
+    opened: Opened<L, W, N, MemMeta, GatedBlock>,
+    gates: &Gates,
+    row: Row,
+) -> Result<u32, Error>
+    requires ordinary { opened.queues.ordinary ≡ P.ordinary }
+    requires reserve { opened.queues.reserve ≡ P.reserve }
+    requires turns { opened.channel.turns ≡ T.turns }
+    requires key { opened.channel.key ≡ T.key }
+{
+    match opened.name::<P, T, R>(rt) {
+        Ok((volume, mut seats)) => {
+            let passes = run_row::<L, W, N, P, T, R>(rt, alloc, &volume, &mut seats, gates, row);
+            close(rt, volume, seats, passes)
+        }
+        Err(fault) => Err(fault.error),
+    }
+}
+
+fn close<V: VolumeName, R: Wait>(
+    rt: &R,
+    volume: Volume<V, MemMeta, GatedBlock>,
+    seats: Vec<Seat<V>>,
+    passes: Vec<FilePass<V>>,
+) -> Result<u32, Error> {
+    match volume.close(rt, seats, passes) {
+        Ok(closed) => {
+            let Closed { parts: _, image } = closed;
+            Ok(image.total)
+        }
+        Err(fault) => {
+            let CloseFault {
+                volume,
+                seats: _,
+                passes: _,
+                error,
+            } = fault;
+            drop(volume.discard(rt));
+            Err(error)
+        }
+    }
+}

@@ -1,0 +1,98 @@
+//! What a checkpoint needs, in its lock.
+ghost use Rattle.std.specs.Prelude.{◌≡◌, ◌≤◌, ◌+◌, ◌^◌, ◌-◌, ◌<◌, ◌⊎◌, ◌∷◌, [], true, false, All, length, vec_capacity, OnOk, IfOk, IfErr};
+ghost use Rattle.geometry.specs.Area.{meta_bytes};
+ghost use Rattle.geometry.specs.declared.error.Error.TheVariants.{NoMemory, Device, Wounded, Exhausted};
+ghost use Rattle.image.specs.Rules.{IsInRange};
+ghost use Rattle.image.specs.View.{image_view};
+ghost use Rattle.checkpoint.specs.Holding.{AreWhole, HoldsTables};
+ghost use Rattle.device.specs.Disk.{Leaves};
+ghost use Rattle.tables.specs.Grammar.{HasSuper};
+
+use checkpoint::{ImagePacks, Stored, Taken};
+use device::{Block, Meta};
+use geometry::Error;
+use names::VolumeName;
+use pool::PoolPass;
+use std::alloc::Global;
+use words::{CheckpointSeat, FreeSlip, Words};
+
+/// What a checkpoint needs: the two packs of the meta area, the right to advance the version, and with what it gives free
+/// segments back.
+///
+/// Until a pack write fails the packs are whole: whatever crash comes leaves the one that counts. Its version is complete, and
+/// the superblock spells the volume's numbers.
+pub struct PacksCell<V: VolumeName, M: Meta> {
+    /// The packs.
+    pub packs: ImagePacks<M>,
+    /// Whether a pack write failed: it is not known then which pack counts.
+    pub wounded: bool,
+    /// The right to advance the version.
+    pub checkpoint: CheckpointSeat,
+    /// With which it puts the slips of free segments into the pool.
+    pub pass: PoolPass<V::Words, V::Pool>,
+    /// The slips that the pool did not take.
+    pub kept: Vec<FreeSlip>,
+    pub ghost size: { length (M.seen packs.area.meta) ≡ meta_bytes V.Numbers.geometry },
+    pub ghost numbers: { packs.geometry ≡ V.Numbers.geometry },
+    pub ghost of_words: { checkpoint.table ≡ V.Words.words },
+    pub ghost whole: { wounded ≡ false → AreWhole M.seen M.may_leave packs },
+    pub ghost front: { wounded ≡ false → HasSuper V.Numbers.geometry (M.seen packs.area.meta) },
+    pub ghost complete: { wounded ≡ false → checkpoint.version ≡ packs.area.version },
+    pub ghost slips: { All (λ slip. (slip.table ≡ V.Words.words) × (slip.segment < V.Numbers.geometry.segments)) kept.items },
+    pub ghost room: { V.Numbers.geometry.segments ≤ vec_capacity kept },
+}
+
+impl<V: VolumeName, M: Meta> PacksCell<V, M> {
+    /// The version of the next pack.
+    ///
+    /// Answers Wounded where a pack write failed, and Exhausted where the version is the largest that there is.
+    pub fn next_version(&self) -> Result<u32, Error>
+        ensures next { IfOk result (λ version. (self.now.wounded ≡ false) × (version ≡ self.now.packs.area.version + 1)) }
+        ensures error { IfErr result (λ error. ((error ≡ Wounded) × (self.now.wounded ≡ true))
+            ⊎ ((error ≡ Exhausted) × (self.now.packs.area.version ≡ 2 ^ 32 - 1))) }
+    {
+        if self.wounded {
+            return Err(Error::Wounded);
+        }
+        match self.packs.area.version.checked_add(1) {
+            Some(version) => Ok(version),
+            None => Err(Error::Exhausted),
+        }
+    }
+
+    /// Writes an image as the next pack, and advances the version once it is the one that counts.
+    ///
+    /// Answers NoMemory before any call of the device, and then nothing has changed. Answers Device where the device failed:
+    /// the volume is wounded then.
+    pub fn store<B: Block>(
+        &mut self,
+        alloc: Global,
+        words: &Words,
+        taken: Taken<B>,
+    ) -> Result<Stored<M, B>, Error>
+        requires words { words.now.table ≡ V.Words.words }
+        requires sound { self.old.wounded ≡ false }
+        requires range { IsInRange V.Numbers.geometry (image_view taken.image) }
+        requires next { taken.image.version ≡ self.old.packs.area.version + 1 }
+        ensures taken { IfOk result (λ stored. stored.taken ≡ taken) }
+        ensures sound { OnOk result (self.new.wounded ≡ false) }
+        ensures held { OnOk result (Leaves M.may_leave self.new.packs.area.meta (HoldsTables V.Numbers.geometry (image_view taken.image))) }
+        ensures area { IfOk result (λ stored. stored.pack.shown.items ≡ (self.new.packs.area, self.new.packs.area.version) ∷ []) }
+        ensures error { IfErr result (λ error. ((error ≡ NoMemory) × (self.new.wounded ≡ false)) ⊎ ((error ≡ Device) × (self.new.wounded ≡ true))) }
+        ensures memory { IfErr result (λ error. error ≡ NoMemory → self.new.packs ≡ self.old.packs) }
+    {
+        // A version fits its field.
+        let _version = taken.image().version;
+        match self.packs.write(alloc, taken) {
+            Ok(stored) => {
+                words.advance(&mut self.checkpoint);
+                Ok(stored)
+            }
+            Err(Error::NoMemory) => Err(Error::NoMemory),
+            Err(error) => {
+                self.wounded = true;
+                Err(error)
+            }
+        }
+    }
+}

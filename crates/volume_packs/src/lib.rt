@@ -1,0 +1,7 @@
+//! The packs of a volume in their lock, with the right to advance its version (Linux `filesystems/f2fs`, checkpoint area).
+#![tactic(auto)]
+
+mod cell;
+mod first;
+
+pub use cell::PacksCell;
