@@ -2,6 +2,7 @@
 ghost use Rattle.std.specs.Prelude.{◌≡◌, ◌+◌};
 
 use crate::{Block, DeviceError, Failures, Meta};
+use std::alloc::{AllocError, Global};
 use std::sync::Arc;
 use std::sync::atomic::{AtomicU64, Ordering};
 
@@ -14,43 +15,63 @@ pub enum Fault {
     After,
 }
 
-/// Says which call fails. A device and who arms it share it.
+/// Says which calls fail. A device and who arms it share it.
 ///
 /// No contract says what an atomic number holds, so what a fuse does is only tested.
 #[derive(Drop)]
 pub struct Fuse {
-    // Twice the calls that are left, and one more where the fault comes late. Below 2 it is not armed.
-    word: AtomicU64,
+    // For each failure that may wait at one time: twice the calls that are left, and one more where the fault comes late. Below 2
+    // it is not armed.
+    words: Vec<AtomicU64>,
 }
 
 impl Fuse {
-    /// A fuse that is not armed.
-    pub fn new() -> Fuse {
-        Fuse {
-            word: AtomicU64::new(0),
+    /// A fuse that is not armed, with room for so many failures at one time. The only error is want of memory.
+    pub fn new(alloc: Global, failures: u32) -> Result<Fuse, AllocError> {
+        let mut words = Vec::new(alloc);
+        for _failure in 0..failures {
+            words.push(AtomicU64::new(0))?;
         }
+        Ok(Fuse { words })
     }
 
     /// The n-th write or sync from now on fails once: it is done before where the fault comes late, and else not done.
-    /// With 0 none fails.
-    pub fn arm(&self, nth: u32, late: bool) {
+    /// With 0 none fails. Those that were armed before count on. Answers whether there was room.
+    pub fn arm(&self, nth: u32, late: bool) -> bool {
         let calls = 2 * nth as u64;
-        let word = if late && nth > 0 { calls + 1 } else { calls };
-        self.word.store(word, Ordering::SeqCst);
+        let armed = if late && nth > 0 { calls + 1 } else { calls };
+        for word in &self.words {
+            if word.load(Ordering::SeqCst) < 2 {
+                word.store(armed, Ordering::SeqCst);
+                return true;
+            }
+        }
+        false
     }
 
-    /// Counts one call, and says whether it is to fail.
+    /// Counts one call, and says whether it is to fail. Where two failures come to the same call, it fails once.
     pub fn burn(&self) -> Option<Fault> {
-        if self.word.load(Ordering::SeqCst) < 2 {
-            return None;
+        let mut found = None;
+        for word in &self.words {
+            if let Some(fault) = burn_one(word) {
+                found = Some(fault);
+            }
         }
-        // Where threads burn it side by side, each call takes a number of its own, so one of them fails. A call that
-        // comes too late leaves a number that no run counts down.
-        match self.word.fetch_sub(2, Ordering::SeqCst) {
-            2 => Some(Fault::Before),
-            3 => Some(Fault::After),
-            _ => None,
-        }
+        found
+    }
+}
+
+// Counts one call of a failure, and says whether it is that call which is to fail.
+fn burn_one(word: &AtomicU64) -> Option<Fault> {
+    if word.load(Ordering::SeqCst) < 2 {
+        return None;
+    }
+    // Where threads burn it side by side, each call takes a number of its own, so one of them fails. A call that comes too late
+    // leaves a number that no run counts down.
+    match word.fetch_sub(2, Ordering::SeqCst) {
+        2 => Some(Fault::Before),
+        3 => Some(Fault::After),
+        _ => None,
     }
 }
 

@@ -171,7 +171,7 @@ fn crash_in_write(
     let Some(inner) = device_with(geometry, old.clone()?) else {
         return Ok(None);
     };
-    let fuse = Arc::new(alloc, Fuse::new())?;
+    let fuse = Arc::new(alloc, Fuse::new(alloc, 1)?)?;
     let recorder = Recorder {
         inner,
         unsettled: None,
@@ -225,7 +225,7 @@ fn crash_in_open(
     let Some(inner) = device_with(geometry, old.clone()?) else {
         return Ok(None);
     };
-    let fuse = Arc::new(alloc, Fuse::new())?;
+    let fuse = Arc::new(alloc, Fuse::new(alloc, 1)?)?;
     let recorder = Recorder {
         inner,
         unsettled: None,

@@ -78,7 +78,7 @@ fn with_fuse(device: Device<MemMeta>, fuse: Arc<Fuse>) -> Device<Unread<MemMeta>
 #[test]
 fn mount_passes_once_the_device_does_not_fail(rt: HostRuntime) -> Result<(), Fail> {
     let alloc = rt.alloc();
-    let fuse = Arc::new(alloc, Fuse::new())?;
+    let fuse = Arc::new(alloc, Fuse::new(alloc, 1)?)?;
     let first = with_two_packs(&rt, alloc)?;
     let mut device = with_fuse(first.device, Arc::try_clone(&fuse)?);
     // The superblock is read, then the first and the last number of each pack, and then the body that counts.
