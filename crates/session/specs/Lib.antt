@@ -1,0 +1,5 @@
+pub mod Files
+pub mod Contents
+pub mod Lines
+pub mod Work
+pub mod Share
