@@ -1,0 +1,4 @@
+pub mod Lines
+pub mod Tasks
+pub mod Duties
+pub mod Part

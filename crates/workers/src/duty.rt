@@ -1,0 +1,123 @@
+//! What a worker of a part is given, and what it hands back.
+ghost use Rattle.std.specs.Prelude.{◌≡◌, IfOk};
+ghost use Rattle.workers.specs.Duties.{IsDone};
+
+use crate::calls::Calls;
+use crate::gate::Gate;
+use crate::tasks::run_tasks;
+use device::{Block, Meta};
+use names::VolumeName;
+use script::Task;
+use session::Session;
+use std::alloc::Global;
+use std::io;
+use std::marker::Model;
+use std::sync::Wait;
+
+/// A worker's number, its tasks, and its share of the files.
+#[derive(Drop)]
+pub(crate) struct Duty<'t, 'a, V: VolumeName, M: Meta, B: Block + Drop> {
+    number: usize,
+    tasks: &'t [Task],
+    share: Session<'a, V, M, B>,
+}
+
+impl<'t, 'a, V: VolumeName, M: Meta, B: Block + Drop> Model for Duty<'t, 'a, V, M, B> {
+    ghost use Rattle.std.specs.Coded.{codes};
+    ghost use Rattle.geometry.specs.File.{blocks_code};
+    ghost use Rattle.readers.specs.Reader.{segments_code};
+    ghost use Rattle.workers.specs.Duties.{Duty};
+
+    ghost Value = { Duty };
+
+    ghost coded = { Prim.hlevel (codes, blocks_code, segments_code) };
+
+    ghost view = { λ d. record { number = d.number; tasks = d.tasks.now; share = d.share } };
+}
+
+/// A worker's number, its share once its tasks are done, and its lines.
+#[derive(Drop)]
+pub(crate) struct Done<'a, V: VolumeName, M: Meta, B: Block + Drop> {
+    number: usize,
+    share: Session<'a, V, M, B>,
+    text: Vec<u8>,
+}
+
+impl<'a, V: VolumeName, M: Meta, B: Block + Drop> Model for Done<'a, V, M, B> {
+    ghost use Rattle.std.specs.Coded.{codes};
+    ghost use Rattle.geometry.specs.File.{blocks_code};
+    ghost use Rattle.readers.specs.Reader.{segments_code};
+    ghost use Rattle.workers.specs.Duties.{Made};
+
+    ghost Value = { Made };
+
+    ghost coded = { Prim.hlevel (codes, blocks_code, segments_code) };
+
+    ghost view = { λ d. record { number = d.number; share = d.share; text = d.text.items } };
+}
+
+impl<'t, 'a, V: VolumeName, M: Meta, B: Block + Drop> Duty<'t, 'a, V, M, B> {
+    /// What a worker is to do on its share.
+    pub(crate) fn new(
+        number: usize,
+        tasks: &'t [Task],
+        share: Session<'a, V, M, B>,
+    ) -> Duty<'t, 'a, V, M, B>
+        ensures { result ≡ record { number = number; tasks = tasks.now; share = share.entry } }
+    {
+        Duty {
+            number,
+            tasks,
+            share,
+        }
+    }
+
+    /// Does the tasks in order.
+    pub(crate) fn work<R: Wait, G: Gate>(
+        self,
+        rt: &R,
+        alloc: Global,
+        gate: &G,
+    ) -> io::Result<Done<'a, V, M, B>>
+        ensures { IfOk result (IsDone self.entry) }
+    {
+        let Duty {
+            number,
+            tasks,
+            mut share,
+        } = self;
+        let mut text = Vec::new(alloc);
+        let mut calls = Calls::new(gate, number);
+        run_tasks(rt, &mut calls, &mut share, tasks, &mut text)?;
+        Ok(Done {
+            number,
+            share,
+            text,
+        })
+    }
+}
+
+impl<'a, V: VolumeName, M: Meta, B: Block + Drop> Done<'a, V, M, B> {
+    pub(crate) fn number(&self) -> usize
+        ensures { result ≡ self.now.number }
+    {
+        self.number
+    }
+
+    pub(crate) fn text(&self) -> &[u8]
+        ensures { result.now ≡ self.now.text }
+    {
+        self.text.as_slice()
+    }
+
+    pub(crate) fn into_share(self) -> Session<'a, V, M, B>
+        ensures { result ≡ self.entry.share }
+    {
+        let Done {
+            number: _,
+            share,
+            text: _,
+        } = self;
+        share
+    }
+}
