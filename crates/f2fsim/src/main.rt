@@ -4,12 +4,13 @@
 use script::words::USAGE;
 use script::{Words, WordsError};
 use simulator::status::MISUSED;
-use simulator::{check_image, run_script, tell_failure};
+use simulator::{check_image, run_script, tell_failure, tell_no_memory};
 use std::fs::File;
 use std::io::Write;
 use std::process::ExitCode;
 use std::rt::Runtime;
 use std::sync::Wait;
+use std::thread::Threads;
 use std::{env, io};
 
 fn main(rt: HostRuntime) -> ExitCode {
@@ -17,13 +18,14 @@ fn main(rt: HostRuntime) -> ExitCode {
     let mut errors = rt.stderr();
     let status = match called(&rt, &mut out, &mut errors) {
         Ok(status) => status,
+        Err(error) if error.kind() == io::ErrorKind::OutOfMemory => tell_no_memory(&mut errors),
         Err(_) => tell_failure(&mut errors),
     };
     ExitCode::from(status)
 }
 
 // Does what the words ask for, and answers the exit status.
-fn called<R: Runtime + AllocGlobal + Wait, W: Write, E: Write>(
+fn called<R: Runtime + AllocGlobal + Threads + Wait + Sync, W: Write, E: Write>(
     rt: &R,
     out: &mut W,
     errors: &mut E,
@@ -47,7 +49,7 @@ fn called<R: Runtime + AllocGlobal + Wait, W: Write, E: Write>(
 }
 
 // Runs the script on standard input. The bytes of the device, if some were put aside, become those of the file at `save`.
-fn run_saving<R: Runtime + AllocGlobal + Wait, W: Write, E: Write>(
+fn run_saving<R: Runtime + AllocGlobal + Threads + Wait + Sync, W: Write, E: Write>(
     rt: &R,
     out: &mut W,
     errors: &mut E,

@@ -15,15 +15,15 @@ use Rattle.node_reading.specs.Blocks.{bytes_at}
 use Rattle.one_image.specs.OneImage.{OneImageLaw}
 use Rattle.script.specs.declared.script.Step.{Step}
 use Rattle.simulator.specs.Ending.{HoldsFiles, LeftScript, RanSteps, ToldParts, WasLeft}
-use Rattle.simulator.specs.Files.{passes_among}
-use Rattle.simulator.specs.Lines.{image_lines, unsynced_line}
+use Rattle.session.specs.Files.{passes_among}
+use Rattle.session.specs.Lines.{image_lines, unsynced_line}
 use Rattle.simulator.specs.Run.{EndsClosed, WroteScript, format_line}
 use Rattle.simulator.proofs.Shown.{files_shown}
 
 -- the blocks of a device that a script left are a run
-pub run_of_left : {M B : Type 0} (seen : M → List ℕ) (address_of : B → ℕ) (content_of : B → List ℕ) (steps : List Step) (parts split : Parts M B) (old new : Option (List ℕ)) → split ≡ parts
-    → LeftScript seen address_of content_of steps parts old new → (bytes : ℕ) × IsBlockRun address_of content_of bytes 1 split.blocks.items
-run_of_left {M} {B} seen address_of content_of steps parts split old new is left = subst (λ (p : Parts M B). (bytes : ℕ) × IsBlockRun address_of content_of bytes 1 p.blocks.items) (sym is) (by_left left.left)
+pub run_of_left : {M B : Type 0} (seen : M → List ℕ) (address_of : B → ℕ) (content_of : B → List ℕ) (steps : List Step) (parts : Parts M B) (old new : Option (List ℕ))
+    → LeftScript seen address_of content_of steps parts old new → (bytes : ℕ) × IsBlockRun address_of content_of bytes 1 parts.blocks.items
+run_of_left seen address_of content_of steps parts old new left = by_left left.left
   where
     by_left : WasLeft seen address_of content_of left.geometry left.passes parts left.middle new → (bytes : ℕ) × IsBlockRun address_of content_of bytes 1 parts.blocks.items
     by_left (inl (holds, same)) = (block_bytes left.geometry.shape, holds.size.run)
@@ -53,13 +53,10 @@ module _ {M B : Type 0} (seen : M → List ℕ) (address_of : B → ℕ) (conten
       }
 
   -- a script was run, its volume left, and what its device holds told
-  pub wrote_script : (steps : List Step) (parts split : Parts M B) (old new last : Option (List ℕ)) → split ≡ parts → LeftScript seen address_of content_of steps parts old new
-      → ToldParts seen content_of split new last → WroteScript steps old last
-  wrote_script steps parts split old new last is left told_split = by_left left.left
+  pub wrote_script : (steps : List Step) (parts : Parts M B) (old new last : Option (List ℕ)) → LeftScript seen address_of content_of steps parts old new
+      → ToldParts seen content_of parts new last → WroteScript steps old last
+  wrote_script steps parts old new last left told = by_left left.left
     where
-      told : ToldParts seen content_of parts new last
-      told = subst (λ (p : Parts M B). ToldParts seen content_of p new last) is told_split
-
       text : List ℕ
       text = image_lines told.geometry told.image (bytes_at content_of parts.blocks.items)
 
@@ -70,7 +67,7 @@ module _ {M B : Type 0} (seen : M → List ℕ) (address_of : B → ℕ) (conten
       by_left (inl (holds, same)) =
           let quiet : ToldParts seen content_of parts left.middle last = subst (λ (c : Option (List ℕ)). ToldParts seen content_of parts c last) same told in
           record {
-            geometry = left.geometry;
+            geometry = ran.first;
             run = record {
               end = ran.end;
               lines = ran.ran.lines;
@@ -81,7 +78,7 @@ module _ {M B : Type 0} (seen : M → List ℕ) (address_of : B → ℕ) (conten
             };
           }
       by_left (inr (size, unsynced)) = record {
-        geometry = left.geometry;
+        geometry = ran.first;
         run = record {
           end = ran.end;
           lines = ran.ran.lines;

@@ -1,8 +1,6 @@
-pub mod Hex
-pub mod Files
-pub mod Calls
-pub mod Filling
-pub mod Telling
-pub mod Steps
+pub mod Texts
+pub mod Runs
+pub mod Going
 pub mod Shown
+pub mod Wrapped
 pub mod Ending

@@ -1,7 +1,9 @@
 -- Where the files of an image are exactly those that the passes of a session showed, both are the same list.
-use Rattle.std.proofs.Common.{◌≡◌, ◌∙◌, ◌<◌, ◌≤◌, ◌+◌, ℕ, suc, zero, Bool, true, false, List, [], ◌∷◌, ◌++◌, length, map, take, get_or, Option, Some, None, inl, inr, refl, sym, ap, subst, arith, if◌then◌else◌}
+use Rattle.std.proofs.Common.{◌≡◌, ◌∙◌, ◌<◌, ◌≤◌, ◌+◌, ℕ, suc, zero, Bool, true, false, List, [], ◌∷◌, ◌++◌, drop, length, map, take, get_or, Option, Some, None, inl, inr, refl, sym, ap, subst, arith, if◌then◌else◌}
 use Rattle.std.specs.Prelude.{◌↔◌, filter}
-use Rattle.std.proofs.lemmas.List.{get_or_past, map-append, take_all, take_more}
+use Rattle.std.proofs.Math.Seq.{get_or-append_seam}
+use Rattle.std.proofs.lemmas.Bool.{cases_eq, cases_lt}
+use Rattle.std.proofs.lemmas.List.{get_or_append_left, get_or_past, length-append, map-append, take_all, take_more}
 use Rattle.std.proofs.lemmas.List.Elements.{filter-append}
 use Rattle.assembly.specs.Items.{Among}
 use Rattle.assembly.proofs.Weighing.{among-map, of_among-map}
@@ -12,7 +14,8 @@ use Rattle.geometry.specs.File.{Block, File}
 use Rattle.image.specs.Files.{file_of as image_file, files as files_of}
 use Rattle.image.specs.Image.{Image}
 use Rattle.image.specs.Walk.{is_taken, up_to}
-use Rattle.simulator.specs.Files.{ArePlaced, Files, passes_among, shown_files}
+use Rattle.session.specs.Files.{ArePlaced, AreInOrder, Files, StandInPlace, passes_among, shown_files}
+use Rattle.session.proofs.Placing.{among_place, place_of_pass}
 
 -- the items of the numbers below this one, one behind the other
 abbrev below : {A : Type 0} → ℕ → (ℕ → List A) → List A
@@ -24,11 +27,13 @@ below_same zero f g each = refl
 below_same (suc n) f g each =
     ap (λ xs. xs ++ f n) (below_same n f g (λ k low. each k (omega arith))) ∙ ap (λ ys. below n g ++ ys) (each n (omega arith))
 
--- ---- passes
+heads_same : {A : Type 0} (x y : A) (xs ys : List A) → x ∷ xs ≡ y ∷ ys → x ≡ y
+heads_same x y xs ys is = ap (λ zs. get_or zs 0 x) is
 
-abbrev items_of : {A : Type 0} → Option A → List A
-items_of None = []
-items_of (Some x) = x ∷ []
+tails_same : {A : Type 0} (x y : A) (xs ys : List A) → x ∷ xs ≡ y ∷ ys → xs ≡ ys
+tails_same x y xs ys is = ap (drop 1) is
+
+-- ---- passes
 
 not_none : {A : Type 0} (x : A) → None ≡ Some x → ⊥
 not_none x is = cc
@@ -36,27 +41,29 @@ not_none x is = cc
 some_same : {A : Type 0} (x y : A) → Some x ≡ Some y → x ≡ y
 some_same x y is = cc
 
+abbrev items_of : {A : Type 0} → Option A → List A
+items_of None = []
+items_of (Some x) = x ∷ []
+
 kept_last : (xs : List (Option Pass)) (x : Option Pass) → passes_among (xs ++ x ∷ []) ≡ passes_among xs ++ items_of x
 kept_last [] None = refl
 kept_last [] (Some p) = refl
 kept_last (None ∷ ys) x = kept_last ys x
 kept_last (Some p ∷ ys) x = ap (λ zs. p ∷ zs) (kept_last ys x)
 
-among_place : (places : List (Option Pass)) (k : ℕ) (p : Pass) → get_or places k None ≡ Some p → Among p (passes_among places)
-among_place [] k p is = absurd (not_none p (sym (get_or_past [] k None (omega arith)) ∙ is))
-among_place (None ∷ os) zero p is = absurd (not_none p is)
-among_place (Some q ∷ os) zero p is = inl (some_same q p is)
-among_place (None ∷ os) (suc k) p is = among_place os k p is
-among_place (Some q ∷ os) (suc k) p is = inr (among_place os k p is)
-
-place_of_pass : (places : List (Option Pass)) (p : Pass) → Among p (passes_among places) → (k : ℕ) × (get_or places k None ≡ Some p)
-place_of_pass [] p m = absurd m
-place_of_pass (None ∷ os) p m = let r = place_of_pass os p m in (suc r.0, r.1)
-place_of_pass (Some q ∷ os) p (inl e) = (0, ap Some e)
-place_of_pass (Some q ∷ os) p (inr m) = let r = place_of_pass os p m in (suc r.0, r.1)
-
 abbrev pair : Pass → ℕ × File
 pair pass = (pass.number, pass.file)
+
+same_pass : (p q : Pass) → pair p ≡ pair q → p ≡ q
+same_pass p q is = ap (λ (z : ℕ × File). record { number = z.0; file = z.1 }) is
+
+same_passes : (ps qs : List Pass) → map pair ps ≡ map pair qs → ps ≡ qs
+same_passes [] [] is = refl
+same_passes [] (q ∷ qs) is = absurd (let no = is in cc)
+same_passes (p ∷ ps) [] is = absurd (let no = is in cc)
+same_passes (p ∷ ps) (q ∷ qs) is =
+    ap (λ r. r ∷ ps) (same_pass p q (heads_same (pair p) (pair q) (map pair ps) (map pair qs) is))
+    ∙ ap (λ rs. q ∷ rs) (same_passes ps qs (tails_same (pair p) (pair q) (map pair ps) (map pair qs) is))
 
 abbrev pass_items : List (Option Pass) → ℕ → List (ℕ × File)
 pass_items places k = map pair (items_of (get_or places k None))
@@ -135,3 +142,69 @@ module _ (end : Files) (placed : ArePlaced end) (image : Image) (blocks : ℕ �
       ∙ below_same end.geometry.files (file_items end.geometry image blocks) (pass_items end.passes) each
       ∙ sym (passes_below end.passes end.geometry.files (omega (arith, placed.count)))
       ∙ ap (λ xs. map pair (passes_among xs)) (take_all end.geometry.files end.passes (omega (arith, placed.count)))
+
+-- ---- the passes of an image's files, in order
+
+module _ (geometry : Geometry) (image : Image) (blocks : ℕ → Block) where
+  abbrev pass_of : ℕ → Pass
+  pass_of inode = record { number = inode; file = image_file geometry.shape image blocks inode }
+
+  abbrev place_of : ℕ → Option Pass
+  place_of k = if is_taken image (suc k) then Some (pass_of (suc k)) else None
+
+  -- a place for each of so many inode numbers
+  abbrev places_of : ℕ → List (Option Pass)
+  places_of zero = []
+  places_of (suc k) = places_of k ++ place_of k ∷ []
+
+  place_items : (k : ℕ) → map pair (items_of (place_of k)) ≡ file_items geometry image blocks k
+  place_items k = by_bit (is_taken image (suc k)) refl
+    where
+      by_bit : (b : Bool) → is_taken image (suc k) ≡ b → map pair (items_of (if b then Some (pass_of (suc k)) else None)) ≡ (if b then named geometry image blocks (suc k) ∷ [] else [])
+      by_bit true is = refl
+      by_bit false is = refl
+
+  places_show : (m : ℕ) → map pair (passes_among (places_of m)) ≡ below m (file_items geometry image blocks)
+  places_show zero = refl
+  places_show (suc m) =
+      ap (map pair) (kept_last (places_of m) (place_of m))
+      ∙ map-append pair (passes_among (places_of m)) (items_of (place_of m))
+      ∙ ap (λ xs. xs ++ map pair (items_of (place_of m))) (places_show m)
+      ∙ ap (λ ys. below m (file_items geometry image blocks) ++ ys) (place_items m)
+
+  count_is : (m : ℕ) → length (places_of m) ≡ m
+  count_is zero = refl
+  count_is (suc m) = length-append (places_of m) (place_of m ∷ []) ∙ omega (arith, count_is m)
+
+  at_place : (m k : ℕ) → k < m → get_or (places_of m) k None ≡ place_of k
+  at_place zero k low = absurd (omega arith)
+  at_place (suc m) k low = elim (cases_eq k m) [
+    | inl e ↦ ap (λ j. get_or (places_of m ++ place_of m ∷ []) j None) (e ∙ sym (count_is m)) ∙ get_or-append_seam (places_of m) (place_of m) [] None ∙ ap place_of (sym e)
+    | inr ne ↦ get_or_append_left (places_of m) (place_of m ∷ []) None k (omega (arith, count_is m, ne)) ∙ at_place m k (omega (arith, ne))
+  ]
+
+  number_is : (k : ℕ) (pass : Pass) → place_of k ≡ Some pass → pass.number ≡ k + 1
+  number_is k pass is = by_bit (is_taken image (suc k)) is
+    where
+      by_bit : (b : Bool) → (if b then Some (pass_of (suc k)) else None) ≡ Some pass → pass.number ≡ k + 1
+      by_bit true e =
+          let next : suc k ≡ k + 1 = omega arith in
+          ap (λ (p : Pass). p.number) (sym (some_same (pass_of (suc k)) pass e)) ∙ next
+      by_bit false e = absurd (not_none pass e)
+
+  stand : StandInPlace geometry.files (places_of geometry.files)
+  stand = record {
+    count = count_is geometry.files;
+    numbers = λ k pass at. elim (cases_lt k geometry.files) [
+      | inl lt ↦ number_is k pass (sym (at_place geometry.files k lt) ∙ at)
+      | inr ge ↦ absurd (not_none pass (sym (get_or_past (places_of geometry.files) k None (omega (arith, count_is geometry.files))) ∙ at))
+    ];
+  }
+
+  -- passes that show the files of an image are in the order of their numbers
+  pub in_order : (passes : List Pass) → map pair passes ≡ files_of geometry image blocks → AreInOrder geometry.files passes
+  in_order passes show = record {
+    places = places_of geometry.files;
+    placed = stand;
+    are = same_passes passes (passes_among (places_of geometry.files)) (show ∙ files_below geometry image blocks geometry.files ∙ sym (places_show geometry.files));
+  }

@@ -7,7 +7,7 @@ use Rattle.image.specs.Image.{Image}
 use Rattle.image.specs.Rules.{IsLawful}
 use Rattle.tables.specs.Grammar.{HasSuper}
 use Rattle.tables.specs.File.{HoldsImage, IsFileRefusal}
-use Rattle.simulator.specs.Lines.{image_line, refusal_line}
+use Rattle.session.specs.Lines.{image_line, refusal_line}
 
 -- the file has this superblock, and this lawful image in its picked pack
 pub record HoldsLawfulImage (geometry : Geometry) (image : Image) (file : List ℕ) : Type 0 where

@@ -1,12 +1,12 @@
 -- What is known between the steps of a script and its end: of the passes, of the device's parts, and of what was written. What a
 -- device's parts show is an argument.
-use Rattle.std.specs.Prelude.{◌≡◌, ◌⊎◌, ◌↔◌, ℕ, List, Option}
+use Rattle.std.specs.Prelude.{◌≡◌, ◌⊎◌, ◌<◌, ◌↔◌, ℕ, List, Option, Some, length, map}
 use Rattle.std.specs.Io.KnownBytes.{Appends}
 use Rattle.assembly.specs.Items.{Among}
 use Rattle.device.specs.declared.parts.Parts.{Parts}
 use Rattle.device.specs.Parts.{HasSize}
 use Rattle.file_cells.specs.Pass.{Pass}
-use Rattle.geometry.specs.File.{File}
+use Rattle.geometry.specs.File.{Block, File}
 use Rattle.geometry.specs.declared.geometry.Geometry.{Geometry}
 use Rattle.image.specs.Files.{files as files_of}
 use Rattle.image.specs.Image.{Image}
@@ -14,14 +14,18 @@ use Rattle.image.specs.Rules.{IsLawful}
 use Rattle.node_reading.specs.Blocks.{bytes_at}
 use Rattle.one_image.specs.OneImage.{HoldVolume}
 use Rattle.script.specs.declared.script.Step.{Step}
-use Rattle.simulator.specs.Files.{ArePlaced, Files, no_files, passes_among}
-use Rattle.simulator.specs.Lines.{image_lines, unsynced_line}
-use Rattle.simulator.specs.Run.{WroteSteps, format_line}
+use Rattle.session.specs.Files.{ArePlaced, Files, no_files, passes_among}
+use Rattle.session.specs.Lines.{image_lines, unsynced_line}
+use Rattle.simulator.specs.Run.{RanSome, WroteSteps, format_line}
+use Rattle.simulator.specs.declared.leaving.Left.{Left}
+use Rattle.simulator.specs.declared.steps.Carried.{Carried}
+use Rattle.simulator.specs.declared.steps.Opening.{Opening}
 
--- the steps were run on a volume without files, and these are the passes of its files at the end
+-- the steps were run, first on a volume without files, and these are the passes of the last volume's files at the end
 pub record RanSteps (steps : List Step) (geometry : Geometry) (passes : List Pass) (old new : Option (List ℕ)) : Type 0 where
+  pub first : Geometry
   pub end : Files
-  pub ran : WroteSteps steps (no_files geometry) end format_line old new
+  pub ran : WroteSteps steps (no_files first) end format_line old new
   pub placed : ArePlaced end
   pub numbers : end.geometry ≡ geometry
   pub passes_are : passes ≡ passes_among end.passes
@@ -41,13 +45,36 @@ module _ {M B : Type 0} (seen : M → List ℕ) (address_of : B → ℕ) (conten
       (HoldsFiles geometry passes parts × (new ≡ old))
       ⊎ (HasSize seen address_of content_of geometry parts × Appends old new unsynced_line)
 
-  -- the steps were run on a volume without files, and it was left
+  -- the steps were run, and the last volume was left
   pub record LeftScript (steps : List Step) (parts : Parts M B) (old new : Option (List ℕ)) : Type 0 where
     pub geometry : Geometry
     pub passes : List Pass
     pub middle : Option (List ℕ)
     pub ran : RanSteps steps geometry passes old middle
     pub left : WasLeft geometry passes parts middle new
+
+module _ {M B L : Type 0} (seen : M → List ℕ) (address_of : B → ℕ) (content_of : B → List ℕ) where
+  -- a volume was left where its steps halted: where all were run it was left for good, and else nothing was written
+  pub record LeftSome (steps : List Step) (geometry : Geometry) (passes : List Pass) (opening : Opening) (left : Left M B L) (old new : Option (List ℕ)) : Type 0 where
+    pub ended : List Pass
+    pub middle : Option (List ℕ)
+    pub ran : RanSome steps geometry passes opening ended left.run left.carried old middle
+    pub left_so : ((left.run ≡ length steps) × WasLeft seen address_of content_of geometry ended left.parts middle new)
+        ⊎ ((left.run < length steps) × HasSize seen address_of content_of geometry left.parts × (new ≡ middle))
+
+  -- the same of a volume that was mounted: its passes showed the files of this image over these blocks
+  pub record WentOnWith (geometry : Geometry) (image : Image) (blocks : ℕ → Block) (steps : List Step) (carried : Carried) (left : Left M B L) (old new : Option (List ℕ)) : Type 0 where
+    pub passes : List Pass
+    pub shown : map (λ pass. (pass.number, pass.file)) passes ≡ files_of geometry image blocks
+    pub some : LeftSome steps geometry passes (record { mounted = Some image.version; carried = carried }) left old new
+
+  -- the same of some lawful image over some blocks
+  pub record WentOn (steps : List Step) (carried : Carried) (left : Left M B L) (old new : Option (List ℕ)) : Type 0 where
+    pub geometry : Geometry
+    pub image : Image
+    pub blocks : ℕ → Block
+    pub lawful : IsLawful geometry image
+    pub on : WentOnWith geometry image blocks steps carried left old new
 
 -- the files and the total of the lawful image that the parts hold were written
 pub record ToldParts {M B : Type 0} (seen : M → List ℕ) (content_of : B → List ℕ) (parts : Parts M B) (old new : Option (List ℕ)) : Type 0 where

@@ -1,154 +1,60 @@
 -- A run of a script: what each command makes of the volume's files, and the line that it writes. A command that is refused
 -- leaves the files as they were, but for a range, which is filled up to the refusal.
-use Rattle.std.specs.Prelude.{◌≡◌, ◌≢◌, ◌⊎◌, ℕ, zero, suc, ◌+◌, ◌-◌, ◌<◌, ◌≤◌, Bool, true, false, List, [], ◌∷◌, ◌++◌, length, Option, Some, None, Result, Ok, Err, codes, replicate}
+use Rattle.std.specs.Prelude.{◌≡◌, ◌⊎◌, ◌<◌, ℕ, ◌+◌, ◌-◌, ◌^◌, Bool, true, false, List, [], ◌∷◌, ◌++◌, length, map, min, slice_get, take, Option, Some, None, Result, codes}
+use Rattle.std.specs.Fmt.{decimal}
 use Rattle.std.specs.Io.KnownBytes.{Appends}
-use Rattle.geometry.specs.Shape.{block_bytes}
-use Rattle.geometry.specs.File.{Block, File, bytes_at, cut_to, new_file, written}
+use Rattle.geometry.specs.File.{Block}
 use Rattle.geometry.specs.declared.error.Error.{Error}
+use Rattle.geometry.specs.declared.error.Error.TheVariants.{SeatsOut}
 use Rattle.geometry.specs.declared.geometry.Geometry.{Geometry}
-use Rattle.geometry.specs.declared.error.Error.TheVariants.{NoFile, NoMemory, Wounded}
-use Rattle.geometry.specs.declared.kind.Kind.{Kind}
-use Rattle.script.specs.declared.command.Command.{Command}
-use Rattle.script.specs.declared.command.Command.TheVariants.{Work as WorkOf, Now, Create, Delete, Status as TellStatus, Snap, Done, Fail, Remount}
-use Rattle.script.specs.declared.command.Work.{Work}
-use Rattle.script.specs.declared.command.Work.TheVariants.{Write, Fill, Read, Cut, Clean, Sync, Look}
-use Rattle.script.specs.declared.script.Step.{Step}
-use Rattle.script.specs.declared.script.Step.TheVariants.{Command as CommandStep, Part}
-use Rattle.script.specs.declared.command.Cleaning.{Cleaning}
-use Rattle.script.specs.declared.command.Cleaning.TheVariants.{Foreground as CleanForeground, Background as CleanBackground}
+use Rattle.file_cells.specs.Pass.{Pass}
 use Rattle.image.specs.Files.{files as files_of}
-use Rattle.image.specs.Free.{free_count}
 use Rattle.image.specs.Image.{Image}
 use Rattle.image.specs.Rules.{IsLawful}
-use Rattle.cleaning.specs.Cleaning.{IsCleaned}
-use Rattle.cleaning.specs.declared.policy.Policy.{Policy}
-use Rattle.cleaning.specs.declared.policy.Policy.TheVariants.{Foreground as PolicyForeground, Background as PolicyBackground}
-use Rattle.cleaning.specs.declared.section.Cleaned.{Cleaned}
-use Rattle.readers.specs.Reader.{IsPinned, SnapshotOf}
+use Rattle.readers.specs.Reader.{SnapshotOf}
 use Rattle.readers.specs.Status.{all}
 use Rattle.readers.specs.declared.status.Status.{Status}
-use Rattle.simulator.specs.Files.{AreAllTaken, Files, HasFile, HasReader, IsLeastFree, file_at, no_files, reader_at, shown_by, shown_files, with_file, with_reader, without_file, without_reader}
-use Rattle.simulator.specs.declared.content.Content.{Content}
-use Rattle.simulator.specs.declared.synced.Synced.{Synced}
+use Rattle.script.specs.declared.command.Command.{Command}
+use Rattle.script.specs.declared.command.Command.TheVariants.{Work as WorkOf, Now, Create, Delete, Status as TellStatus, Snap, Done, Fail, Remount}
+use Rattle.script.specs.declared.script.Step.{Step}
+use Rattle.script.specs.declared.script.Step.TheVariants.{Command as CommandStep, Part}
+use Rattle.session.specs.Files.{ArePlaced, Files, IsOpened, no_files, open_count, passes_among, shown_files}
+use Rattle.session.specs.Lines.{created_line, done_line, image_lines, newline, refusal_line, status_line, taken_line, unsynced_line}
+use Rattle.session.specs.Work.{IsClosed, IsCreated, IsDeleted, IsTaken, WorkWrites}
+use Rattle.simulator.specs.declared.steps.Carried.{Carried}
+use Rattle.simulator.specs.declared.steps.Opening.{Opening}
 use Rattle.simulator.specs.declared.stop.Stop.{Stop}
-use Rattle.simulator.specs.declared.stop.Stop.TheVariants.{BadLine, Failed, Refused}
-use Rattle.simulator.specs.Contents.{content_of}
-use Rattle.simulator.specs.Lines.{cleaned_line, created_line, done_line, image_lines, look_line, newline, read_line, refusal_line, status_line, synced_line, taken_line, unsynced_line}
+use Rattle.simulator.specs.declared.stop.Stop.TheVariants.{BadLine, Failed, NoMemory, Refused}
+use Rattle.workers.specs.Part.{PartWrites}
 
--- no file has this number, and that is the refusal
-abbrev pub IsNone : Files → ℕ → Error → Type 0
-IsNone files number error = (¬ (HasFile files number)) × (error ≡ NoFile)
+abbrev pub format_line : List ℕ
+format_line = codes "format ok" ++ newline
 
--- what a call on a file of this number answers where it is refused: NoFile where there is no such file, and there alone
-abbrev pub IsRefused : Files → ℕ → Error → Type 0
-IsRefused files number error = (HasFile files number × (error ≢ NoFile)) ⊎ IsNone files number error
+abbrev pub mount_line : ℕ → List ℕ
+mount_line version = codes "mount version " ++ decimal version ++ newline
 
--- the same of a call that where there is such a file only a wounded volume refuses
-abbrev pub IsRefusedWounded : Files → ℕ → Error → Type 0
-IsRefusedWounded files number error = (HasFile files number × (error ≡ Wounded)) ⊎ IsNone files number error
+-- what tells that a volume is there: the version that was mounted, if it was not formatted
+abbrev pub opening_line : Option ℕ → List ℕ
+opening_line None = format_line
+opening_line (Some version) = mount_line version
 
--- a file was made under the least free number, or not: NoFile only where each number has a file
-abbrev pub IsCreated : Files → Kind → Result ℕ Error → Files → Type 0
-IsCreated old kind (Ok number) new = IsLeastFree old number × (new ≡ with_file old number (new_file kind))
-IsCreated old kind (Err error) new = (error ≡ NoFile → AreAllTaken old.passes) × (new ≡ old)
+-- A volume was left as it was, and its device mounted again: the files are those of a lawful image over some blocks, of the
+-- version that is told. The time goes on, and so do the numbers of readers, of which none is open.
+pub record IsRemounted (old new : Files) (line : List ℕ) : Type 0 where
+  pub image : Image
+  pub blocks : ℕ → Block
+  pub none_open : open_count old.readers ≡ 0
+  pub lawful : IsLawful new.geometry image
+  pub shown : shown_files new ≡ files_of new.geometry image blocks
+  pub placed : ArePlaced new
+  pub time_is : new.time ≡ old.time
+  pub readers_are : new.readers ≡ old.readers
+  pub told : line ≡ mount_line image.version
 
--- a block whose bytes are all this one
-abbrev pub equal_block : Files → ℕ → Block
-equal_block files byte = replicate (block_bytes files.geometry.shape) byte
-
--- a block of equal bytes was written at an index, or not
-abbrev pub IsWritten : Files → ℕ → ℕ → ℕ → Result (Unit {0}) Error → Files → Type 0
-IsWritten old number index byte (Ok done) new =
-    HasFile old number × (new ≡ with_file old number (written (file_at old number) index (equal_block old byte)))
-IsWritten old number index byte (Err error) new = IsRefused old number error × (new ≡ old)
-
--- the block is written at so many indexes in turn
-abbrev pub filled : File → ℕ → ℕ → Block → File
-filled file first zero block = file
-filled file first (suc count) block = written (filled file first count block) (first + count) block
-
--- the file has the block at so many indexes from the first on
-abbrev pub IsFilledTo : Files → ℕ → ℕ → ℕ → ℕ → Files → Type 0
-IsFilledTo old number first count byte new =
-    HasFile old number × (new ≡ with_file old number (filled (file_at old number) first count (equal_block old byte)))
-
--- such a block was written at each index from the first to the one before the last, or up to a refusal, which is NoFile
--- where there is no such file, and there alone
-abbrev pub IsFilled : Files → ℕ → ℕ → ℕ → ℕ → Result (Unit {0}) Error → Files → Type 0
-IsFilled old number first last byte (Ok done) new = IsFilledTo old number first (last - first) byte new
-IsFilled old number first last byte (Err error) new =
-    ((count : ℕ) × (first + count < last) × IsFilledTo old number first count byte new × (error ≢ NoFile))
-    ⊎ (IsNone old number error × (new ≡ old))
-
--- what stands at an index of a file was read
-abbrev pub IsFound : Files → ℕ → ℕ → Result (Option Content) Error → Type 0
-IsFound files number index (Ok (Some content)) =
-    HasFile files number × (index < (file_at files number).length)
-    × (content ≡ content_of (bytes_at (block_bytes files.geometry.shape) (file_at files number) index))
-IsFound files number index (Ok None) = HasFile files number × ((file_at files number).length ≤ index)
-IsFound files number index (Err error) = IsRefused files number error
-
--- a file was cut, or not
-abbrev pub IsCut : Files → ℕ → ℕ → Result (Unit {0}) Error → Files → Type 0
-IsCut old number length (Ok done) new = HasFile old number × (new ≡ with_file old number (cut_to (file_at old number) length))
-IsCut old number length (Err error) new = IsRefusedWounded old number error × (new ≡ old)
-
--- a file was deleted, or not
-abbrev pub IsDeleted : Files → ℕ → Result (Unit {0}) Error → Files → Type 0
-IsDeleted old number (Ok done) new = HasFile old number × (new ≡ without_file old number)
-IsDeleted old number (Err error) new = IsRefusedWounded old number error × (new ≡ old)
-
--- the policy that a script names
-abbrev pub policy_of : Cleaning → Policy
-policy_of CleanForeground = PolicyForeground
-policy_of CleanBackground = PolicyBackground
-
--- a section was chosen at the time that was set, and cleaned; or the clean was refused
-abbrev pub IsTidied : Files → Cleaning → Result Cleaned Error → Type 0
-IsTidied files cleaning (Ok c) = IsCleaned files.geometry (policy_of cleaning) files.time c.rows.items c.section c.moved c.gone
-IsTidied files cleaning (Err error) = error ≢ NoFile
-
--- a lawful image was written, which has these numbers; or the checkpoint was refused
-abbrev pub IsSynced : Files → Result Synced Error → Type 0
-IsSynced files (Ok synced) =
-    (image : Image) × IsLawful files.geometry image
-    × (synced.version ≡ image.version) × (synced.total ≡ image.total) × (synced.free ≡ free_count files.geometry image)
-IsSynced files (Err error) = error ≢ NoFile
-
--- a reader of a file as it is now was taken, with the next number, and the segment of each block of the file is pinned; or not
-abbrev pub IsTaken : Files → ℕ → Result ℕ Error → Files → Type 0
-IsTaken old number (Ok reader) new =
-    HasFile old number × (reader ≡ length old.readers + 1)
-    × ((shown : SnapshotOf) × (shown.file ≡ file_at old number) × IsPinned shown × (new ≡ with_reader old shown))
-IsTaken old number (Err error) new = IsRefused old number error × (new ≡ old)
-
--- a reader was closed, or not: NoFile where no such reader is open, and there alone
-abbrev pub IsClosed : Files → ℕ → Result (Unit {0}) Error → Files → Type 0
-IsClosed old number (Ok done) new = HasReader old number × (new ≡ without_reader old number)
-IsClosed old number (Err error) new =
-    ((HasReader old number × (error ≡ NoMemory)) ⊎ ((¬ (HasReader old number)) × (error ≡ NoFile))) × (new ≡ old)
-
--- what a reader shows was told, or that no such reader is open
-abbrev pub IsLooked : Files → ℕ → List ℕ → Type 0
-IsLooked files number line =
-    (HasReader files number × (line ≡ look_line files.geometry.shape number (shown_by (reader_at files number))))
-    ⊎ ((¬ (HasReader files number)) × (line ≡ refusal_line NoFile))
-
--- work was done or refused, and wrote its line
-abbrev pub WorkWrites : Work → Files → Files → List ℕ → Type 0
-WorkWrites (Write file index byte) old new line =
-    (done : Result (Unit {0}) Error) × IsWritten old file index byte done new × (line ≡ done_line done)
-WorkWrites (Fill file first last byte) old new line =
-    (done : Result (Unit {0}) Error) × IsFilled old file first last byte done new × (line ≡ done_line done)
-WorkWrites (Read file index) old new line =
-    (found : Result (Option Content) Error) × IsFound old file index found × (new ≡ old) × (line ≡ read_line file index found)
-WorkWrites (Cut file length) old new line =
-    (done : Result (Unit {0}) Error) × IsCut old file length done new × (line ≡ done_line done)
-WorkWrites (Clean cleaning) old new line =
-    (cleaned : Result Cleaned Error) × IsTidied old cleaning cleaned × (new ≡ old) × (line ≡ cleaned_line cleaned)
-WorkWrites (Look reader) old new line = IsLooked old reader line × (new ≡ old)
-WorkWrites Sync old new line =
-    (synced : Result Synced Error) × IsSynced old synced × (new ≡ old) × (line ≡ synced_line synced)
+-- the volume was not mounted again, since readers are open, and it is told how many
+abbrev pub IsHeld : Files → Files → List ℕ → Type 0
+IsHeld old new line =
+    (0 < open_count old.readers) × (new ≡ old) × (line ≡ refusal_line (SeatsOut (min (open_count old.readers) (2 ^ 32 - 1))))
 
 -- a command was done or refused, and wrote its line
 abbrev pub CommandWrites : Command → Files → Files → List ℕ → Type 0
@@ -164,13 +70,13 @@ CommandWrites (Snap file) old new line =
     (taken : Result ℕ Error) × IsTaken old file taken new × (line ≡ taken_line taken)
 CommandWrites (Done reader) old new line =
     (done : Result (Unit {0}) Error) × IsClosed old reader done new × (line ≡ done_line done)
-CommandWrites (Fail failure) old new line = ⊥
-CommandWrites Remount old new line = ⊥
+CommandWrites (Fail failure) old new line = (new ≡ old) × (line ≡ [])
+CommandWrites Remount old new line = IsRemounted old new line ⊎ IsHeld old new line
 
--- a step is one command
+-- a step is one command, or a part of workers that run side by side
 abbrev pub StepWrites : Step → Files → Files → List ℕ → Type 0
 StepWrites (CommandStep line command) old new text = CommandWrites command old new text
-StepWrites (Part line workers) old new text = ⊥
+StepWrites (Part line workers) old new text = PartWrites 0 workers.items old new text
 
 -- the steps in order, each on what the one before it left
 abbrev pub StepsWrite : List Step → Files → Files → List ℕ → Type 0
@@ -179,20 +85,40 @@ StepsWrite (step ∷ steps) old new text =
     (middle : Files) × (line : List ℕ) × (lines : List ℕ)
     × StepWrites step old middle line × StepsWrite steps middle new lines × (text ≡ line ++ lines)
 
--- a line like this was written, and nothing else
-pub record Wrote (IsLine : List ℕ → Type 0) (old new : Option (List ℕ)) : Type 0 where
-  pub line : List ℕ
-  pub is_line : IsLine line
-  pub told : Appends old new line
-
 -- the steps were run on a volume, which is then this one, and what they wrote stands behind a first text
 pub record WroteSteps (steps : List Step) (begun now : Files) (first : List ℕ) (old new : Option (List ℕ)) : Type 0 where
   pub lines : List ℕ
   pub run : StepsWrite steps begun now lines
   pub told : Appends old new (first ++ lines)
 
-abbrev pub format_line : List ℕ
-format_line = codes "format ok" ++ newline
+-- whether a step mounts the volume again
+abbrev pub is_remount : Step → Bool
+is_remount (CommandStep line Remount) = true
+is_remount other = false
+
+-- so many of the steps were run: all, or the next one mounts the volume again, and no reader is open
+abbrev pub IsHalted : List Step → ℕ → List (Option SnapshotOf) → Type 0
+IsHalted steps run readers =
+    (run ≡ length steps)
+    ⊎ ((step : Step) × (slice_get steps run ≡ Some step) × (is_remount step ≡ true) × (open_count readers ≡ 0))
+
+-- how the first volume of a script comes to be
+abbrev pub first_opening : Opening
+first_opening = record { mounted = None; carried = record { time = 0; readers = 0 } }
+
+-- Steps were run on a volume that was opened so, with these passes, up to where they halted. At the end it has these others, and
+-- this is carried on.
+pub record RanSome (steps : List Step) (geometry : Geometry) (passes : List Pass) (opening : Opening) (ended : List Pass) (run : ℕ) (carried : Carried) (old new : Option (List ℕ)) : Type 0 where
+  pub begun : Files
+  pub end : Files
+  pub opened : IsOpened geometry passes opening.carried.time opening.carried.readers begun
+  pub ran : WroteSteps (take run steps) begun end (opening_line opening.mounted) old new
+  pub placed : ArePlaced end
+  pub numbers : end.geometry ≡ geometry
+  pub passes_are : ended ≡ passes_among end.passes
+  pub time_is : end.time ≡ carried.time
+  pub readers_are : length end.readers ≡ carried.readers
+  pub halted : IsHalted steps run end.readers
 
 -- The end of a script whose volume was closed: a lawful image, whose files over some blocks are exactly those that the passes
 -- showed, in the order of their numbers; the line of each, and the image's total.
@@ -211,8 +137,8 @@ pub record EndsUnsynced (text : List ℕ) : Type 0 where
   pub lawful : IsLawful geometry image
   pub text_is : text ≡ unsynced_line ++ image_lines geometry image blocks
 
--- The whole run of a script on a volume: that it was made, the line of each step, and what its end tells of the files as they
--- were then.
+-- The whole run of a script, which begins with a volume: that it was made, the line of each step, and what its end tells of the
+-- files as they were then.
 pub record WroteRun (steps : List Step) (begun : Files) (old new : Option (List ℕ)) : Type 0 where
   pub end : Files
   pub lines : List ℕ
@@ -234,4 +160,5 @@ WroteSomeScript old new = (steps : List Step) × WroteScript steps old new
 abbrev pub names_line : Stop → Bool
 names_line (BadLine line) = true
 names_line (Refused error) = false
+names_line NoMemory = false
 names_line Failed = false

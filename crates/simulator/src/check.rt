@@ -2,13 +2,13 @@
 ghost use Rattle.std.specs.Prelude.{◌≡◌, ◌≢◌, ◌⊎◌, Some, OnOk, IfOk, IfSome};
 ghost use Rattle.std.specs.Io.KnownBytes.{Appends};
 ghost use Rattle.simulator.specs.Checking.{TellsImage, TellsRefusal};
-ghost use Rattle.simulator.specs.Lines.{name_of, numbers_line, refusal_line};
+ghost use Rattle.session.specs.Lines.{name_of, numbers_line, refusal_line};
 
-use crate::lines::{tell_numbers, tell_refusal};
 use crate::reading::read_all;
 use crate::status::{DONE, REFUSED};
 use crate::stop::tell_failure;
 use image::Image;
+use session::lines::{tell_numbers, tell_refusal};
 use std::alloc::Global;
 use std::io;
 use std::io::{Read, Write};

@@ -1,22 +1,93 @@
 //! How a script leaves its volume.
-ghost use Rattle.std.specs.Prelude.{◌≡◌, false, IfErr, IfOk, OnOk};
+ghost use Rattle.std.specs.Prelude.{◌≡◌, ◌<◌, ◌≤◌, false, length, IfErr, IfOk, OnOk};
 ghost use Rattle.std.specs.Io.KnownBytes.{Appends};
 ghost use Rattle.device.specs.Parts.{HasSize};
-ghost use Rattle.simulator.specs.Ending.{WasLeft};
-ghost use Rattle.simulator.specs.Lines.{unsynced_line};
+ghost use Rattle.session.specs.Files.{AreInOrder};
+ghost use Rattle.session.specs.Lines.{unsynced_line};
+ghost use Rattle.simulator.specs.Ending.{LeftSome, WasLeft};
 ghost use Rattle.simulator.specs.Run.{names_line};
 
-use crate::lines::tell_unsynced;
+use crate::disk::Faults;
+use crate::steps::{Carried, Halt, Opening, run_session};
 use crate::stop::Stop;
 use device::{Block, Meta, Parts};
-use names::VolumeName;
+use names::{BooksName, GeometryName, Named, PoolName, TurnName, VolumeName, WordsName};
 use opening::{CloseFault, Closed, FilePass, Seat, Volume};
+use script::Step;
+use session::lines::tell_unsynced;
+use std::alloc::Global;
 use std::io::Write;
 use std::sync::Wait;
+use std::thread::Threads;
 
-/// Closes a volume, and answers the parts of its device. A wounded one cannot be closed: it is left as it is, which is told.
-/// Where the close is refused, the volume is given up.
-pub fn leave_volume<V: VolumeName, M: Meta + Drop, B: Block + Drop, R: Wait, W: Write>(
+/// A device whose volume was left: how many steps were run, and what the script carries on. All were run, or the next one
+/// mounts the device again.
+pub struct Left<M: Meta, B: Block> {
+    pub parts: Parts<M, B>,
+    pub run: usize,
+    pub carried: Carried,
+}
+
+/// Runs the steps on a volume that was just opened, with its seats and passes, and leaves it: by a close where all were run, and
+/// else as it is.
+pub fn run_volume<
+    L: BooksName + Send + Sync,
+    W: WordsName + Send + Sync,
+    P: PoolName + Send + Sync,
+    T: TurnName + Send + Sync,
+    N: GeometryName + Send + Sync,
+    M: Meta + Drop + Send,
+    B: Block + Drop + Send,
+    R: Threads + Wait + Sync,
+    O: Write,
+>(
+    rt: &R,
+    alloc: Global,
+    volume: Volume<Named<L, W, P, T, N>, M, B>,
+    seats: Vec<Seat<Named<L, W, P, T, N>>>,
+    passes: Vec<FilePass<Named<L, W, P, T, N>>>,
+    opening: Opening,
+    steps: &[Step],
+    faults: &Faults,
+    out: &mut O,
+) -> Result<Left<M, B>, Stop>
+where
+    B::Lease: Send,
+    requires in_order { AreInOrder N.geometry.files passes.items }
+    ensures done { IfOk result (λ left. LeftSome M.seen B.address_of B.content_of steps.now N.geometry passes.items opening left (O.contents out.old) (O.contents out.new)) }
+    ensures err { IfErr result (λ stop. names_line stop ≡ false) }
+{
+    match run_session(
+        rt, alloc, &volume, seats, passes, opening, steps, faults, out,
+    ) {
+        Ok(halt) => {
+            let Halt {
+                seats,
+                passes,
+                run,
+                carried,
+            } = halt;
+            let parts = if run == steps.len() {
+                leave_volume(rt, volume, seats, passes, out)?
+            } else {
+                abandon_volume(rt, volume, seats, passes)?
+            };
+            Ok(Left {
+                parts,
+                run,
+                carried,
+            })
+        }
+        Err(stop) => {
+            let _parts = volume.discard(rt);
+            Err(stop)
+        }
+    }
+}
+
+// Closes a volume, and answers the parts of its device. A wounded one cannot be closed: it is left as it is, which is told.
+// Where the close is refused, the volume is given up.
+fn leave_volume<V: VolumeName, M: Meta + Drop, B: Block + Drop, R: Wait, W: Write>(
     rt: &R,
     volume: Volume<V, M, B>,
     seats: Vec<Seat<V>>,
@@ -27,7 +98,10 @@ pub fn leave_volume<V: VolumeName, M: Meta + Drop, B: Block + Drop, R: Wait, W: 
     ensures err { IfErr result (λ stop. names_line stop ≡ false) }
 {
     if volume.is_wounded() {
-        return abandon_volume(rt, volume, seats, passes, out);
+        let told = tell_unsynced(out);
+        let parts = abandon_volume(rt, volume, seats, passes)?;
+        told?;
+        return Ok(parts);
     }
     match volume.close(rt, seats, passes) {
         Ok(closed) => {
@@ -38,24 +112,18 @@ pub fn leave_volume<V: VolumeName, M: Meta + Drop, B: Block + Drop, R: Wait, W: 
     }
 }
 
-// Leaves a volume as it is, and tells that.
-fn abandon_volume<V: VolumeName, M: Meta + Drop, B: Block + Drop, R: Wait, W: Write>(
+// Leaves a volume as it is.
+fn abandon_volume<V: VolumeName, M: Meta + Drop, B: Block + Drop, R: Wait>(
     rt: &R,
     volume: Volume<V, M, B>,
     seats: Vec<Seat<V>>,
     passes: Vec<FilePass<V>>,
-    out: &mut W,
 ) -> Result<Parts<M, B>, Stop>
     ensures size { IfOk result (λ parts. HasSize M.seen B.address_of B.content_of V.Numbers.geometry parts) }
-    ensures told { OnOk result (Appends (W.contents out.old) (W.contents out.new) unsynced_line) }
     ensures err { IfErr result (λ stop. names_line stop ≡ false) }
 {
-    let told = tell_unsynced(out);
     match volume.abandon(rt, seats, passes) {
-        Ok(parts) => {
-            told?;
-            Ok(parts)
-        }
+        Ok(parts) => Ok(parts),
         Err(fault) => Err(give_up(rt, fault)),
     }
 }

@@ -2,19 +2,18 @@
 #![tactic(auto)]
 
 mod check;
-mod content;
+mod disk;
+mod formatting;
 mod leaving;
-mod lines;
-mod naming;
 mod reading;
 mod remounting;
 mod run;
-mod session;
 pub mod status;
+mod steps;
 mod stop;
-mod synced;
+mod telling;
 
 pub use check::check_image;
-pub use remounting::tell_parts;
 pub use run::run_script;
-pub use stop::tell_failure;
+pub use stop::{tell_failure, tell_no_memory};
+pub use telling::tell_parts;

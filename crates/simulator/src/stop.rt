@@ -1,12 +1,13 @@
 //! Why a run ends before all was done.
-ghost use Rattle.std.specs.Prelude.{◌≡◌, ◌⊎◌, true};
-ghost use Rattle.simulator.specs.declared.stop.Stop.TheVariants.{Failed, Refused};
+ghost use Rattle.std.specs.Prelude.{◌≡◌, ◌⊎◌, true, false};
+ghost use Rattle.simulator.specs.declared.stop.Stop.TheVariants.{NoMemory, Refused};
 ghost use Rattle.simulator.specs.Run.{names_line};
 
-use crate::lines::tell_refusal;
 use crate::status::{BAD_LINE, FAILED, REFUSED};
 use geometry::Error;
 use script::ScriptError;
+use session::lines::tell_refusal;
+use std::alloc::AllocError;
 use std::io;
 use std::io::Write;
 
@@ -17,7 +18,9 @@ pub enum Stop {
     Refused(Error),
     /// The line of this number, counted from 1, is not of the grammar.
     BadLine(u64),
-    /// A stream could not be read or written, or the program found no memory.
+    /// The program found no memory, outside of a call of the volume.
+    NoMemory,
+    /// A stream could not be read or written.
     Failed,
 }
 
@@ -38,6 +41,7 @@ impl Stop {
                 let _ = writeln!(errors, "line {line}: bad command");
                 BAD_LINE
             }
+            Stop::NoMemory => tell_no_memory(errors),
             Stop::Failed => tell_failure(errors),
         }
     }
@@ -52,11 +56,31 @@ pub fn tell_failure<E: Write>(errors: &mut E) -> u8
     FAILED
 }
 
-impl From<io::Error> for Stop {
-    ghost from_gives = { λ _ stop. stop ≡ Failed };
+/// Writes that no memory was found. Answers the exit status.
+pub fn tell_no_memory<E: Write>(errors: &mut E) -> u8
+    ensures { result ≡ 4 }
+{
+    // What cannot be said there either is left unsaid.
+    let _ = writeln!(errors, "out of memory");
+    FAILED
+}
 
-    fn from(_error: io::Error) -> Stop {
-        Stop::Failed
+impl From<io::Error> for Stop {
+    ghost from_gives = { λ _ stop. names_line stop ≡ false };
+
+    fn from(error: io::Error) -> Stop {
+        match error.kind() {
+            io::ErrorKind::OutOfMemory => Stop::NoMemory,
+            _ => Stop::Failed,
+        }
+    }
+}
+
+impl From<AllocError> for Stop {
+    ghost from_gives = { λ _ stop. stop ≡ NoMemory };
+
+    fn from(_error: AllocError) -> Stop {
+        Stop::NoMemory
     }
 }
 
@@ -72,7 +96,7 @@ impl From<ScriptError> for Stop {
     fn from(error: ScriptError) -> Stop {
         match error {
             ScriptError::BadCommand { line } => Stop::BadLine(line),
-            ScriptError::NoMemory => Stop::Failed,
+            ScriptError::NoMemory => Stop::NoMemory,
         }
     }
 }

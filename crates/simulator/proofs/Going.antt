@@ -1,0 +1,248 @@
+-- A script over the volumes that it mounts, one after the other.
+use Rattle.std.proofs.Common.{◌≡◌, ◌≢◌, ◌⊎◌, ◌∙◌, ℕ, suc, zero, Bool, true, false, List, [], ◌∷◌, ◌++◌, ap, sym, subst, refl, arith, inl, inr, append_assoc, append-nil, take, drop, length, map, replicate, Option, Some, None, Result, Ok, Err, IfOk, ◌+◌, ◌-◌, ◌<◌, ◌≤◌}
+use Rattle.std.specs.Prelude.{slice_get}
+use Rattle.std.specs.Io.KnownBytes.{Appends}
+use Rattle.std.proofs.KnownBytes.{Appends-trans}
+use Rattle.std.proofs.lemmas.Bool.{false≢true}
+use Rattle.std.proofs.lemmas.List.{length-drop, take_all}
+use Rattle.device.specs.declared.parts.Parts.{Parts}
+use Rattle.device.specs.Parts.{HasSize, IsBlockRun}
+use Rattle.file_cells.specs.Pass.{Pass}
+use Rattle.geometry.specs.File.{Block, File}
+use Rattle.geometry.specs.Shape.{block_bytes}
+use Rattle.geometry.specs.declared.geometry.Geometry.{Geometry}
+use Rattle.image.specs.Files.{files as files_of}
+use Rattle.image.specs.Image.{Image}
+use Rattle.image.specs.Rules.{IsLawful}
+use Rattle.readers.specs.Reader.{SnapshotOf}
+use Rattle.script.specs.declared.command.Command.TheVariants.{Work as WorkOf, Now, Create, Delete, Status as TellStatus, Snap, Done, Fail, Remount}
+use Rattle.script.specs.declared.script.Step.{Step}
+use Rattle.script.specs.declared.script.Step.TheVariants.{Command as CommandStep, Part}
+use Rattle.session.specs.Files.{ArePlaced, Files, IsOpened, no_files, open_count, passes_among, shown_files}
+use Rattle.session.proofs.Placing.{nothing_there}
+use Rattle.simulator.specs.Ending.{LeftScript, LeftSome, WasLeft, WentOn, WentOnWith}
+use Rattle.simulator.specs.Run.{IsHalted, IsRemounted, RanSome, StepWrites, StepsWrite, WroteSteps, first_opening, format_line, is_remount, mount_line, opening_line}
+use Rattle.simulator.specs.declared.leaving.Left.{Left}
+use Rattle.simulator.specs.declared.steps.Carried.{Carried}
+use Rattle.simulator.specs.declared.steps.Opening.{Opening}
+use Rattle.simulator.proofs.Runs.{more, one_more}
+
+abbrev pair : Pass → ℕ × File
+pair pass = (pass.number, pass.file)
+
+-- a volume without passes has no file
+pub opened_none : (geometry : Geometry) (files : Files) → IsOpened geometry [] 0 0 files → files ≡ no_files geometry
+opened_none geometry files opened =
+    let none : files.passes ≡ replicate geometry.files None =
+    nothing_there files.passes (ap length opened.passes_are) ∙ ap (λ n. replicate n None) (opened.placed.count ∙ ap (λ (g : Geometry). g.files) opened.numbers) in
+    ap (λ g. record files { geometry = g }) opened.numbers
+    ∙ ap (λ t. record files { geometry = geometry; time = t }) opened.time_is
+    ∙ ap (λ p. record files { geometry = geometry; time = 0; passes = p }) none
+    ∙ ap (λ r. record files { geometry = geometry; time = 0; passes = replicate geometry.files None; readers = r }) opened.closed
+
+-- a step that mounts the volume again does so
+pub remount_step : (step : Step) (old new : Files) (line : List ℕ) → is_remount step ≡ true → IsRemounted old new line → StepWrites step old new line
+remount_step (CommandStep place (WorkOf work)) old new line is remounted = absurd (false≢true is)
+remount_step (CommandStep place (Now time)) old new line is remounted = absurd (false≢true is)
+remount_step (CommandStep place (Create kind)) old new line is remounted = absurd (false≢true is)
+remount_step (CommandStep place (Delete file)) old new line is remounted = absurd (false≢true is)
+remount_step (CommandStep place TellStatus) old new line is remounted = absurd (false≢true is)
+remount_step (CommandStep place (Snap file)) old new line is remounted = absurd (false≢true is)
+remount_step (CommandStep place (Done reader)) old new line is remounted = absurd (false≢true is)
+remount_step (CommandStep place (Fail failure)) old new line is remounted = absurd (false≢true is)
+remount_step (CommandStep place Remount) old new line is remounted = inl remounted
+remount_step (Part place workers) old new line is remounted = absurd (false≢true is)
+
+split_at : {A : Type 0} (xs : List A) (k : ℕ) (x : A) → slice_get xs k ≡ Some x → take k xs ++ x ∷ drop (suc k) xs ≡ xs
+split_at [] k x is = absurd (let no = is in cc)
+split_at (y ∷ ys) zero x is = ap (λ z. z ∷ ys) (sym (let same = is in cc))
+split_at (y ∷ ys) (suc k) x is = ap (λ zs. y ∷ zs) (split_at ys k x is)
+
+get_low : {A : Type 0} (xs : List A) (k : ℕ) (x : A) → slice_get xs k ≡ Some x → k < length xs
+get_low [] k x is = absurd (let no = is in cc)
+get_low (y ∷ ys) zero x is = omega arith
+get_low (y ∷ ys) (suc k) x is = omega (arith, get_low ys k x is)
+
+-- where not all steps were run, fewer were
+pub halted_low : (steps : List Step) (run : ℕ) (readers : List (Option SnapshotOf)) → IsHalted steps run readers → run ≢ length steps → run < length steps
+halted_low steps run readers (inl all) other = absurd (other all)
+halted_low steps run readers (inr (step, there, again, none)) other = get_low steps run step there
+
+module _ {M B L : Type 0} (seen : M → List ℕ) (address_of : B → ℕ) (content_of : B → List ℕ) where
+  -- How far a script came: so many steps are done, and of the rest some were run on a volume that was left.
+  pub record Gone (steps rest : List Step) (left : Left M B L) (old now : Option (List ℕ)) : Type 0 where
+    pub done : List Step
+    pub are : steps ≡ done ++ rest
+    pub first : Geometry
+    pub geometry : Geometry
+    pub end : Files
+    pub ended : List Pass
+    pub middle : Option (List ℕ)
+    pub ran : WroteSteps (done ++ take left.run rest) (no_files first) end format_line old middle
+    pub placed : ArePlaced end
+    pub numbers : end.geometry ≡ geometry
+    pub passes_are : ended ≡ passes_among end.passes
+    pub time_is : end.time ≡ left.carried.time
+    pub readers_are : length end.readers ≡ left.carried.readers
+    pub halted : IsHalted rest left.run end.readers
+    pub left_so : ((left.run ≡ length rest) × WasLeft seen address_of content_of geometry ended left.parts middle now)
+        ⊎ ((left.run < length rest) × HasSize seen address_of content_of geometry left.parts × (now ≡ middle))
+
+  -- on the first volume
+  pub begun : (steps : List Step) (geometry : Geometry) (left : Left M B L) (old now : Option (List ℕ))
+      → LeftSome seen address_of content_of steps geometry [] first_opening left old now → Gone steps steps left old now
+  begun steps geometry left old now some = record {
+    done = [];
+    are = refl;
+    first = geometry;
+    geometry = geometry;
+    end = some.ran.end;
+    ended = some.ended;
+    middle = some.middle;
+    ran = subst (λ files. WroteSteps (take left.run steps) files some.ran.end format_line old some.middle) (opened_none geometry some.ran.begun some.ran.opened) some.ran.ran;
+    placed = some.ran.placed;
+    numbers = some.ran.numbers;
+    passes_are = some.ran.passes_are;
+    time_is = some.ran.time_is;
+    readers_are = some.ran.readers_are;
+    halted = some.ran.halted;
+    left_so = some.left_so;
+  }
+
+  -- the blocks of a device that is to be mounted again are a run
+  pub run_of_gone : (steps rest : List Step) (left : Left M B L) (old now : Option (List ℕ)) → left.run < length rest → Gone steps rest left old now
+      → (bytes : ℕ) × IsBlockRun address_of content_of bytes 1 left.parts.blocks.items
+  run_of_gone steps rest left old now low gone = by_left gone.left_so
+    where
+      by_left : ((left.run ≡ length rest) × WasLeft seen address_of content_of gone.geometry gone.ended left.parts gone.middle now)
+          ⊎ ((left.run < length rest) × HasSize seen address_of content_of gone.geometry left.parts × (now ≡ gone.middle))
+          → (bytes : ℕ) × IsBlockRun address_of content_of bytes 1 left.parts.blocks.items
+      by_left (inl (all, was)) = absurd (omega (arith, low, all))
+      by_left (inr (some, size, same)) = (block_bytes gone.geometry.shape, size.run)
+
+  module _ (steps rest : List Step) (left new : Left M B L) (old now last : Option (List ℕ)) (low : left.run < length rest) (gone : Gone steps rest left old now)
+      (went : WentOn seen address_of content_of (drop (left.run + 1) rest) left.carried new now last) where
+    abbrev some : LeftSome seen address_of content_of (drop (left.run + 1) rest) went.geometry went.on.passes (record { mounted = Some went.image.version; carried = left.carried }) new now last
+    some = went.on.some
+
+    abbrev again : Files
+    again = some.ran.begun
+
+    quiet : now ≡ gone.middle
+    quiet = by_left gone.left_so
+      where
+        by_left : ((left.run ≡ length rest) × WasLeft seen address_of content_of gone.geometry gone.ended left.parts gone.middle now)
+            ⊎ ((left.run < length rest) × HasSize seen address_of content_of gone.geometry left.parts × (now ≡ gone.middle)) → now ≡ gone.middle
+        by_left (inl (all, was)) = absurd (omega (arith, low, all))
+        by_left (inr (less, size, same)) = same
+
+    halt : (step : Step) × (slice_get rest left.run ≡ Some step) × (is_remount step ≡ true) × (open_count gone.end.readers ≡ 0)
+    halt = by_halt gone.halted
+      where
+        by_halt : IsHalted rest left.run gone.end.readers → (step : Step) × (slice_get rest left.run ≡ Some step) × (is_remount step ≡ true) × (open_count gone.end.readers ≡ 0)
+        by_halt (inl all) = absurd (omega (arith, low, all))
+        by_halt (inr one) = one
+
+    abbrev line : List ℕ
+    line = mount_line went.image.version
+
+    remounted : IsRemounted gone.end again line
+    remounted = record {
+      image = went.image;
+      blocks = went.blocks;
+      none_open = halt.3;
+      lawful = subst (λ g. IsLawful g went.image) (sym some.ran.opened.numbers) went.lawful;
+      shown = ap (map pair) some.ran.opened.passes_are ∙ went.on.shown ∙ ap (λ g. files_of g went.image went.blocks) (sym some.ran.opened.numbers);
+      placed = some.ran.opened.placed;
+      time_is = some.ran.opened.time_is ∙ sym gone.time_is;
+      readers_are = some.ran.opened.closed ∙ ap (λ n. replicate n None) (sym gone.readers_are) ∙ sym (nothing_there gone.end.readers halt.3);
+      told = refl;
+    }
+
+    next : suc left.run ≡ left.run + 1
+    next = omega arith
+
+    abbrev behind : List Step
+    behind = gone.done ++ (take left.run rest ++ (halt.0 ∷ []))
+
+    -- on the volume that was mounted again
+    pub went_on : Gone steps (drop (left.run + 1) rest) new old last
+    went_on = record {
+      done = behind;
+      are = gone.are
+          ∙ ap (λ xs. gone.done ++ xs) (sym (split_at rest left.run halt.0 halt.1) ∙ ap (λ n. take left.run rest ++ halt.0 ∷ drop n rest) next ∙ sym (append_assoc (take left.run rest) (halt.0 ∷ []) (drop (left.run + 1) rest)))
+          ∙ sym (append_assoc gone.done (take left.run rest ++ halt.0 ∷ []) (drop (left.run + 1) rest));
+      first = gone.first;
+      geometry = went.geometry;
+      end = some.ran.end;
+      ended = some.ended;
+      middle = some.middle;
+      ran = record {
+        lines = (gone.ran.lines ++ line) ++ some.ran.ran.lines;
+        run = more behind (take new.run (drop (left.run + 1) rest)) (no_files gone.first) again some.ran.end (gone.ran.lines ++ line) some.ran.ran.lines
+            (subst (λ xs. StepsWrite xs (no_files gone.first) again (gone.ran.lines ++ line)) (append_assoc gone.done (take left.run rest) (halt.0 ∷ []))
+            (one_more (gone.done ++ take left.run rest) halt.0 (no_files gone.first) gone.end again gone.ran.lines line gone.ran.run (remount_step halt.0 gone.end again line halt.2 remounted)))
+            some.ran.ran.run;
+        told = subst (Appends old some.middle)
+            (append_assoc format_line gone.ran.lines (line ++ some.ran.ran.lines) ∙ ap (λ xs. format_line ++ xs) (sym (append_assoc gone.ran.lines line some.ran.ran.lines)))
+            (Appends-trans old gone.middle some.middle (format_line ++ gone.ran.lines) (line ++ some.ran.ran.lines) gone.ran.told
+            (subst (λ c. Appends c some.middle (line ++ some.ran.ran.lines)) quiet some.ran.ran.told));
+      };
+      placed = some.ran.placed;
+      numbers = some.ran.numbers;
+      passes_are = some.ran.passes_are;
+      time_is = some.ran.time_is;
+      readers_are = some.ran.readers_are;
+      halted = some.ran.halted;
+      left_so = some.left_so;
+    }
+
+  -- all steps were run, and the last volume was left
+  pub ended : (steps rest : List Step) (left : Left M B L) (old now : Option (List ℕ)) → length rest ≤ left.run → Gone steps rest left old now
+      → LeftScript seen address_of content_of steps left.parts old now
+  ended steps rest left old now past gone = by_left gone.left_so
+    where
+      by_left : ((left.run ≡ length rest) × WasLeft seen address_of content_of gone.geometry gone.ended left.parts gone.middle now)
+          ⊎ ((left.run < length rest) × HasSize seen address_of content_of gone.geometry left.parts × (now ≡ gone.middle)) → LeftScript seen address_of content_of steps left.parts old now
+      by_left (inl (all, was)) = record {
+        geometry = gone.geometry;
+        passes = gone.ended;
+        middle = gone.middle;
+        ran = record {
+          first = gone.first;
+          end = gone.end;
+          ran = subst (λ xs. WroteSteps xs (no_files gone.first) gone.end format_line old gone.middle) (ap (λ xs. gone.done ++ xs) (take_all left.run rest past) ∙ sym gone.are) gone.ran;
+          placed = gone.placed;
+          numbers = gone.numbers;
+          passes_are = gone.passes_are;
+        };
+        left = was;
+      }
+      by_left (inr (less, size, same)) = absurd (omega (arith, past, less))
+
+-- the rest of a list behind a place, as a slice of it is
+pub rest_is : {A : Type 0} (xs : List A) (k : ℕ) → take (length xs - k) (drop k xs) ≡ drop k xs
+rest_is xs k = take_all (length xs - k) (drop k xs) (omega (arith, length-drop k xs))
+
+-- what is known of a volume with its image, of a lawful one
+pub went_with : {M B L E : Type 0} (seen : M → List ℕ) (address_of : B → ℕ) (content_of : B → List ℕ) (geometry : Geometry) (image : Image) (blocks : ℕ → Block) (steps : List Step) (carried : Carried)
+    (result : Result (Left M B L) E) (old new : Option (List ℕ)) → IsLawful geometry image
+    → IfOk result (λ left. WentOnWith seen address_of content_of geometry image blocks steps carried left old new)
+    → IfOk result (λ left. WentOn seen address_of content_of steps carried left old new)
+went_with seen address_of content_of geometry image blocks steps carried (Ok left) old new lawful on = record { geometry = geometry; image = image; blocks = blocks; lawful = lawful; on = on }
+went_with seen address_of content_of geometry image blocks steps carried (Err e) old new lawful on = tt
+
+-- a volume of the numbers that its name tells
+pub went_so : {M B L E : Type 0} (seen : M → List ℕ) (address_of : B → ℕ) (content_of : B → List ℕ) (geometry named : Geometry) (image : Image) (blocks : ℕ → Block) (steps : List Step) (carried : Carried)
+    (passes : List Pass) (opening : Opening) (result : Result (Left M B L) E) (old new : Option (List ℕ)) → geometry ≡ named
+    → map pair passes ≡ files_of geometry image blocks
+    → opening ≡ record { mounted = Some image.version; carried = carried }
+    → IfOk result (λ left. LeftSome seen address_of content_of steps named passes opening left old new)
+    → IfOk result (λ left. WentOnWith seen address_of content_of geometry image blocks steps carried left old new)
+went_so seen address_of content_of geometry named image blocks steps carried passes opening (Ok left) old new same shown opened ran = record {
+  passes = passes;
+  shown = shown;
+  some = subst (λ o. LeftSome seen address_of content_of steps geometry passes o left old new) opened
+      (subst (λ n. LeftSome seen address_of content_of steps n passes opening left old new) (sym same) ran);
+}
+went_so seen address_of content_of geometry named image blocks steps carried passes opening (Err e) old new same shown opened ran = tt
