@@ -10,6 +10,7 @@ use std::alloc::{AllocError, Global};
 use std::process::Abort;
 use std::sync::Wait;
 use std::test::Fail;
+use std::thread::Threads;
 
 // So many bytes has the meta area of 32 tiny segments with 64 node numbers, and so many blocks of so many bytes stand behind it.
 const AREA: usize = 6_136;
@@ -43,7 +44,11 @@ fn blocks_of(alloc: Global, bytes: &[u8]) -> Result<Vec<MemBlock>, AllocError>
 }
 
 // What a script prints that is done, and what it puts aside.
-fn saved_by<R: Wait + Abort>(rt: &R, alloc: Global, text: &str) -> (Vec<u8>, Vec<u8>) {
+fn saved_by<R: Threads + Wait + Abort + Sync>(
+    rt: &R,
+    alloc: Global,
+    text: &str,
+) -> (Vec<u8>, Vec<u8>) {
     let mut out = Vec::new(alloc);
     let mut errors = Vec::new(alloc);
     let mut saved = Vec::new(alloc);

@@ -6,6 +6,7 @@ use std::alloc::Global;
 use std::process::Abort;
 use std::sync::Wait;
 use std::test::Fail;
+use std::thread::Threads;
 
 // What a script prints, what it says of errors, and its status.
 #[derive(Drop)]
@@ -15,7 +16,12 @@ struct Told {
     status: u8,
 }
 
-fn run<R: Wait>(rt: &R, alloc: Global, text: &str, saved: Option<&mut Vec<u8>>) -> Told {
+fn run<R: Threads + Wait + Sync>(
+    rt: &R,
+    alloc: Global,
+    text: &str,
+    saved: Option<&mut Vec<u8>>,
+) -> Told {
     let mut input = text.as_bytes();
     let mut out = Vec::new(alloc);
     let mut errors = Vec::new(alloc);
@@ -28,7 +34,12 @@ fn run<R: Wait>(rt: &R, alloc: Global, text: &str, saved: Option<&mut Vec<u8>>) 
 }
 
 // A script that is done prints these lines behind that of its format.
-fn prints<R: Wait + Abort>(rt: &R, alloc: Global, text: &str, lines: &str) -> Result<(), Fail> {
+pub(super) fn prints<R: Threads + Wait + Abort + Sync>(
+    rt: &R,
+    alloc: Global,
+    text: &str,
+    lines: &str,
+) -> Result<(), Fail> {
     let told = run(rt, alloc, text, None);
     let wanted = format!(in alloc; "format ok\n{lines}")?;
     assert_eq!(rt; told.out.as_slice(), wanted.as_bytes());
@@ -38,7 +49,12 @@ fn prints<R: Wait + Abort>(rt: &R, alloc: Global, text: &str, lines: &str) -> Re
 }
 
 // A script with a bad line names it, and prints nothing.
-fn names<R: Wait + Abort>(rt: &R, alloc: Global, text: &str, line: u64) -> Result<(), Fail> {
+fn names<R: Threads + Wait + Abort + Sync>(
+    rt: &R,
+    alloc: Global,
+    text: &str,
+    line: u64,
+) -> Result<(), Fail> {
     let told = run(rt, alloc, text, None);
     let wanted = format!(in alloc; "line {line}: bad command\n")?;
     assert_eq!(rt; told.out.as_slice(), b"".as_slice());
@@ -340,20 +356,14 @@ fn the_first_bad_line_is_named(rt: HostRuntime) -> Result<(), Fail> {
         "format TINY 16 1 4 32\n# a comment\ncreate files\nwrite\n",
         3,
     )?;
-    // What cannot be run yet is bad, and so is the grammar behind it.
+    // A part without its end is bad where it begins.
     names(
         &rt,
         rt.alloc(),
-        "format TINY 16 1 4 32\nremount\nwrite\n",
-        2,
-    )?;
-    names(
-        &rt,
-        rt.alloc(),
-        "format TINY 16 1 4 32\ncreate file\npar\nend\n",
+        "format TINY 16 1 4 32\ncreate file\npar\nworker\nsync\n",
         3,
     )?;
-    names(&rt, rt.alloc(), "format TINY 15 1 4 32\nremount\n", 2)
+    names(&rt, rt.alloc(), "format TINY 15 1 4 32\nremounts\n", 2)
 }
 
 #[test]
@@ -383,7 +393,7 @@ fn nothing_is_put_aside_where_nothing_ran(rt: HostRuntime) {
     let told = run(
         &rt,
         alloc,
-        "format TINY 16 1 4 32\nremount\n",
+        "format TINY 16 1 4 32\nremounts\n",
         Some(&mut saved),
     );
     assert_eq!(rt; told.status, BAD_LINE);
