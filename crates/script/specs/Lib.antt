@@ -1,4 +1,3 @@
 pub mod Numeral
 pub mod Grammar
 pub mod Call
-pub mod Allowed

@@ -1,17 +1,5 @@
 //! The commands of a script. Files are named by their inode numbers, and readers by the order in which they were taken.
-ghost use Rattle.std.specs.Prelude.{◌≡◌};
-ghost use Rattle.script.specs.Allowed.{is_of_files};
-
 use geometry::Kind;
-
-/// Which commands a script may have.
-#[derive(Clone, Copy, Debug, PartialEq, Eq)]
-pub enum Allowed {
-    /// All of the grammar.
-    Everything,
-    /// Those on one thread whose device works and is mounted once: all but `fail`, `remount` and parallel parts.
-    Files,
-}
 
 /// How a cleaner chooses its section (Rosenblum and Ousterhout 1991; Linux `filesystems/f2fs`, cleaning).
 #[derive(Clone, Copy, Debug, PartialEq, Eq)]
@@ -88,22 +76,4 @@ pub enum Command {
     Fail(Failure),
     /// Abandons the volume and mounts its device.
     Remount,
-}
-
-impl Command {
-    /// Whether it is of those on one thread whose device works and is mounted once.
-    pub fn is_of_files(self) -> bool
-        ensures { result ≡ is_of_files self }
-    {
-        match self {
-            Command::Work(_)
-            | Command::Now(_)
-            | Command::Create(_)
-            | Command::Delete { .. }
-            | Command::Status
-            | Command::Snap { .. }
-            | Command::Done { .. } => true,
-            Command::Fail(_) | Command::Remount => false,
-        }
-    }
 }

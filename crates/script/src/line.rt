@@ -3,13 +3,12 @@ ghost use Rattle.std.specs.Prelude.{◌≡◌, ◌≢◌, ◌≤◌, ◌^◌, �
 ghost use Rattle.geometry.specs.declared.kind.Kind.{Kind as KindValue};
 ghost use Rattle.geometry.specs.declared.shape.Shape.{Shape as ShapeValue};
 ghost use Rattle.script.specs.declared.command.Cleaning.{Cleaning as CleaningValue};
-ghost use Rattle.script.specs.Allowed.{may_say};
 ghost use Rattle.script.specs.Grammar.{cleaning_word, kind_word, shape_word};
 ghost use Rattle.script.specs.Numeral.{IsNumeral, decimal};
 
 use crate::number::{byte, number, small};
 use crate::script::Numbers;
-use crate::{Allowed, Cleaning, Command, Failure, Work};
+use crate::{Cleaning, Command, Failure, Work};
 use geometry::{Kind, Shape};
 
 /// What a line says, wherever it stands.
@@ -20,22 +19,6 @@ pub enum Statement {
     Par,
     Worker,
     End,
-}
-
-impl Statement {
-    /// Whether a script may say it.
-    pub fn is_of(self, allowed: Allowed) -> bool
-        ensures { result ≡ may_say allowed self }
-    {
-        match allowed {
-            Allowed::Everything => true,
-            Allowed::Files => match self {
-                Statement::Format(_) => true,
-                Statement::Command(command) => command.is_of_files(),
-                Statement::Par | Statement::Worker | Statement::End => false,
-            },
-        }
-    }
 }
 
 /// What the words of a line say. None where they are not of the grammar.

@@ -1,32 +1,25 @@
 //! A script that is being read, a line at a time.
-ghost use Rattle.std.specs.Prelude.{◌≡◌, true, IsSome, IfOk};
-ghost use Rattle.script.specs.Allowed.{MayHave, may_say};
-ghost use Rattle.script.specs.declared.line.Statement.TheVariants.{Command as CommandStatement};
+ghost use Rattle.std.specs.Prelude.{IsSome};
 
 use crate::line::{Statement, statement_of};
 use crate::part::Part;
-use crate::{Allowed, Command, Script, ScriptError, Step};
+use crate::{Command, Script, ScriptError, Step};
 use std::alloc::Global;
 
 #[derive(Drop)]
 pub struct Parser {
     alloc: Global,
-    allowed: Allowed,
     script: Script,
     // The part that has no end yet.
     part: Option<Part>,
     // The first bad line, where it stands in a part. It is the one to name only if the part has an end.
     bad: Option<u64>,
-    ghost may: { MayHave allowed script.steps.items },
 }
 
 impl Parser {
-    pub fn new(alloc: Global, allowed: Allowed) -> Parser
-        ensures { result.allowed ≡ allowed }
-    {
+    pub fn new(alloc: Global) -> Parser {
         Parser {
             alloc,
-            allowed,
             script: Script {
                 volume: None,
                 steps: Vec::new(alloc),
@@ -37,9 +30,7 @@ impl Parser {
     }
 
     /// Reads the next line.
-    pub fn take(&mut self, number: u64, line: &[u8]) -> Result<(), ScriptError>
-        ensures { self.new.allowed ≡ self.old.allowed }
-    {
+    pub fn take(&mut self, number: u64, line: &[u8]) -> Result<(), ScriptError> {
         if let Some(bad) = self.bad {
             return match line {
                 b"end" => Err(ScriptError::BadCommand { line: bad }),
@@ -59,12 +50,9 @@ impl Parser {
     }
 
     /// The script, when all lines are read.
-    pub fn finish(self) -> Result<Script, ScriptError>
-        ensures { IfOk result (λ script. MayHave self.allowed script.steps.items) }
-    {
+    pub fn finish(self) -> Result<Script, ScriptError> {
         let Parser {
             alloc: _,
-            allowed: _,
             script,
             part,
             bad: _,
@@ -75,20 +63,15 @@ impl Parser {
         }
     }
 
-    fn read(&mut self, number: u64, line: &[u8]) -> Result<(), ScriptError>
-        ensures { self.new.allowed ≡ self.old.allowed }
-    {
+    fn read(&mut self, number: u64, line: &[u8]) -> Result<(), ScriptError> {
         let words: Vec<&[u8]> = line.split(|byte| *byte == b' ').collect(self.alloc)?;
         match statement_of(&words) {
-            Some(statement) if statement.is_of(self.allowed) => self.add(number, statement),
-            _ => Err(ScriptError::BadCommand { line: number }),
+            Some(statement) => self.add(number, statement),
+            None => Err(ScriptError::BadCommand { line: number }),
         }
     }
 
-    fn add(&mut self, line: u64, statement: Statement) -> Result<(), ScriptError>
-        requires { may_say self.old.allowed statement ≡ true }
-        ensures { self.new.allowed ≡ self.old.allowed }
-    {
+    fn add(&mut self, line: u64, statement: Statement) -> Result<(), ScriptError> {
         let bad = Err(ScriptError::BadCommand { line });
         if self.script.volume.is_none() {
             return match statement {
@@ -125,8 +108,6 @@ impl Parser {
 
     fn add_command(&mut self, line: u64, command: Command) -> Result<(), ScriptError>
         requires begun { IsSome self.old.script.volume }
-        requires allowed { may_say self.old.allowed (CommandStatement command) ≡ true }
-        ensures { self.new.allowed ≡ self.old.allowed }
     {
         match (&mut self.part, command) {
             (Some(part), Command::Work(work)) => part.add(line, work),

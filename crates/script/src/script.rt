@@ -1,9 +1,8 @@
 //! What a script is.
-ghost use Rattle.std.specs.Prelude.{◌≡◌, None, vec_len, IfOk};
-ghost use Rattle.script.specs.Allowed.{MayHave};
+ghost use Rattle.std.specs.Prelude.{◌≡◌, None, vec_len};
 
 use crate::parser::Parser;
-use crate::{Allowed, Command, ScriptError, Work};
+use crate::{Command, ScriptError, Work};
 use geometry::Shape;
 use std::alloc::Global;
 
@@ -51,12 +50,10 @@ impl Script {
     /// The script that a text is. Lines end with a line feed, which the last one may lack; empty lines and those that
     /// begin with `#` count and say nothing; one space stands between two words.
     ///
-    /// Answers BadCommand with the first line that is not of the grammar or not allowed, which for a part without its end
-    /// is the line where it begins, and NoMemory where a growth was refused.
-    pub fn parse(alloc: Global, text: &[u8], allowed: Allowed) -> Result<Script, ScriptError>
-        ensures { IfOk result (λ script. MayHave allowed script.steps.items) }
-    {
-        let mut parser = Parser::new(alloc, allowed);
+    /// Answers BadCommand with the first line that is not of the grammar, which for a part without its end is the line where
+    /// it begins, and NoMemory where a growth was refused.
+    pub fn parse(alloc: Global, text: &[u8]) -> Result<Script, ScriptError> {
+        let mut parser = Parser::new(alloc);
         for (index, line) in text.split(|byte| *byte == b'\n').enumerate() {
             parser.take(index as u64 + 1, line)?;
         }

@@ -1,7 +1,7 @@
 //! The words that the program is called with.
 ghost use Rattle.std.specs.Prelude.{◌≡◌, [], map, IfOk, IfSome, OnOk};
-ghost use Rattle.clap.specs.Words.{app_of, fault_of, subcommand_of};
-ghost use Rattle.script.specs.Call.{AsksFor, program};
+ghost use Rattle.clap.specs.Words.{app_of, fault_of, subcommand_of, with_subcommand};
+ghost use Rattle.script.specs.Call.{AsksFor, bare, of_image, program, run};
 
 use clap::error::ErrorKind;
 use clap::{Arg, Command, Error};
@@ -19,6 +19,8 @@ pub enum Words<'a> {
     Run { save: Option<&'a str> },
     /// Checks an image file.
     Check { image: &'a str },
+    /// Tells the files of an image file.
+    Files { image: &'a str },
 }
 
 /// Why the words of a call are refused.
@@ -59,24 +61,45 @@ fn parsed<'a, S: AsStr>(alloc: Global, words: &'a [S]) -> Result<Option<Words<'a
             save: run.get_str("save"),
         }));
     }
-    match matches.subcommand_matches("check") {
-        Some(check) => match check.get_str("image") {
-            Some(image) => Ok(Some(Words::Check { image })),
-            None => Ok(None),
-        },
-        None => Ok(None),
+    if let Some(check) = matches.subcommand_matches("check")
+        && let Some(image) = check.get_str("image")
+    {
+        return Ok(Some(Words::Check { image }));
     }
+    if let Some(files) = matches.subcommand_matches("files")
+        && let Some(image) = files.get_str("image")
+    {
+        return Ok(Some(Words::Files { image }));
+    }
+    Ok(None)
 }
 
 fn program<'a>(alloc: Global) -> Result<Command<'a>, AllocError>
     ensures { IfOk result (λ command. app_of command ≡ program) }
 {
+    let command = with_run(alloc)?;
+    let command = with_image_command(alloc, command, "check")?;
+    with_image_command(alloc, command, "files")
+}
+
+fn with_run<'a>(alloc: Global) -> Result<Command<'a>, AllocError>
+    ensures { IfOk result (λ command. app_of command ≡ with_subcommand bare run.top) }
+{
     let save = Arg::new(alloc, "save").long("save");
     let run = Command::new(alloc, "run").arg(save)?;
-    let image = Arg::new(alloc, "image").required(true);
-    let check = Command::new(alloc, "check").arg(image)?;
     Command::new(alloc, "f2fsim")
         .subcommand_required(true)
-        .subcommand(run)?
-        .subcommand(check)
+        .subcommand(run)
+}
+
+// Adds a subcommand that works on an image file.
+fn with_image_command<'a>(
+    alloc: Global,
+    command: Command<'a>,
+    name: &'a str,
+) -> Result<Command<'a>, AllocError>
+    ensures { IfOk result (λ added. app_of added ≡ with_subcommand (app_of command.entry) (of_image name.now).top) }
+{
+    let image = Arg::new(alloc, "image").required(true);
+    command.subcommand(Command::new(alloc, name).arg(image)?)
 }

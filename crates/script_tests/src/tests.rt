@@ -1,8 +1,7 @@
 // Scripts that are read, scripts that are refused at a line, and the words of a call.
 use geometry::{Kind, Shape};
 use script::{
-    Allowed, Cleaning, Command, Failure, Numbers, Script, ScriptError, Step, Task, Words,
-    WordsError, Work,
+    Cleaning, Command, Failure, Numbers, Script, ScriptError, Step, Task, Words, WordsError, Work,
 };
 use std::alloc::Global;
 use std::test::Fail;
@@ -10,7 +9,7 @@ use std::test::Fail;
 // The one command of a script after its format.
 fn one(alloc: Global, line: &str) -> Result<Option<Command>, Fail> {
     let text = format!(in alloc; "format TINY 16 1 4 32\n{line}")?;
-    match Script::parse(alloc, text.as_bytes(), Allowed::Everything) {
+    match Script::parse(alloc, text.as_bytes()) {
         Ok(script) => Ok(match script.steps.as_slice() {
             [Step::Command { line: 2, command }] => Some(*command),
             _ => None,
@@ -21,7 +20,7 @@ fn one(alloc: Global, line: &str) -> Result<Option<Command>, Fail> {
 
 // The line at which a text is refused.
 fn bad(alloc: Global, text: &str) -> Option<u64> {
-    match Script::parse(alloc, text.as_bytes(), Allowed::Everything) {
+    match Script::parse(alloc, text.as_bytes()) {
         Err(ScriptError::BadCommand { line }) => Some(line),
         _ => None,
     }
@@ -166,11 +165,7 @@ fn lines_out_of_the_grammar(rt: HostRuntime) -> Result<(), Fail> {
 #[test]
 fn first_is_the_format(rt: HostRuntime) -> Result<(), Fail> {
     let alloc = rt.alloc();
-    let script = Script::parse(
-        alloc,
-        b"# \xff\n\nformat KERNEL 64 2 8 128\n#\n",
-        Allowed::Everything,
-    )?;
+    let script = Script::parse(alloc, b"# \xff\n\nformat KERNEL 64 2 8 128\n#\n")?;
     assert_eq!(rt;
         script.volume,
         Some(Numbers {
@@ -183,10 +178,7 @@ fn first_is_the_format(rt: HostRuntime) -> Result<(), Fail> {
     );
     assert!(rt; script.steps.is_empty());
     for text in ["", "\n\n", "# nothing"] {
-        assert_eq!(rt;
-            Script::parse(alloc, text.as_bytes(), Allowed::Everything)?.volume,
-            None
-        );
+        assert_eq!(rt; Script::parse(alloc, text.as_bytes())?.volume, None);
     }
     for text in [
         "sync",
@@ -206,7 +198,7 @@ fn first_is_the_format(rt: HostRuntime) -> Result<(), Fail> {
 fn parts(rt: HostRuntime) -> Result<(), Fail> {
     let text =
         "format TINY 16 1 4 32\nsync\npar\nworker\nwrite 1 0 41\n\nlook 1\nworker\nread 2 0\nend\nstatus\n";
-    let script = Script::parse(rt.alloc(), text.as_bytes(), Allowed::Everything)?;
+    let script = Script::parse(rt.alloc(), text.as_bytes())?;
     match script.steps.as_slice() {
         [
             Step::Command {
@@ -310,9 +302,14 @@ fn calls(rt: HostRuntime) -> Result<(), Fail> {
         words(alloc, &["f2fsim", "check", "x.img"])?,
         Words::Check { image: "x.img" }
     );
-    let refused: [&[&str]; 10] = [
+    assert_eq!(rt;
+        words(alloc, &["f2fsim", "files", "x.img"])?,
+        Words::Files { image: "x.img" }
+    );
+    let refused: [&[&str]; 11] = [
         &["f2fsim"],
         &["f2fsim", "check"],
+        &["f2fsim", "files"],
         &["f2fsim", "check", "a", "b"],
         &["f2fsim", "run", "a"],
         &["f2fsim", "run", "--save"],
