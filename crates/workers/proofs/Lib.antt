@@ -2,5 +2,4 @@ pub mod Looking
 pub mod Doing
 pub mod Giving
 pub mod Keeping
-pub mod Joining
 pub mod Whole

@@ -1,11 +1,11 @@
 //! What a worker of a part is given, and what it hands back.
-ghost use Rattle.std.specs.Prelude.{◌≡◌, IfOk};
-ghost use Rattle.workers.specs.Duties.{IsDone};
+ghost use Rattle.std.specs.Prelude.{◌≡◌};
 
 use crate::calls::Calls;
 use crate::gate::Gate;
 use crate::tasks::run_tasks;
 use device::{Block, Meta};
+use jobs::Job;
 use names::VolumeName;
 use script::Task;
 use session::Session;
@@ -14,15 +14,17 @@ use std::io;
 use std::marker::Model;
 use std::sync::Wait;
 
-/// A worker's number, its tasks, and its share of the files.
+/// A worker's number, its tasks, its share of the files, and the gate of its calls.
 #[derive(Drop)]
-pub(crate) struct Duty<'t, 'a, V: VolumeName, M: Meta, B: Block + Drop> {
+pub(crate) struct Duty<'t, 'a, V: VolumeName, M: Meta, B: Block + Drop, G: Gate> {
     number: usize,
     tasks: &'t [Task],
     share: Session<'a, V, M, B>,
+    gate: &'t G,
+    alloc: Global,
 }
 
-impl<'t, 'a, V: VolumeName, M: Meta, B: Block + Drop> Model for Duty<'t, 'a, V, M, B> {
+impl<'t, 'a, V: VolumeName, M: Meta, B: Block + Drop, G: Gate> Model for Duty<'t, 'a, V, M, B, G> {
     ghost use Rattle.std.specs.Coded.{codes};
     ghost use Rattle.geometry.specs.File.{blocks_code};
     ghost use Rattle.readers.specs.Reader.{segments_code};
@@ -56,35 +58,41 @@ impl<'a, V: VolumeName, M: Meta, B: Block + Drop> Model for Done<'a, V, M, B> {
     ghost view = { λ d. record { number = d.number; share = d.share; text = d.text.items } };
 }
 
-impl<'t, 'a, V: VolumeName, M: Meta, B: Block + Drop> Duty<'t, 'a, V, M, B> {
-    /// What a worker is to do on its share.
+impl<'t, 'a, V: VolumeName, M: Meta, B: Block + Drop, G: Gate> Duty<'t, 'a, V, M, B, G> {
+    /// What a worker is to do on its share. Its lines take memory of `alloc`.
     pub(crate) fn new(
+        alloc: Global,
         number: usize,
         tasks: &'t [Task],
         share: Session<'a, V, M, B>,
-    ) -> Duty<'t, 'a, V, M, B>
+        gate: &'t G,
+    ) -> Duty<'t, 'a, V, M, B, G>
         ensures { result ≡ record { number = number; tasks = tasks.now; share = share.entry } }
     {
         Duty {
             number,
             tasks,
             share,
+            gate,
+            alloc,
         }
     }
+}
 
-    /// Does the tasks in order.
-    pub(crate) fn work<R: Wait, G: Gate>(
-        self,
-        rt: &R,
-        alloc: Global,
-        gate: &G,
-    ) -> io::Result<Done<'a, V, M, B>>
-        ensures { IfOk result (IsDone self.entry) }
-    {
+impl<'t, 'a, V: VolumeName, M: Meta, B: Block + Drop, G: Gate> Job for Duty<'t, 'a, V, M, B, G> {
+    ghost use Rattle.workers.specs.Duties.{IsDone};
+
+    type Done = Done<'a, V, M, B>;
+
+    ghost is_done = { IsDone };
+
+    fn run<R: Wait>(self, rt: &R) -> io::Result<Done<'a, V, M, B>> {
         let Duty {
             number,
             tasks,
             mut share,
+            gate,
+            alloc,
         } = self;
         let mut text = Vec::new(alloc);
         let mut calls = Calls::new(gate, number);

@@ -1,80 +1,79 @@
 //! A parallel part.
 ghost use Rattle.std.specs.Prelude.{◌≡◌, All, length, IfOk, OnOk};
-ghost use Rattle.std.specs.List.{AllZip};
 ghost use Rattle.std.specs.Io.KnownBytes.{Appends};
 ghost use Rattle.session.specs.Work.{Wrote};
-ghost use Rattle.workers.specs.Duties.{AreBack, AreGiven, IsDone, told_text};
+ghost use Rattle.workers.specs.Duties.{AreBack, AreGiven, told_text};
 ghost use Rattle.workers.specs.Part.{PartWrites};
 
 use crate::duty::{Done, Duty};
 use crate::gate::Gate;
 use crate::tell::tell_end;
 use device::{Block, Meta};
-use names::VolumeName;
+use jobs::run_side_by_side;
+use names::{BooksName, GeometryName, Named, PoolName, TurnName, VolumeName, WordsName};
 use script::Worker;
 use session::Session;
 use std::alloc::Global;
 use std::io;
 use std::io::{ErrorKind, Write};
 use std::sync::Wait;
+use std::thread::Threads;
 
 /// Runs a parallel part: each worker has a session over the same volume to which the passes and the readers that its tasks name have
-/// moved. Once all workers have ended each of them tells its lines, in their order: what it has read and looked at, its refusals, and
-/// that it is done; and its share comes back.
+/// moved, and a thread of its own, where one can be made. Once all workers have ended each of them tells its lines, in their order:
+/// what it has read and looked at, its refusals, and that it is done; and its share comes back.
 ///
-/// The workers work in turn, on the caller's thread. What a part leaves and tells is the same as of threads, since each has a share
-/// of its own; but no worker goes on while another waits at the gate. A worker's lines stand in memory until then. Where memory is refused, or `out` can't be written, the part ends with that error,
-/// and nothing is said of the session any more.
-pub fn run_part<V: VolumeName, M: Meta, B: Block + Drop, R: Wait, G: Gate, O: Write>(
+/// What a part leaves and tells does not depend on which worker is faster, since each has a share of its own. A worker's lines stand
+/// in memory until all have ended. Where memory is refused, or `out` can't be written, the part ends with that error, and nothing is
+/// said of the session any more.
+pub fn run_part<
+    L: BooksName + Send + Sync,
+    W: WordsName + Send + Sync,
+    P: PoolName + Send + Sync,
+    T: TurnName + Send + Sync,
+    N: GeometryName + Send + Sync,
+    M: Meta + Send,
+    B: Block + Drop + Send,
+    R: Threads + Wait + Sync,
+    G: Gate + Sync,
+    O: Write,
+>(
     rt: &R,
     alloc: Global,
-    session: &mut Session<'_, V, M, B>,
+    session: &mut Session<'_, Named<L, W, P, T, N>, M, B>,
     workers: &[Worker],
     gate: &G,
     out: &mut O,
 ) -> io::Result<()>
+where
+    B::Lease: Send,
     ensures { OnOk result (Wrote (PartWrites 0 workers.now session.old session.new) (O.contents out.old) (O.contents out.new)) }
 {
-    let duties = give_shares(alloc, session, workers)?;
-    let all = work_in_turn(rt, alloc, gate, duties)?;
+    let duties = give_shares(alloc, session, workers, gate)?;
+    let all = run_side_by_side(rt, alloc, duties)?;
     tell_all(&all, out)?;
     take_back(session, all);
     Ok(())
 }
 
 // Gives a share to each worker in order.
-fn give_shares<'t, 'a, V: VolumeName, M: Meta, B: Block + Drop>(
+fn give_shares<'t, 'a, V: VolumeName, M: Meta, B: Block + Drop, G: Gate>(
     alloc: Global,
     session: &mut Session<'a, V, M, B>,
     workers: &'t [Worker],
-) -> io::Result<Vec<Duty<'t, 'a, V, M, B>>>
+    gate: &'t G,
+) -> io::Result<Vec<Duty<'t, 'a, V, M, B, G>>>
     ensures { IfOk result (λ duties. AreGiven 0 workers.now session.old duties.items session.new) }
 {
     let mut duties = Vec::new(alloc);
     for (number, worker) in workers.iter().enumerate() {
         let tasks = worker.tasks.as_slice();
         match session.take_share(tasks) {
-            Ok(share) => duties.push(Duty::new(number, tasks, share))?,
+            Ok(share) => duties.push(Duty::new(alloc, number, tasks, share, gate))?,
             Err(_) => return Err(io::Error::from(ErrorKind::OutOfMemory)),
         }
     }
     Ok(duties)
-}
-
-// Does each duty in its turn.
-fn work_in_turn<'t, 'a, V: VolumeName, M: Meta, B: Block + Drop, R: Wait, G: Gate>(
-    rt: &R,
-    alloc: Global,
-    gate: &G,
-    duties: Vec<Duty<'t, 'a, V, M, B>>,
-) -> io::Result<Vec<Done<'a, V, M, B>>>
-    ensures { IfOk result (λ all. AllZip IsDone duties.entry.items all.items) }
-{
-    let mut all = Vec::new(alloc);
-    for duty in duties {
-        all.push(duty.work(rt, alloc, gate)?)?;
-    }
-    Ok(all)
 }
 
 // Writes each worker's lines, in order, and that it is done.

@@ -1,0 +1,3 @@
+//! Workers that wait for each other at a gate.
+mod open;
+mod turns;
