@@ -1,10 +1,10 @@
-//! The program: it checks an image file, or runs a script.
+//! The program: it runs a script, checks an image file, or tells the files of one.
 #![tactic(auto)]
 
 use script::words::USAGE;
 use script::{Words, WordsError};
 use simulator::status::MISUSED;
-use simulator::{check_image, run_script, tell_failure, tell_no_memory};
+use simulator::{check_image, run_script, tell_failure, tell_files, tell_no_memory};
 use std::fs::File;
 use std::io::Write;
 use std::process::ExitCode;
@@ -38,6 +38,10 @@ fn called<R: Runtime + AllocGlobal + Threads + Wait + Sync, W: Write, E: Write>(
         Ok(Words::Check { image }) => {
             let mut file = File::open(rt, image)?;
             Ok(check_image(rt.alloc(), &mut file, out, errors))
+        }
+        Ok(Words::Files { image }) => {
+            let mut file = File::open(rt, image)?;
+            Ok(tell_files(rt, rt.alloc(), &mut file, out, errors))
         }
         Ok(Words::Run { save }) => run_saving(rt, out, errors, save),
         Err(WordsError::Usage) => {

@@ -1,11 +1,10 @@
 -- A script over the volumes that it mounts, one after the other.
-use Rattle.std.proofs.Common.{◌≡◌, ◌≢◌, ◌⊎◌, ◌∙◌, ℕ, suc, zero, Bool, true, false, List, [], ◌∷◌, ◌++◌, ap, sym, subst, refl, arith, inl, inr, append_assoc, append-nil, take, drop, length, map, replicate, Option, Some, None, Result, Ok, Err, IfOk, ◌+◌, ◌-◌, ◌<◌, ◌≤◌}
+use Rattle.std.proofs.Common.{◌≡◌, ◌≢◌, ◌⊎◌, ◌∙◌, ℕ, suc, zero, true, List, [], ◌∷◌, ◌++◌, ap, sym, subst, refl, arith, inl, inr, append_assoc, take, drop, length, map, replicate, Option, Some, None, Result, Ok, Err, IfOk, ◌+◌, ◌-◌, ◌<◌, ◌≤◌}
 use Rattle.std.specs.Prelude.{slice_get}
 use Rattle.std.specs.Io.KnownBytes.{Appends}
 use Rattle.std.proofs.KnownBytes.{Appends-trans}
 use Rattle.std.proofs.lemmas.Bool.{false≢true}
 use Rattle.std.proofs.lemmas.List.{length-drop, take_all}
-use Rattle.device.specs.declared.parts.Parts.{Parts}
 use Rattle.device.specs.Parts.{HasSize, IsBlockRun}
 use Rattle.file_cells.specs.Pass.{Pass}
 use Rattle.geometry.specs.File.{Block, File}
@@ -18,10 +17,10 @@ use Rattle.readers.specs.Reader.{SnapshotOf}
 use Rattle.script.specs.declared.command.Command.TheVariants.{Work as WorkOf, Now, Create, Delete, Status as TellStatus, Snap, Done, Fail, Remount}
 use Rattle.script.specs.declared.script.Step.{Step}
 use Rattle.script.specs.declared.script.Step.TheVariants.{Command as CommandStep, Part}
-use Rattle.session.specs.Files.{ArePlaced, Files, IsOpened, no_files, open_count, passes_among, shown_files}
+use Rattle.session.specs.Files.{ArePlaced, Files, IsOpened, no_files, open_count, passes_among}
 use Rattle.session.proofs.Placing.{nothing_there}
 use Rattle.simulator.specs.Ending.{LeftScript, LeftSome, WasLeft, WentOn, WentOnWith}
-use Rattle.simulator.specs.Run.{IsHalted, IsRemounted, RanSome, StepWrites, StepsWrite, WroteSteps, first_opening, format_line, is_remount, mount_line, opening_line}
+use Rattle.simulator.specs.Run.{IsHalted, IsRemounted, StepWrites, StepsWrite, WroteSteps, first_opening, format_line, is_remount, mount_line}
 use Rattle.simulator.specs.declared.leaving.Left.{Left}
 use Rattle.simulator.specs.declared.steps.Carried.{Carried}
 use Rattle.simulator.specs.declared.steps.Opening.{Opening}

@@ -1,4 +1,5 @@
 pub mod Texts
+pub mod Known
 pub mod Runs
 pub mod Going
 pub mod Shown

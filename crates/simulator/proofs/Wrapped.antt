@@ -1,6 +1,5 @@
 -- The parts of a device each of which is wrapped, as by what lets it fail: what they show is what the parts inside show.
-use Rattle.std.proofs.Common.{◌≡◌, ◌∙◌, ℕ, ◌+◌, ◌-◌, ◌<◌, ap, sym, subst, List, [], ◌∷◌, length, map, get_or, Option, Result, Ok, Err, IfOk}
-use Rattle.std.specs.List.{All}
+use Rattle.std.proofs.Common.{◌≡◌, ◌∙◌, ℕ, ◌-◌, ◌<◌, ap, sym, subst, List, [], length, map, get_or, Option, Result, Ok, Err, IfOk}
 use Rattle.std.proofs.Math.ListN.{get_or-map}
 use Rattle.std.proofs.lemmas.List.{length-map}
 use Rattle.std.proofs.lemmas.Simd.{map-map}

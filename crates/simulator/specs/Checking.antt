@@ -1,6 +1,8 @@
 -- What is told of an image file, where its bytes are known, and what the writer holds afterwards.
-use Rattle.std.specs.Prelude.{ℕ, List, Option, IfSome}
+use Rattle.std.specs.Prelude.{◌≡◌, ℕ, List, Option, IfSome}
 use Rattle.std.specs.Io.KnownBytes.{Appends}
+use Rattle.device.specs.declared.parts.Parts.{Parts}
+use Rattle.device.specs.Parts.{HasSize, image_file}
 use Rattle.geometry.specs.declared.geometry.Geometry.{Geometry}
 use Rattle.geometry.specs.declared.error.Error.{Error}
 use Rattle.image.specs.Image.{Image}
@@ -8,6 +10,7 @@ use Rattle.image.specs.Rules.{IsLawful}
 use Rattle.tables.specs.Grammar.{HasSuper}
 use Rattle.tables.specs.File.{HoldsImage, IsFileRefusal}
 use Rattle.session.specs.Lines.{image_line, refusal_line}
+use Rattle.simulator.specs.Ending.{ToldParts}
 
 -- the file has this superblock, and this lawful image in its picked pack
 pub record HoldsLawfulImage (geometry : Geometry) (image : Image) (file : List ℕ) : Type 0 where
@@ -27,3 +30,17 @@ pub record TellsRefusal (file : Option (List ℕ)) (old new : Option (List ℕ))
   pub error : Error
   pub cause : IfSome file (λ bytes. IsFileRefusal bytes error)
   pub told : Appends old new (refusal_line error)
+
+module _ {M B : Type 0} (seen : M → List ℕ) (address_of : B → ℕ) (content_of : B → List ℕ) where
+  -- the parts have the bytes of the file, cut as its superblock tells
+  pub record IsDeviceOf (file : List ℕ) (parts : Parts M B) : Type 0 where
+    pub geometry : Geometry
+    pub front : HasSuper geometry (seen parts.meta)
+    pub size : HasSize seen address_of content_of geometry parts
+    pub bytes : image_file seen content_of parts ≡ file
+
+  -- the files and the total of the lawful image that the file holds were written: a device with its bytes was mounted
+  pub record TellsFiles (file : Option (List ℕ)) (old new : Option (List ℕ)) : Type 0 where
+    pub parts : Parts M B
+    pub device : IfSome file (λ bytes. IsDeviceOf bytes parts)
+    pub told : ToldParts seen content_of parts old new

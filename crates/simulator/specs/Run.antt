@@ -1,6 +1,6 @@
 -- A run of a script: what each command makes of the volume's files, and the line that it writes. A command that is refused
 -- leaves the files as they were, but for a range, which is filled up to the refusal.
-use Rattle.std.specs.Prelude.{◌≡◌, ◌⊎◌, ◌<◌, ℕ, ◌+◌, ◌-◌, ◌^◌, Bool, true, false, List, [], ◌∷◌, ◌++◌, length, map, min, slice_get, take, Option, Some, None, Result, codes}
+use Rattle.std.specs.Prelude.{◌≡◌, ◌⊎◌, ◌<◌, ℕ, ◌-◌, ◌^◌, Bool, true, false, List, [], ◌∷◌, ◌++◌, length, min, slice_get, take, Option, Some, None, Result, codes}
 use Rattle.std.specs.Fmt.{decimal}
 use Rattle.std.specs.Io.KnownBytes.{Appends}
 use Rattle.geometry.specs.File.{Block}

@@ -3,6 +3,7 @@
 
 mod check;
 mod disk;
+mod files;
 mod formatting;
 mod leaving;
 mod reading;
@@ -14,6 +15,6 @@ mod stop;
 mod telling;
 
 pub use check::check_image;
+pub use files::tell_files;
 pub use run::run_script;
 pub use stop::{tell_failure, tell_no_memory};
-pub use telling::tell_parts;

@@ -15,7 +15,7 @@ use crate::telling::tell_parts;
 use device::{Block, MemDevice, Meta, Parts};
 use geometry::Geometry;
 use one_image::one_image_law;
-use script::{Allowed, Numbers, Script, Step};
+use script::{Numbers, Script, Step};
 use std::alloc::Global;
 use std::io::{Read, Write};
 use std::sync::Wait;
@@ -60,7 +60,7 @@ fn read_and_run<T: Threads + Wait + Sync, R: Read, W: Write>(
     ensures bad_line { IfErr result (λ stop. names_line stop ≡ true → out.new ≡ out.old) }
 {
     let text = read_all(alloc, input)?;
-    let script = Script::parse(alloc, text.as_slice(), Allowed::Everything)?;
+    let script = Script::parse(alloc, text.as_slice())?;
     let Some(numbers) = script.volume else {
         return Ok(());
     };

@@ -1,9 +1,10 @@
 //! The lines that are told of image files built by hand, and of what a few changes make of them.
-use simulator::check_image;
 use simulator::status::{DONE, FAILED, REFUSED};
+use simulator::{check_image, tell_files};
 use std::alloc::{AllocError, Global};
 use std::io;
 use std::io::Read;
+use std::sync::Wait;
 use std::test::Fail;
 
 // Places of a file, and the bytes that stand there.
@@ -103,6 +104,30 @@ pub(super) fn told(alloc: Global, file: &[u8]) -> (Vec<u8>, u8) {
     (out, status)
 }
 
+// What is told of the files of an image file, and the exit status.
+pub(super) fn files_told<R: Wait>(rt: &R, alloc: Global, file: &[u8]) -> (Vec<u8>, u8) {
+    let mut input = file;
+    let mut out = Vec::new(alloc);
+    let mut errors = Vec::new(alloc);
+    let status = tell_files(rt, alloc, &mut input, &mut out, &mut errors);
+    (out, status)
+}
+
+#[test]
+fn files_of_lawful_images_are_told(rt: HostRuntime) -> Result<(), Fail> {
+    let alloc = rt.alloc();
+    let (lines, status) = files_told(&rt, alloc, &empty_file(alloc)?);
+    assert_eq!(rt; lines.as_slice(), b"total 0\n".as_slice());
+    assert_eq!(rt; status, DONE);
+    let (lines, status) = files_told(&rt, alloc, &base_file(alloc)?);
+    assert_eq!(rt;
+        lines.as_slice(),
+        b"file 1 length 2 41 42\ntotal 3\n".as_slice()
+    );
+    assert_eq!(rt; status, DONE);
+    Ok(())
+}
+
 #[test]
 fn lawful_images_are_told(rt: HostRuntime) -> Result<(), Fail> {
     let (line, status) = told(rt.alloc(), &empty_file(rt.alloc())?);
@@ -132,7 +157,12 @@ fn each_damage_is_told(rt: HostRuntime) -> Result<(), Fail> {
         (&[(684, 0x01)], b"refused 11 BadImage 10\n"),
     ];
     for (changes, wanted) in damages {
-        let (line, status) = told_after(rt.alloc(), changes)?;
+        let mut file = base_file(rt.alloc())?;
+        change(file.as_mut_slice(), changes);
+        let (line, status) = told(rt.alloc(), &file);
+        assert_eq!(rt; line.as_slice(), wanted);
+        assert_eq!(rt; status, REFUSED);
+        let (line, status) = files_told(&rt, rt.alloc(), &file);
         assert_eq!(rt; line.as_slice(), wanted);
         assert_eq!(rt; status, REFUSED);
     }
@@ -164,6 +194,9 @@ fn files_of_another_length_are_told(rt: HostRuntime) -> Result<(), Fail> {
     ] {
         file.truncate(length);
         let (line, status) = told(rt.alloc(), &file);
+        assert_eq!(rt; line.as_slice(), wanted);
+        assert_eq!(rt; status, REFUSED);
+        let (line, status) = files_told(&rt, rt.alloc(), &file);
         assert_eq!(rt; line.as_slice(), wanted);
         assert_eq!(rt; status, REFUSED);
     }

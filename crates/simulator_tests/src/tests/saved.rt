@@ -1,47 +1,12 @@
 //! What is put aside is a device that is mounted to the same files.
-ghost use Rattle.std.specs.Prelude.{◌≡◌, length, IfOk};
-ghost use Rattle.device.specs.Parts.{IsBlockRun};
-
-use super::images::{base_file, change, told};
-use device::{Block, MemBlock, MemMeta, Parts};
+use super::images::{base_file, change, files_told, told};
+use simulator::run_script;
 use simulator::status::{DONE, REFUSED};
-use simulator::{run_script, tell_parts};
-use std::alloc::{AllocError, Global};
+use std::alloc::Global;
 use std::process::Abort;
 use std::sync::Wait;
 use std::test::Fail;
 use std::thread::Threads;
-
-// So many bytes has the meta area of 32 tiny segments with 64 node numbers, and so many blocks of so many bytes stand behind it.
-const AREA: usize = 6_136;
-
-const BLOCKS: u32 = 256;
-
-const BLOCK: usize = 64;
-
-// A device with the bytes of an image file.
-fn parts_of(alloc: Global, file: &[u8]) -> Result<Parts<MemMeta, MemBlock>, AllocError>
-    requires { length file.now ≡ 22520 }
-    ensures { IfOk result (λ parts. IsBlockRun ⟦<MemBlock as Block>⟧.address_of ⟦<MemBlock as Block>⟧.content_of 64 1 parts.blocks.items) }
-{
-    let meta = MemMeta::new(Vec::from_slice(alloc, &file[..AREA])?);
-    let blocks = blocks_of(alloc, &file[AREA..])?;
-    Ok(Parts { meta, blocks })
-}
-
-// Blocks with these bytes, from address 1 on.
-fn blocks_of(alloc: Global, bytes: &[u8]) -> Result<Vec<MemBlock>, AllocError>
-    requires { length bytes.now ≡ 16384 }
-    ensures { IfOk result (λ blocks. IsBlockRun ⟦<MemBlock as Block>⟧.address_of ⟦<MemBlock as Block>⟧.content_of 64 1 blocks.items) }
-{
-    let mut blocks = Vec::new(alloc);
-    for place in 0..BLOCKS {
-        let first = place as usize * BLOCK;
-        let own = Vec::from_slice(alloc, &bytes[first..first + BLOCK])?;
-        blocks.push(MemBlock::new(alloc, place + 1, own)?)?;
-    }
-    Ok(blocks)
-}
 
 // What a script prints that is done, and what it puts aside.
 fn saved_by<R: Threads + Wait + Abort + Sync>(
@@ -76,9 +41,8 @@ fn what_is_put_aside_is_mounted_to_the_same_files(rt: HostRuntime) -> Result<(),
     let (out, saved) = saved_by(&rt, alloc, text);
     assert!(rt; out.as_slice().ends_with(lines.as_bytes()));
     assert_eq!(rt; saved.len(), 22520);
-    let mut again = Vec::new(alloc);
-    let mounted = tell_parts(&rt, alloc, parts_of(alloc, saved.as_slice())?, &mut again);
-    assert!(rt; mounted.is_ok());
+    let (again, status) = files_told(&rt, alloc, saved.as_slice());
+    assert_eq!(rt; status, DONE);
     assert_eq!(rt; again.as_slice(), lines.as_bytes());
     Ok(())
 }

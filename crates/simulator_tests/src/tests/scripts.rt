@@ -114,6 +114,30 @@ fn files_without_a_number_are_refused(rt: HostRuntime) -> Result<(), Fail> {
     )
 }
 
+// File 1 takes 27 of the 28 numbers that are no inode's. What a cut empties is given back.
+#[test]
+fn nodes_run_out_and_come_back(rt: HostRuntime) -> Result<(), Fail> {
+    let alloc = rt.alloc();
+    let mut text = String::from_str(
+        alloc,
+        "format TINY 16 1 4 32\ncreate file\ncreate file\nwrite 1 3 41\nwrite 1 13 41\n",
+    )?;
+    let mut lines = String::from_str(alloc, "file 1\nfile 2\nok\nok\n")?;
+    for turn in 0..21u32 {
+        let line = format!(in alloc; "write 1 {} 41\n", 23 + 10 * turn)?;
+        text.push_str(line.as_str())?;
+        lines.push_str("ok\n")?;
+    }
+    text.push_str("write 2 23 41\nwrite 1 233 41\nwrite 1 243 41\ncut 1 223\nwrite 1 243 41\n")?;
+    lines.push_str("refused 5 NoNode\nok\nrefused 5 NoNode\nok\nok\nfile 1 length 244")?;
+    for index in 0..244u32 {
+        let written = index % 10 == 3 && index != 223 && index != 233;
+        lines.push_str(if written { " 41" } else { " 00" })?;
+    }
+    lines.push_str("\nfile 2 length 0\ntotal 52\n")?;
+    prints(&rt, alloc, text.as_str(), lines.as_str())
+}
+
 #[test]
 fn number_of_a_deleted_file_is_given_again(rt: HostRuntime) -> Result<(), Fail> {
     prints(
@@ -156,8 +180,19 @@ fn blocks_of_a_section_are_moved(rt: HostRuntime) -> Result<(), Fail> {
     prints(
         &rt,
         rt.alloc(),
-        "format TINY 16 1 4 32\nclean bg\ncreate file\ncreate file\nwrite 1 0 10\nwrite 2 0 20\nwrite 1 1 11\nwrite 2 1 21\nwrite 1 2 12\nwrite 2 2 22\nwrite 1 3 13\nwrite 2 3 23\ndelete 2\nclean fg\nstatus\n",
-        "clean none\nfile 1\nfile 2\nok\nok\nok\nok\nok\nok\nok\nok\nok\nclean section 4 moved 4 gone 0\nfree 10 prefree 1 open 5 sealed 0\nfile 1 length 4 10 11 12 13\ntotal 6\n",
+        "format TINY 16 1 4 32\nclean bg\ncreate file\ncreate file\nwrite 1 0 10\nwrite 2 0 20\nwrite 1 1 11\nwrite 2 1 21\nwrite 1 2 12\nwrite 2 2 22\nwrite 1 3 13\nwrite 2 3 23\ndelete 2\nclean fg\nstatus\nsync\n",
+        "clean none\nfile 1\nfile 2\nok\nok\nok\nok\nok\nok\nok\nok\nok\nclean section 4 moved 4 gone 0\nfree 10 prefree 1 open 5 sealed 0\nversion 2 total 6 free 11\nfile 1 length 4 10 11 12 13\ntotal 6\n",
+    )
+}
+
+// The section that is fuller and older costs more and is worth more: the background takes it first, with 110/14 against 50/11.
+#[test]
+fn the_background_takes_the_older_section(rt: HostRuntime) -> Result<(), Fail> {
+    prints(
+        &rt,
+        rt.alloc(),
+        "format TINY 16 1 4 32\ncreate file\nnow 5\nfill 1 0 8 11\nnow 50\nfill 1 0 2 22\nfill 1 8 14 33\nfill 1 8 13 44\nnow 60\nclean bg\nclean fg\nstatus\n",
+        "file 1\nok\nok\nok\nok\nclean section 4 moved 6 gone 0\nclean section 10 moved 3 gone 0\nfree 7 prefree 2 open 6 sealed 1\nfile 1 length 14 22 22 11 11 11 11 11 11 44 44 44 44 44 33\ntotal 17\n",
     )
 }
 
@@ -170,11 +205,21 @@ fn a_full_log_is_cleaned(rt: HostRuntime) -> Result<(), Fail> {
         text.push_str("write 1 1 42\n")?;
         lines.push_str("ok\n")?;
     }
-    text.push_str("write 1 1 43\nstatus\nclean fg\n")?;
+    text.push_str("write 1 1 43\nstatus\nclean fg\nsync\nwrite 1 1 43\n")?;
     lines.push_str(
-        "refused 3 NoSpace\nfree 4 prefree 5 open 5 sealed 2\nclean section 4 moved 1 gone 0\nfile 1 length 2 41 42\ntotal 3\n",
+        "refused 3 NoSpace\nfree 4 prefree 5 open 5 sealed 2\nclean section 4 moved 1 gone 0\nversion 2 total 3 free 10\nok\nfile 1 length 2 41 43\ntotal 3\n",
     )?;
     prints(&rt, alloc, text.as_str(), lines.as_str())
+}
+
+#[test]
+fn a_reader_keeps_a_segment_from_coming_free(rt: HostRuntime) -> Result<(), Fail> {
+    prints(
+        &rt,
+        rt.alloc(),
+        "format TINY 16 1 4 32\ncreate file\nfill 1 0 8 11\nsnap 1\nfill 1 0 8 22\nstatus\nlook 1\ndone 1\nread 1 0\n",
+        "file 1\nok\nreader 1\nok\nfree 9 prefree 1 open 5 sealed 1\nlook 1 11 11 11 11 11 11 11 11\nok\nread 1 0 22\nfile 1 length 8 22 22 22 22 22 22 22 22\ntotal 10\n",
+    )
 }
 
 #[test]

@@ -49,7 +49,7 @@ fn writers_cleaners_and_readers_run_side_by_side(rt: HostRuntime) -> Result<(), 
         lines.push_str(line.as_str())?;
     }
     lines.push_str("total 96\n")?;
-    for _run in 0..20 {
+    for _run in 0..100 {
         prints(&rt, alloc, text.as_str(), lines.as_str())?;
     }
     Ok(())

@@ -1,12 +1,7 @@
-use Rattle.std.proofs.Common.{◌≡◌, ℕ, List, Option, Some, None, subst}
-use Rattle.std.specs.Prelude.{IfSome}
+use Rattle.std.proofs.Common.{subst}
 use Rattle.simulator.specs.Checking.{HoldsLawfulImage}
+use Rattle.simulator.proofs.Known.{known}
 use Rattle.simulator.proofs.check.read_and_tell.Goals as goal
-
--- what is true of the bytes that were read is true of the bytes that are known
-known : (P : List ℕ → Type 0) (bytes : Option (List ℕ)) (read : List ℕ) → IfSome bytes (λ xs. read ≡ xs) → P read → IfSome bytes P
-known P None read is has = tt
-known P (Some bytes) read is has = subst P is has
 
 pub returns-clause-lawful : goal.returns-clause-lawful
 returns-clause-lawful g c =

@@ -1,4 +1,4 @@
-use Rattle.std.proofs.Common.{◌≡◌, ap, sym, subst, inl, inr}
+use Rattle.std.proofs.Common.{ap, sym, subst, inl, inr}
 use Rattle.device.specs.Parts.{HasSize}
 use Rattle.simulator.specs.Ending.{WasLeft}
 use Rattle.simulator.proofs.Going.{halted_low}

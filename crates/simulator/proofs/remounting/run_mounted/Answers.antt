@@ -1,4 +1,3 @@
-use Rattle.std.proofs.Common.{Result, Ok, Err, IfOk}
 use Rattle.node_reading.specs.Blocks.{bytes_at}
 use Rattle.simulator.proofs.Going.{went_with}
 use Rattle.simulator.proofs.remounting.run_mounted.Goals as goal

@@ -1,4 +1,4 @@
-use Rattle.std.proofs.Common.{◌≡◌, ◌+◌, drop, subst, sym}
+use Rattle.std.proofs.Common.{◌+◌, subst, sym}
 use Rattle.simulator.specs.Ending.{WentOn}
 use Rattle.simulator.proofs.Going.{Gone, begun, ended, rest_is, run_of_gone, went_on}
 use Rattle.simulator.proofs.run.run_volumes.Goals as goal

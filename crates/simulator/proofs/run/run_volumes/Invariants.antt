@@ -1,4 +1,4 @@
-use Rattle.std.proofs.Common.{◌≡◌, length}
+use Rattle.std.proofs.Common.{length}
 use Rattle.simulator.proofs.Going.{Gone}
 use Rattle.simulator.proofs.run.run_volumes.Given as goal
 

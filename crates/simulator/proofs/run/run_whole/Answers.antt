@@ -1,4 +1,4 @@
-use Rattle.std.proofs.Common.{◌≡◌, ◌∙◌, sym}
+use Rattle.std.proofs.Common.{sym}
 use Rattle.simulator.proofs.Ending.{run_of_left, wrote_script}
 use Rattle.simulator.proofs.Wrapped.{run_inside, told_inside}
 use Rattle.simulator.proofs.run.run_whole.Goals as goal

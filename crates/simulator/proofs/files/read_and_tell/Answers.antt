@@ -1,0 +1,32 @@
+use Rattle.std.proofs.Common.{ℕ, List, subst}
+use Rattle.std.specs.Arc.{arc_value}
+use Rattle.device.specs.declared.memory.block.MemBlock.{MemBlock}
+use Rattle.device.specs.declared.memory.meta.MemMeta.{MemMeta}
+use Rattle.session.proofs.OnOk.{on_ok}
+use Rattle.simulator.specs.Checking.{IsDeviceOf, TellsFiles}
+use Rattle.simulator.specs.Ending.{ToldParts}
+use Rattle.simulator.proofs.Known.{known}
+use Rattle.simulator.proofs.files.read_and_tell.Goals as goal
+
+abbrev seen : MemMeta → List ℕ
+seen meta = meta.bytes.items
+
+abbrev address : MemBlock → ℕ
+address block = block.address
+
+abbrev content : MemBlock → List ℕ
+content block = (arc_value block.bytes).items
+
+pub returns-clause-told : goal.returns-clause-told
+returns-clause-told g c =
+    let parts = c.in_ok-parts.parts in
+    let input = g.R.Read.remaining c.args.input.now in
+    let old = g.W.Write.contents c.args.out.now in
+    let new = g.W.Write.contents c.tell_parts.new.out in
+    let P = λ (bytes : List ℕ). IsDeviceOf seen address content bytes parts in
+    on_ok c.tell_parts.result (ToldParts seen content parts old new) (TellsFiles seen address content input old new)
+    (λ told. record {
+      parts = parts;
+      device = known P input c.in_ok-file.file.items c.in_ok-file.ensures (subst P c.as_slice.ensures.value c.in_ok-parts.ensures.device);
+      told = told;
+    }) c.tell_parts.ensures.told
