@@ -5,7 +5,7 @@ ghost use Rattle.geometry.specs.Shape.{block_bytes};
 use device::{MemBlock, MemMeta};
 use geometry::{Error, Kind};
 use names::VolumeName;
-use opening::{FilePass, Volume};
+use opening::{FilePass, Reader, Seat, Volume};
 use std::alloc::Global;
 use std::sync::Wait;
 
@@ -49,5 +49,19 @@ impl<'a, V: VolumeName> Desk<'a, V> {
         } else {
             Ok(None)
         }
+    }
+
+    /// Takes a reader of the file.
+    pub fn snapshot<R: Wait>(
+        &self,
+        rt: &R,
+        seat: Seat<V>,
+    ) -> Result<Reader<'a, V, MemBlock>, (Seat<V>, Error)> {
+        self.volume.snapshot(rt, &self.pass, seat)
+    }
+
+    /// Whether a reader shows a block at an index. It is read.
+    pub fn look(&mut self, reader: &Reader<'_, V, MemBlock>, index: u32) -> bool {
+        reader.block(index, self.block.as_mut_slice())
     }
 }

@@ -1,14 +1,15 @@
 //! How long the calls of a volume's files take on one thread.
 //!
 //! At each depth of the index tree a new volume of 16 segments gets a file whose first blocks are appended, then written
-//! again at indexes in no order, and then read. With no argument the volumes are tiny, a few blocks are taken, and what was
-//! done is counted. With `--measure` they have the kernel's shape, and the nanoseconds a call are told, beside those of one
-//! copy of as many bytes, and of finding the path to an index.
+//! again at indexes in no order, and then read; then readers of it are taken and closed, and one shows its blocks. With no
+//! argument the volumes are tiny, a few blocks are taken, and what was done is counted. With `--measure` they have the kernel's
+//! shape, and the nanoseconds a call are told, beside those of one copy of as many bytes, and of finding the path to an index.
 #![tactic(auto)]
 
 mod bare;
 mod depth;
 mod desk;
+mod looking;
 mod naming;
 mod work;
 
@@ -20,24 +21,27 @@ use std::rt::Runtime;
 use std::{env, io};
 use work::Work;
 
-// What is measured: so many blocks of a file, and so many writes and reads of them.
+// What is measured: so many blocks of a file, so many writes and reads of them, and so many readers.
 #[derive(Clone, Copy)]
 pub struct Size {
     pub shape: Shape,
     pub blocks: u32,
     pub calls: u32,
+    pub readers: u32,
 }
 
 const SHOWN: Size = Size {
     shape: Shape::TINY,
     blocks: 3,
     calls: 10,
+    readers: 2,
 };
 
 const MEASURED: Size = Size {
     shape: Shape::KERNEL,
     blocks: 900,
     calls: 4000,
+    readers: 200,
 };
 
 fn main(rt: HostRuntime) -> io::Result<()> {
@@ -68,10 +72,11 @@ fn is_measure<R: Runtime>(rt: &R) -> io::Result<bool> {
 // How many calls were done at a depth.
 fn tell_counts(text: &mut String, depth: u32, work: Work) -> io::Result<()> {
     let (append, overwrite) = (work.append.calls, work.overwrite.calls);
-    let (read, path, entries) = (work.read.calls, work.path.calls, work.entries);
+    let (read, reader, look) = (work.read.calls, work.reader.calls, work.look.calls);
+    let (path, entries) = (work.path.calls, work.entries);
     write!(
         text,
-        "depth {depth}: {append} appended, {overwrite} overwritten, {read} read, {path} found of sum {entries}\n"
+        "depth {depth}: {append} appended, {overwrite} overwritten, {read} read, {reader} readers, {look} shown, {path} found of sum {entries}\n"
     )?;
     Ok(())
 }
@@ -79,10 +84,11 @@ fn tell_counts(text: &mut String, depth: u32, work: Work) -> io::Result<()> {
 // The nanoseconds of a call at a depth.
 fn tell_times(text: &mut String, depth: u32, work: Work) -> io::Result<()> {
     let (append, overwrite) = (work.append.each(), work.overwrite.each());
-    let (read, path, copy) = (work.read.each(), work.path.each(), work.copy.each());
+    let (read, reader, look) = (work.read.each(), work.reader.each(), work.look.each());
+    let (path, copy) = (work.path.each(), work.copy.each());
     write!(
         text,
-        "depth {depth}: append {append} ns, overwrite {overwrite} ns, read {read} ns, path {path} ns, copy {copy} ns\n"
+        "depth {depth}: append {append} ns, overwrite {overwrite} ns, read {read} ns, reader {reader} ns, look {look} ns, path {path} ns, copy {copy} ns\n"
     )?;
     Ok(())
 }

@@ -8,7 +8,7 @@ use crate::work::{Work, measure_on};
 use device::{MemBlock, MemDevice, MemMeta};
 use geometry::{Error, Geometry};
 use names::{BooksName, GeometryName, PoolName, TurnName, VolumeName, WordsName};
-use opening::{Formatted, Opened, Volume, format};
+use opening::{Formatted, Opened, Seat, Volume, format};
 use std::alloc::Global;
 use std::io;
 use std::marker::Brand;
@@ -75,8 +75,11 @@ fn with_queues<
     requires key { opened.channel.key ≡ T.key }
 {
     match opened.name::<P, T, R>(rt) {
-        Ok((volume, _seats)) => {
-            let work = measure_file(rt, alloc, &volume, size, depth);
+        Ok((volume, mut seats)) => {
+            let work = match seats.pop() {
+                Some(seat) => measure_file(rt, alloc, &volume, seat, size, depth),
+                None => Ok(None),
+            };
             drop(volume.discard(rt));
             work
         }
@@ -88,11 +91,12 @@ fn measure_file<V: VolumeName, R: Runtime + Wait>(
     rt: &R,
     alloc: Global,
     volume: &Volume<V, MemMeta, MemBlock>,
+    seat: Seat<V>,
     size: Size,
     depth: Depth,
 ) -> io::Result<Option<Work>> {
     match Desk::open(rt, alloc, volume) {
-        Ok(mut desk) => Ok(Some(measure_on(rt, alloc, &mut desk, size, depth)?)),
+        Ok(mut desk) => Ok(Some(measure_on(rt, alloc, &mut desk, seat, size, depth)?)),
         Err(_) => Ok(None),
     }
 }

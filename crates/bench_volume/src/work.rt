@@ -3,7 +3,9 @@ use crate::Size;
 use crate::bare::{copies, paths};
 use crate::depth::Depth;
 use crate::desk::Desk;
+use crate::looking::{looks, taken};
 use names::VolumeName;
+use opening::Seat;
 use std::alloc::Global;
 use std::io;
 use std::rt::Runtime;
@@ -18,6 +20,14 @@ pub struct Timed {
 }
 
 impl Timed {
+    /// No call.
+    pub fn none() -> Timed {
+        Timed {
+            calls: 0,
+            time: Duration::ZERO,
+        }
+    }
+
     /// The nanoseconds of one call.
     pub fn each(self) -> u128 {
         match u128::from(self.calls) {
@@ -33,6 +43,8 @@ pub struct Work {
     pub append: Timed,
     pub overwrite: Timed,
     pub read: Timed,
+    pub reader: Timed,
+    pub look: Timed,
     pub copy: Timed,
     pub path: Timed,
     pub entries: u32,
@@ -43,6 +55,7 @@ pub fn measure_on<V: VolumeName, R: Runtime + Wait>(
     rt: &R,
     alloc: Global,
     desk: &mut Desk<'_, V>,
+    seat: Seat<V>,
     size: Size,
     depth: Depth,
 ) -> io::Result<Work> {
@@ -50,12 +63,16 @@ pub fn measure_on<V: VolumeName, R: Runtime + Wait>(
     let append = appends(rt, desk, first, size.blocks)?;
     let overwrite = overwrites(rt, desk, first, size)?;
     let read = reads(rt, desk, first, size)?;
+    let (reader, seat) = taken(rt, desk, seat, size.readers)?;
+    let look = looks(rt, desk, seat, first, size)?;
     let copy = copies(rt, alloc, size)?;
     let (path, entries) = paths(rt, size.shape, first, size.calls)?;
     Ok(Work {
         append,
         overwrite,
         read,
+        reader,
+        look,
         copy,
         path,
         entries,
