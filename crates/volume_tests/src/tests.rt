@@ -1,6 +1,7 @@
 //! The volume's rows: which numbers files get, and where blocks go.
 mod files;
 mod leaving;
+mod moves;
 mod open;
 mod refusals;
 mod space;
@@ -28,6 +29,7 @@ enum Row {
     NineWrites,
     FullVolume,
     RefusedWrites,
+    MovedNodes,
     LeftOut,
 }
 
@@ -48,6 +50,7 @@ fn run_row<V: VolumeName, R: Wait + Abort>(
         Row::NineWrites => space::write_nine_times(rt, alloc, &volume, &mut passes),
         Row::FullVolume => space::write_until_full(rt, alloc, &volume, &mut passes),
         Row::RefusedWrites => refusals::write_beside(rt, alloc, &volume, &mut passes),
+        Row::MovedNodes => moves::move_two_inodes(rt, alloc, &volume, &mut passes),
         Row::LeftOut => leaving::create_four(rt, &volume, &mut passes),
     };
     if let Err(error) = done {
