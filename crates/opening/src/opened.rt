@@ -39,7 +39,7 @@ pub struct Opened<L: BooksName, W: WordsName, N: GeometryName, M: Meta, B: Block
 
 impl<L: BooksName, W: WordsName, N: GeometryName, M: Meta, B: Block + Drop> Opened<L, W, N, M, B> {
     /// The volume under all its names, and the seats of its readers. Segments 0 to 5 are open, one for each log, and the others
-    /// are free. Its first pack is written, of version 1.
+    /// are free. Its first pack is written, of version 1, with an image in which no block is valid.
     ///
     /// Answers NoMemory where a growth was refused, and Device where the device failed, and hands parts of the same size back.
     pub fn name<P: PoolName, T: TurnName, R: Wait>(
@@ -57,7 +57,7 @@ impl<L: BooksName, W: WordsName, N: GeometryName, M: Meta, B: Block + Drop> Open
         requires turns { self.channel.turns ≡ T.turns }
         requires key { self.channel.key ≡ T.key }
         ensures seats { IfOk result (λ opened. vec_len opened.1 ≡ 64) }
-        ensures base { IfOk result (λ opened. opened.0.base.version ≡ 1) }
+        ensures base { IfOk result (λ opened. opened.0.base ≡ record { version = 1; total = 0 }) }
         ensures back { IfErr result (λ fault. HasSize M.seen B.address_of B.content_of N.geometry fault.parts) }
         ensures error { IfErr result (λ fault. (fault.error ≡ NoMemory) ⊎ (fault.error ≡ Device)) }
     {

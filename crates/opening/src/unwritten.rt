@@ -39,7 +39,7 @@ impl<V: VolumeName, M: Meta, B: Block + Drop> Unwritten<V, M, B> {
         rt: &R,
         alloc: Global,
     ) -> Result<Volume<V, M, B>, OpenFault<M, B>>
-        ensures base { IfOk result (λ volume. volume.base.version ≡ 1) }
+        ensures base { IfOk result (λ volume. volume.base ≡ record { version = 1; total = 0 }) }
         ensures back { IfErr result (λ fault. HasSize M.seen B.address_of B.content_of V.Numbers.geometry fault.parts) }
         ensures error { IfErr result (λ fault. (fault.error ≡ NoMemory) ⊎ (fault.error ≡ Device)) }
     {
@@ -52,7 +52,7 @@ impl<V: VolumeName, M: Meta, B: Block + Drop> Unwritten<V, M, B> {
         let taken = take_first(rt, alloc, &area, &files);
         let base = Base {
             version: FIRST_VERSION,
-            total: total_of(&taken),
+            total: 0,
         };
         match write_first(alloc, packs, taken) {
             Ok(packs) => Ok(Volume::of(alloc, area, files, packs, spare, base)),
@@ -74,6 +74,7 @@ fn take_first<V: VolumeName, B: Block + Drop, R: Wait>(
 ) -> Result<Taken<B>, Error>
     requires every { vec_len files.now ≡ V.Numbers.geometry.files }
     ensures first { IfOk result (λ taken. taken.image.version ≡ 1) }
+    ensures empty { IfOk result (λ taken. taken.image.total ≡ 0) }
     ensures lawful { IfOk result (λ taken. IsLawful V.Numbers.geometry (image_view taken.image)) }
     ensures error { IfErr result (λ error. (error ≡ NoMemory) ⊎ (error ≡ Device)) }
 {
@@ -81,21 +82,13 @@ fn take_first<V: VolumeName, B: Block + Drop, R: Wait>(
     let (all, taken) = take_volume(rt, alloc, area, files, all, FIRST_VERSION, &[]);
     area.turnstile().scatter(rt, all);
     match taken {
-        Ok(taken) => Ok(taken),
-        Err(Error::NoSpace) => {
-            // Without a file there is no node to write. So this is not reached.
+        Ok(taken) if taken.image().total == 0 => Ok(taken),
+        Ok(_) | Err(Error::NoSpace) => {
+            // Without a file no block is valid, and there is no node to write. So this is not reached.
             for _ in rt.forever() {}
             unreachable!()
         }
         Err(error) => Err(error),
-    }
-}
-
-// How many blocks an image has valid.
-fn total_of<B: Block>(taken: &Result<Taken<B>, Error>) -> u32 {
-    match taken {
-        Ok(taken) => taken.image().total,
-        Err(_) => 0,
     }
 }
 
