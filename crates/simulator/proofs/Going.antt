@@ -5,7 +5,7 @@ use Rattle.std.specs.Io.KnownBytes.{Appends}
 use Rattle.std.proofs.KnownBytes.{Appends-trans}
 use Rattle.std.proofs.lemmas.Bool.{false≢true}
 use Rattle.std.proofs.lemmas.List.{length-drop, take_all}
-use Rattle.device.specs.Parts.{HasSize, IsBlockRun}
+use Rattle.device.specs.Parts.{IsBlockRun}
 use Rattle.file_cells.specs.Pass.{Pass}
 use Rattle.geometry.specs.File.{Block, File}
 use Rattle.geometry.specs.Shape.{block_bytes}
@@ -19,7 +19,9 @@ use Rattle.script.specs.declared.script.Step.{Step}
 use Rattle.script.specs.declared.script.Step.TheVariants.{Command as CommandStep, Part}
 use Rattle.session.specs.Files.{ArePlaced, Files, IsOpened, no_files, open_count, passes_among}
 use Rattle.session.proofs.Placing.{nothing_there}
-use Rattle.simulator.specs.Ending.{LeftScript, LeftSome, WasLeft, WentOn, WentOnWith}
+use Rattle.tables.specs.Grammar.{HasSuper}
+use Rattle.one_image.proofs.Same.{one_geometry}
+use Rattle.simulator.specs.Ending.{AreLeft, LeftScript, LeftSome, WasLeft, WentOn, WentOnWith}
 use Rattle.simulator.specs.Run.{IsHalted, IsRemounted, StepWrites, StepsWrite, WroteSteps, first_opening, format_line, is_remount, mount_line}
 use Rattle.simulator.specs.declared.leaving.Left.{Left}
 use Rattle.simulator.specs.declared.steps.Carried.{Carried}
@@ -85,7 +87,7 @@ module _ {M B L : Type 0} (seen : M → List ℕ) (address_of : B → ℕ) (cont
     pub readers_are : length end.readers ≡ left.carried.readers
     pub halted : IsHalted rest left.run end.readers
     pub left_so : ((left.run ≡ length rest) × WasLeft seen address_of content_of geometry ended left.parts middle now)
-        ⊎ ((left.run < length rest) × HasSize seen address_of content_of geometry left.parts × (now ≡ middle))
+        ⊎ ((left.run < length rest) × AreLeft seen address_of content_of geometry left.parts × (now ≡ middle))
 
   -- on the first volume
   pub begun : (steps : List Step) (geometry : Geometry) (left : Left M B L) (old now : Option (List ℕ))
@@ -114,13 +116,13 @@ module _ {M B L : Type 0} (seen : M → List ℕ) (address_of : B → ℕ) (cont
   run_of_gone steps rest left old now low gone = by_left gone.left_so
     where
       by_left : ((left.run ≡ length rest) × WasLeft seen address_of content_of gone.geometry gone.ended left.parts gone.middle now)
-          ⊎ ((left.run < length rest) × HasSize seen address_of content_of gone.geometry left.parts × (now ≡ gone.middle))
+          ⊎ ((left.run < length rest) × AreLeft seen address_of content_of gone.geometry left.parts × (now ≡ gone.middle))
           → (bytes : ℕ) × IsBlockRun address_of content_of bytes 1 left.parts.blocks.items
       by_left (inl (all, was)) = absurd (omega (arith, low, all))
-      by_left (inr (some, size, same)) = (block_bytes gone.geometry.shape, size.run)
+      by_left (inr (some, parts, same)) = (block_bytes gone.geometry.shape, parts.size.run)
 
   module _ (steps rest : List Step) (left new : Left M B L) (old now last : Option (List ℕ)) (low : left.run < length rest) (gone : Gone steps rest left old now)
-      (went : WentOn seen address_of content_of (drop (left.run + 1) rest) left.carried new now last) where
+      (went : WentOn seen address_of content_of (seen left.parts.meta) (drop (left.run + 1) rest) left.carried new now last) where
     abbrev some : LeftSome seen address_of content_of (drop (left.run + 1) rest) went.geometry went.on.passes (record { mounted = Some went.image.version; carried = left.carried }) new now last
     some = went.on.some
 
@@ -131,9 +133,17 @@ module _ {M B L : Type 0} (seen : M → List ℕ) (address_of : B → ℕ) (cont
     quiet = by_left gone.left_so
       where
         by_left : ((left.run ≡ length rest) × WasLeft seen address_of content_of gone.geometry gone.ended left.parts gone.middle now)
-            ⊎ ((left.run < length rest) × HasSize seen address_of content_of gone.geometry left.parts × (now ≡ gone.middle)) → now ≡ gone.middle
+            ⊎ ((left.run < length rest) × AreLeft seen address_of content_of gone.geometry left.parts × (now ≡ gone.middle)) → now ≡ gone.middle
         by_left (inl (all, was)) = absurd (omega (arith, low, all))
         by_left (inr (less, size, same)) = same
+
+    front : HasSuper gone.geometry (seen left.parts.meta)
+    front = by_left gone.left_so
+      where
+        by_left : ((left.run ≡ length rest) × WasLeft seen address_of content_of gone.geometry gone.ended left.parts gone.middle now)
+            ⊎ ((left.run < length rest) × AreLeft seen address_of content_of gone.geometry left.parts × (now ≡ gone.middle)) → HasSuper gone.geometry (seen left.parts.meta)
+        by_left (inl (all, was)) = absurd (omega (arith, low, all))
+        by_left (inr (less, parts, same)) = parts.front
 
     halt : (step : Step) × (slice_get rest left.run ≡ Some step) × (is_remount step ≡ true) × (open_count gone.end.readers ≡ 0)
     halt = by_halt gone.halted
@@ -150,6 +160,7 @@ module _ {M B L : Type 0} (seen : M → List ℕ) (address_of : B → ℕ) (cont
       image = went.image;
       blocks = went.blocks;
       none_open = halt.3;
+      numbers_are = some.ran.opened.numbers ∙ one_geometry went.geometry gone.geometry (seen left.parts.meta) went.front front ∙ sym gone.numbers;
       lawful = subst (λ g. IsLawful g went.image) (sym some.ran.opened.numbers) went.lawful;
       shown = ap (map pair) some.ran.opened.passes_are ∙ went.on.shown ∙ ap (λ g. files_of g went.image went.blocks) (sym some.ran.opened.numbers);
       placed = some.ran.opened.placed;
@@ -202,7 +213,7 @@ module _ {M B L : Type 0} (seen : M → List ℕ) (address_of : B → ℕ) (cont
   ended steps rest left old now past gone = by_left gone.left_so
     where
       by_left : ((left.run ≡ length rest) × WasLeft seen address_of content_of gone.geometry gone.ended left.parts gone.middle now)
-          ⊎ ((left.run < length rest) × HasSize seen address_of content_of gone.geometry left.parts × (now ≡ gone.middle)) → LeftScript seen address_of content_of steps left.parts old now
+          ⊎ ((left.run < length rest) × AreLeft seen address_of content_of gone.geometry left.parts × (now ≡ gone.middle)) → LeftScript seen address_of content_of steps left.parts old now
       by_left (inl (all, was)) = record {
         geometry = gone.geometry;
         passes = gone.ended;
@@ -224,12 +235,12 @@ pub rest_is : {A : Type 0} (xs : List A) (k : ℕ) → take (length xs - k) (dro
 rest_is xs k = take_all (length xs - k) (drop k xs) (omega (arith, length-drop k xs))
 
 -- what is known of a volume with its image, of a lawful one
-pub went_with : {M B L E : Type 0} (seen : M → List ℕ) (address_of : B → ℕ) (content_of : B → List ℕ) (geometry : Geometry) (image : Image) (blocks : ℕ → Block) (steps : List Step) (carried : Carried)
-    (result : Result (Left M B L) E) (old new : Option (List ℕ)) → IsLawful geometry image
+pub went_with : {M B L E : Type 0} (seen : M → List ℕ) (address_of : B → ℕ) (content_of : B → List ℕ) (geometry : Geometry) (image : Image) (blocks : ℕ → Block) (area : List ℕ) (steps : List Step) (carried : Carried)
+    (result : Result (Left M B L) E) (old new : Option (List ℕ)) → HasSuper geometry area → IsLawful geometry image
     → IfOk result (λ left. WentOnWith seen address_of content_of geometry image blocks steps carried left old new)
-    → IfOk result (λ left. WentOn seen address_of content_of steps carried left old new)
-went_with seen address_of content_of geometry image blocks steps carried (Ok left) old new lawful on = record { geometry = geometry; image = image; blocks = blocks; lawful = lawful; on = on }
-went_with seen address_of content_of geometry image blocks steps carried (Err e) old new lawful on = tt
+    → IfOk result (λ left. WentOn seen address_of content_of area steps carried left old new)
+went_with seen address_of content_of geometry image blocks area steps carried (Ok left) old new front lawful on = record { geometry = geometry; front = front; image = image; blocks = blocks; lawful = lawful; on = on }
+went_with seen address_of content_of geometry image blocks area steps carried (Err e) old new front lawful on = tt
 
 -- a volume of the numbers that its name tells
 pub went_so : {M B L E : Type 0} (seen : M → List ℕ) (address_of : B → ℕ) (content_of : B → List ℕ) (geometry named : Geometry) (image : Image) (blocks : ℕ → Block) (steps : List Step) (carried : Carried)

@@ -17,6 +17,7 @@ use Rattle.script.specs.declared.script.Step.{Step}
 use Rattle.session.specs.Files.{ArePlaced, Files, no_files, passes_among}
 use Rattle.session.specs.Lines.{image_lines, unsynced_line}
 use Rattle.simulator.specs.Run.{RanSome, WroteSteps, format_line}
+use Rattle.tables.specs.Grammar.{HasSuper}
 use Rattle.simulator.specs.declared.leaving.Left.{Left}
 use Rattle.simulator.specs.declared.steps.Carried.{Carried}
 use Rattle.simulator.specs.declared.steps.Opening.{Opening}
@@ -39,6 +40,11 @@ module _ {M B : Type 0} (seen : M → List ℕ) (address_of : B → ℕ) (conten
     pub lawful : IsLawful geometry image
     pub shown : (number : ℕ) (file : File) → Among (number, file) (files_of geometry image (bytes_at content_of parts.blocks.items)) ↔ Among (record { number = number; file = file }) passes
 
+  -- a volume was left as it is: its parts have its size, and its superblock
+  pub record AreLeft (geometry : Geometry) (parts : Parts M B) : Type 0 where
+    pub size : HasSize seen address_of content_of geometry parts
+    pub front : HasSuper geometry (seen parts.meta)
+
   -- a volume was left with these passes: it was closed, and nothing was written; or it was not, which was written
   abbrev pub WasLeft : Geometry → List Pass → Parts M B → Option (List ℕ) → Option (List ℕ) → Type 0
   WasLeft geometry passes parts old new =
@@ -60,7 +66,7 @@ module _ {M B L : Type 0} (seen : M → List ℕ) (address_of : B → ℕ) (cont
     pub middle : Option (List ℕ)
     pub ran : RanSome steps geometry passes opening ended left.run left.carried old middle
     pub left_so : ((left.run ≡ length steps) × WasLeft seen address_of content_of geometry ended left.parts middle new)
-        ⊎ ((left.run < length steps) × HasSize seen address_of content_of geometry left.parts × (new ≡ middle))
+        ⊎ ((left.run < length steps) × AreLeft seen address_of content_of geometry left.parts × (new ≡ middle))
 
   -- the same of a volume that was mounted: its passes showed the files of this image over these blocks
   pub record WentOnWith (geometry : Geometry) (image : Image) (blocks : ℕ → Block) (steps : List Step) (carried : Carried) (left : Left M B L) (old new : Option (List ℕ)) : Type 0 where
@@ -68,9 +74,10 @@ module _ {M B L : Type 0} (seen : M → List ℕ) (address_of : B → ℕ) (cont
     pub shown : map (λ pass. (pass.number, pass.file)) passes ≡ files_of geometry image blocks
     pub some : LeftSome steps geometry passes (record { mounted = Some image.version; carried = carried }) left old new
 
-  -- the same of some lawful image over some blocks
-  pub record WentOn (steps : List Step) (carried : Carried) (left : Left M B L) (old new : Option (List ℕ)) : Type 0 where
+  -- the same of some lawful image over some blocks, of the numbers that this meta area tells
+  pub record WentOn (area : List ℕ) (steps : List Step) (carried : Carried) (left : Left M B L) (old new : Option (List ℕ)) : Type 0 where
     pub geometry : Geometry
+    pub front : HasSuper geometry area
     pub image : Image
     pub blocks : ℕ → Block
     pub lawful : IsLawful geometry image

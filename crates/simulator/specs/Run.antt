@@ -38,12 +38,13 @@ abbrev pub opening_line : Option ℕ → List ℕ
 opening_line None = format_line
 opening_line (Some version) = mount_line version
 
--- A volume was left as it was, and its device mounted again: the files are those of a lawful image over some blocks, of the
--- version that is told. The time goes on, and so do the numbers of readers, of which none is open.
+-- A volume was left as it was, and its device mounted again: it has the same numbers, and the files are those of a lawful image
+-- over some blocks, of the version that is told. The time goes on, and so do the numbers of readers, of which none is open.
 pub record IsRemounted (old new : Files) (line : List ℕ) : Type 0 where
   pub image : Image
   pub blocks : ℕ → Block
   pub none_open : open_count old.readers ≡ 0
+  pub numbers_are : new.geometry ≡ old.geometry
   pub lawful : IsLawful new.geometry image
   pub shown : shown_files new ≡ files_of new.geometry image blocks
   pub placed : ArePlaced new

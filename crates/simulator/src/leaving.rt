@@ -1,10 +1,9 @@
 //! How a script leaves its volume.
 ghost use Rattle.std.specs.Prelude.{◌≡◌, ◌<◌, ◌≤◌, false, length, IfErr, IfOk, OnOk};
 ghost use Rattle.std.specs.Io.KnownBytes.{Appends};
-ghost use Rattle.device.specs.Parts.{HasSize};
 ghost use Rattle.session.specs.Files.{AreInOrder};
 ghost use Rattle.session.specs.Lines.{unsynced_line};
-ghost use Rattle.simulator.specs.Ending.{LeftSome, WasLeft};
+ghost use Rattle.simulator.specs.Ending.{AreLeft, LeftSome, WasLeft};
 ghost use Rattle.simulator.specs.Run.{names_line};
 
 use crate::disk::Faults;
@@ -119,7 +118,7 @@ fn abandon_volume<V: VolumeName, M: Meta + Drop, B: Block + Drop, R: Wait>(
     seats: Vec<Seat<V>>,
     passes: Vec<FilePass<V>>,
 ) -> Result<Parts<M, B>, Stop>
-    ensures size { IfOk result (λ parts. HasSize M.seen B.address_of B.content_of V.Numbers.geometry parts) }
+    ensures left { IfOk result (λ parts. AreLeft M.seen B.address_of B.content_of V.Numbers.geometry parts) }
     ensures err { IfErr result (λ stop. names_line stop ≡ false) }
 {
     match volume.abandon(rt, seats, passes) {

@@ -43,7 +43,7 @@ pub fn run_mounted<
 where
     B::Lease: Send,
     requires run { (bytes : ℕ) × IsBlockRun B.address_of B.content_of bytes 1 parts.blocks.items }
-    ensures done { IfOk result (λ left. WentOn M.seen B.address_of B.content_of steps.now carried left (O.contents out.old) (O.contents out.new)) }
+    ensures done { IfOk result (λ left. WentOn M.seen B.address_of B.content_of (M.seen parts.meta) steps.now carried left (O.contents out.old) (O.contents out.new)) }
     ensures err { IfErr result (λ stop. names_line stop ≡ false) }
 {
     match mount(alloc, parts) {

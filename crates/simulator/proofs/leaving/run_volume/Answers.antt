@@ -1,6 +1,5 @@
 use Rattle.std.proofs.Common.{ap, sym, subst, inl, inr}
-use Rattle.device.specs.Parts.{HasSize}
-use Rattle.simulator.specs.Ending.{WasLeft}
+use Rattle.simulator.specs.Ending.{AreLeft, WasLeft}
 use Rattle.simulator.proofs.Going.{halted_low}
 use Rattle.simulator.proofs.leaving.run_volume.Goals.{then-run-steps+in_ok-parts-in-Ok, else-run-steps+in_ok-parts-in-Ok-2}
 use Rattle.simulator.proofs.leaving.run_volume.Goals as goal
@@ -26,7 +25,7 @@ returns-after-run-steps-clause-done g c =
         )
         | else-run-steps+in_ok-parts-in-Ok-2 w ↦ inr (
           halted_low c.args.steps.now c.in-Ok.halt.run c.in-Ok.ensures.done.end.readers c.in-Ok.ensures.done.halted w.if-run-steps.false,
-          subst (HasSize seen address_of content_of geometry) (sym w.parts-is) w.in_ok-parts-in-Ok-2.ensures.size,
+          subst (AreLeft seen address_of content_of geometry) (sym w.parts-is) w.in_ok-parts-in-Ok-2.ensures.left,
           ap contents w.out-is,
         )
       ];

@@ -24,7 +24,7 @@ loop-left-preserved g c =
     let same = rest_is rest (left.run + 1) in
     subst (λ steps. Gone seen address_of content_of c.args.steps.now steps c.in_ok-left-2.left (contents c.args.out.now) (contents c.run_mounted.new.out)) (sym same)
     (went_on seen address_of content_of c.args.steps.now rest left c.in_ok-left-2.left (contents c.args.out.now) (contents c.loop-left.out) (contents c.run_mounted.new.out) c.loop-left-test.true c.loop-left.invariant
-    (subst (λ steps. WentOn seen address_of content_of steps left.carried c.in_ok-left-2.left (contents c.loop-left.out) (contents c.run_mounted.new.out)) same c.in_ok-left-2.ensures.done))
+    (subst (λ steps. WentOn seen address_of content_of (seen left.parts.meta) steps left.carried c.in_ok-left-2.left (contents c.loop-left.out) (contents c.run_mounted.new.out)) same c.in_ok-left-2.ensures.done))
 
 pub returns-clause-done : goal.returns-clause-done
 returns-clause-done g c =
