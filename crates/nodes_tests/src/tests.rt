@@ -20,6 +20,7 @@ use std::process::Abort;
 use std::test::*;
 use tickets::{NidToken, Ticket};
 
+mod kernel;
 mod marks;
 
 // One segment that has all blocks.
@@ -450,52 +451,3 @@ fn spare_nodes_leave_no_mark(rt: HostRuntime) {
 }
 
 // The kernel's shape: paths of no, one, two and three nodes.
-#[test]
-fn paths_of_the_kernel(rt: HostRuntime) {
-    let Opened {
-        books,
-        mut segment,
-        mut shard,
-        mut permit,
-        mut file,
-    } = open_file(&rt, rt.alloc(), Shape::Kernel, Kind::Media);
-    let inode = grow(
-        &rt,
-        rt.alloc(),
-        &books,
-        &mut shard,
-        &mut permit,
-        &mut file,
-        922,
-    );
-    let direct = grow(
-        &rt,
-        rt.alloc(),
-        &books,
-        &mut shard,
-        &mut permit,
-        &mut file,
-        923,
-    );
-    let indirect = grow(
-        &rt,
-        rt.alloc(),
-        &books,
-        &mut shard,
-        &mut permit,
-        &mut file,
-        2_959,
-    );
-    let double = grow(
-        &rt,
-        rt.alloc(),
-        &books,
-        &mut shard,
-        &mut permit,
-        &mut file,
-        1_057_053_438,
-    );
-    assert_eq!(rt; (inode, direct, indirect, double), (0, 1, 2, 3));
-    let spent = delete(&rt, &books, &mut segment, &mut shard, &mut permit, file);
-    assert_eq!(rt; spent, (0, 6));
-}
