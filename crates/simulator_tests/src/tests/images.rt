@@ -1,4 +1,5 @@
 //! The lines that are told of image files built by hand, and of what a few changes make of them.
+use sample_images::{Changes, FILE_BYTES, base_file, change, empty_file};
 use simulator::status::{DONE, FAILED, REFUSED};
 use simulator::{check_image, tell_files};
 use std::alloc::{AllocError, Global};
@@ -6,88 +7,6 @@ use std::io;
 use std::io::Read;
 use std::sync::Wait;
 use std::test::Fail;
-
-// Places of a file, and the bytes that stand there.
-pub(super) type Changes<'a> = &'a [(usize, u8)];
-
-// The superblock of 32 tiny segments, one a section, with 4 files and 64 node numbers.
-const SUPERBLOCK: [u8; 32] = [
-    0x46, 0x32, 0x53, 0x45, 0x47, 0x30, 0x30, 0x31, 1, 0, 0, 0, 0, 0, 0, 0, 0x20, 0, 0, 0, 1, 0, 0,
-    0, 4, 0, 0, 0, 0x40, 0, 0, 0,
-];
-
-const FILE_BYTES: usize = 22_520;
-
-// Version 1 of an empty volume, in slot 1: log k appends to segment k.
-const EMPTY: [(usize, u8); 7] = [
-    (3_100, 1),
-    (3_116, 1),
-    (3_124, 2),
-    (3_132, 3),
-    (3_140, 4),
-    (3_148, 5),
-    (6_132, 1),
-];
-
-// Version 2 beside it, in slot 0: file 1 has two blocks, at addresses 33 and 34, and its inode stands at address 9.
-const TWO_BLOCKS: [(usize, u8); 29] = [
-    (64, 2),
-    (68, 3),
-    (80, 1),
-    (84, 1),
-    (88, 2),
-    (96, 3),
-    (104, 4),
-    (108, 2),
-    (112, 5),
-    (120, 1),
-    (124, 9),
-    (645, 1),
-    (657, 1),
-    (684, 2),
-    (696, 3),
-    (1_112, 1),
-    (1_116, 0xff),
-    (1_117, 0xff),
-    (1_118, 0xff),
-    (1_119, 0xff),
-    (1_304, 1),
-    (1_312, 1),
-    (1_316, 1),
-    (3_096, 2),
-    (6_648, 2),
-    (6_656, 0x21),
-    (6_660, 0x22),
-    (6_688, 1),
-    (6_692, 1),
-];
-
-pub(super) fn change(file: &mut [u8], changes: Changes) {
-    for (place, byte) in changes {
-        if *place < file.len() {
-            file[*place] = *byte;
-        }
-    }
-}
-
-fn empty_file(alloc: Global) -> Result<Vec<u8>, AllocError> {
-    let mut file = Vec::from_slice(alloc, &SUPERBLOCK)?;
-    file.resize(FILE_BYTES, 0)?;
-    change(file.as_mut_slice(), &EMPTY);
-    Ok(file)
-}
-
-pub(super) fn base_file(alloc: Global) -> Result<Vec<u8>, AllocError> {
-    let mut file = empty_file(alloc)?;
-    change(file.as_mut_slice(), &TWO_BLOCKS);
-    for byte in file.as_mut_slice().iter_mut().skip(8_184).take(64) {
-        *byte = 0x41;
-    }
-    for byte in file.as_mut_slice().iter_mut().skip(8_248).take(64) {
-        *byte = 0x42;
-    }
-    Ok(file)
-}
 
 // What is told of the base file after some changes, and the exit status.
 fn told_after(alloc: Global, changes: Changes) -> Result<(Vec<u8>, u8), AllocError> {

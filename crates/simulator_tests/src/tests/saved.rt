@@ -1,5 +1,6 @@
 //! What is put aside is a device that is mounted to the same files.
-use super::images::{base_file, change, files_told, told};
+use super::images::{files_told, told};
+use sample_images::{base_file, change};
 use simulator::run_script;
 use simulator::status::{DONE, REFUSED};
 use std::alloc::Global;
