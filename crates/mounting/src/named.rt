@@ -123,13 +123,7 @@ impl<L: BooksName, W: WordsName, N: GeometryName, M: Meta, B: Block + Drop> Moun
         );
         stock.end();
         area.turnstile().scatter(rt, all);
-        let packs = PacksCell {
-            packs,
-            wounded: false,
-            checkpoint,
-            pass,
-            kept,
-        };
+        let packs = PacksCell::of(packs, checkpoint, pass, kept);
         let spare = SpareCell {
             rows: spare.with_blocks(blocks),
             accounts: spare_accounts,

@@ -1,6 +1,7 @@
 //! What stands in a new meta area before its first pack.
 ghost use Rattle.std.specs.Prelude.{◌≡◌, ◌≤◌, length, OnOk};
 ghost use Rattle.geometry.specs.Area.{meta_bytes};
+ghost use Rattle.device.specs.Disk.{HasCause};
 ghost use Rattle.tables.specs.Grammar.{HasSuper};
 
 use device::{DeviceError, Meta};
@@ -16,6 +17,7 @@ pub(crate) fn write_front<M: Meta>(meta: &mut M, geometry: &Geometry) -> Result<
     requires size { length (M.seen meta.old) ≡ meta_bytes geometry.now }
     ensures front { OnOk result (HasSuper geometry.now (M.seen meta.new)) }
     ensures size { length (M.seen meta.new) ≡ length (M.seen meta.old) }
+    ensures cause { HasCause (M.failed meta.old) (M.failed meta.new) result }
 {
     write_zeros(meta)?;
     let mut front = [0u8; 64];
@@ -25,7 +27,8 @@ pub(crate) fn write_front<M: Meta>(meta: &mut M, geometry: &Geometry) -> Result<
 }
 
 fn write_zeros<M: Meta>(meta: &mut M) -> Result<(), DeviceError>
-    ensures { length (M.seen meta.new) ≡ length (M.seen meta.old) }
+    ensures size { length (M.seen meta.new) ≡ length (M.seen meta.old) }
+    ensures cause { HasCause (M.failed meta.old) (M.failed meta.new) result }
 {
     let zeros = [0u8; CHUNK as usize];
     let len = meta.len();

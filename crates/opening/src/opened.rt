@@ -1,5 +1,5 @@
 //! A volume whose queues have no name yet.
-ghost use Rattle.std.specs.Prelude.{◌≡◌, ◌⊎◌, vec_len, IfOk, IfErr};
+ghost use Rattle.std.specs.Prelude.{◌≡◌, ◌<◌, ◌⊎◌, vec_len, IfOk, IfErr};
 ghost use Rattle.device.specs.Parts.{HasSize};
 ghost use Rattle.geometry.specs.declared.error.Error.TheVariants.{NoMemory, Device};
 
@@ -10,7 +10,7 @@ use crate::unwritten::Unwritten;
 use device::{Block, Meta, Parts};
 use geometry::Error;
 use names::{BooksName, GeometryName, Named, PoolName, TurnName, WordsName};
-use shared_volume::{PacksCell, Seat, SpareCell, Volume, name_seats};
+use shared_volume::{BlankPacks, Seat, SpareCell, Volume, name_seats};
 use std::alloc::Global;
 use std::marker::PhantomData;
 use std::sync::Wait;
@@ -39,9 +39,10 @@ pub struct Opened<L: BooksName, W: WordsName, N: GeometryName, M: Meta, B: Block
 
 impl<L: BooksName, W: WordsName, N: GeometryName, M: Meta, B: Block + Drop> Opened<L, W, N, M, B> {
     /// The volume under all its names, and the seats of its readers. Segments 0 to 5 are open, one for each log, and the others
-    /// are free. Its first pack is written, of version 1.
+    /// are free. Its first pack is written, of version 1, with an image in which no block is valid.
     ///
-    /// Answers NoMemory where a growth was refused, and Device where the device failed, and hands parts of the same size back.
+    /// Answers NoMemory where a growth was refused, and Device only where the meta area counted a failure, and hands parts of the
+    /// same size back.
     pub fn name<P: PoolName, T: TurnName, R: Wait>(
         self,
         rt: &R,
@@ -57,9 +58,10 @@ impl<L: BooksName, W: WordsName, N: GeometryName, M: Meta, B: Block + Drop> Open
         requires turns { self.channel.turns ≡ T.turns }
         requires key { self.channel.key ≡ T.key }
         ensures seats { IfOk result (λ opened. vec_len opened.1 ≡ 64) }
-        ensures base { IfOk result (λ opened. opened.0.base.version ≡ 1) }
+        ensures base { IfOk result (λ opened. opened.0.base ≡ record { version = 1; total = 0 }) }
         ensures back { IfErr result (λ fault. HasSize M.seen B.address_of B.content_of N.geometry fault.parts) }
         ensures error { IfErr result (λ fault. (fault.error ≡ NoMemory) ⊎ (fault.error ≡ Device)) }
+        ensures device { IfErr result (λ fault. fault.error ≡ Device → M.failed self.named.parts.meta < M.failed fault.parts.meta) }
     {
         let Opened {
             named,
@@ -128,7 +130,13 @@ impl<L: BooksName, W: WordsName, N: GeometryName, M: Meta, B: Block + Drop> Open
         let unwritten = Unwritten {
             area,
             files,
-            packs: PacksCell::blank(meta, geometry, checkpoint, pass, kept),
+            packs: BlankPacks {
+                meta,
+                geometry,
+                checkpoint,
+                pass,
+                kept,
+            },
             spare: SpareCell {
                 rows: spare.with_blocks(blocks),
                 accounts,

@@ -9,7 +9,7 @@ ghost use Rattle.final_checkpoint.specs.Refused.{IsNotWritten};
 ghost use Rattle.shared_volume.specs.Leaving.{IsLeftOut};
 
 use crate::cells::SpareCell;
-use crate::leaving::{CloseFault, into_meta};
+use crate::leaving::CloseFault;
 use crate::volume::Volume;
 use device::{Block, Meta, Parts};
 use final_checkpoint::{FilePass, Last, close_area, write_last};
@@ -72,7 +72,7 @@ impl<V: VolumeName, M: Meta, B: Block + Drop> Volume<V, M, B> {
                 let Last { all, files, image } = last;
                 let SpareCell { rows, accounts } = spare.into_inner();
                 let blocks = close_area(rt, area, rows, all, files, accounts, passes, &image);
-                let meta = into_meta(packs);
+                let meta = packs.into_meta();
                 let parts = Parts { meta, blocks };
                 Ok(Closed { parts, image })
             }

@@ -1,25 +1,25 @@
 //! How a volume is left.
 ghost use Rattle.std.specs.Prelude.{◌≡◌, ◌≤◌, length, vec_len, vec_capacity, IfOk, IfErr, IfSome};
-ghost use Rattle.geometry.specs.Area.{meta_bytes};
-ghost use Rattle.device.specs.Parts.{HasSize};
+ghost use Rattle.geometry.specs.Area.{block_count};
+ghost use Rattle.geometry.specs.Shape.{block_bytes};
+ghost use Rattle.device.specs.Disk.{Leaves};
+ghost use Rattle.device.specs.Parts.{HasSize, IsBlockRun};
 ghost use Rattle.emptying.specs.Rows.{HaveNothing};
 ghost use Rattle.turnstile.specs.Turns.{at_home};
+ghost use Rattle.volume_packs.specs.Standing.{HasVolume};
 ghost use Rattle.shared_volume.specs.Leaving.{IsLeftOut};
 
 use crate::cells::SpareCell;
 use crate::volume::Volume;
 use books::{FileAccount, Permit};
-use checkpoint::ImagePacks;
 use device::{Block, Meta, Parts};
 use emptying::empty_area;
 use final_checkpoint::{FileCell, FilePass, own_file};
 use geometry::Error;
 use names::VolumeName;
-use packs::Packs;
 use readers::{Seat, seats_out};
 use shared_area::MainArea;
 use std::sync::{Mutex, Wait};
-use volume_packs::PacksCell;
 
 /// Why a volume was not left, with all that was handed in.
 pub struct CloseFault<V: VolumeName, M: Meta, B: Block + Drop> {
@@ -30,8 +30,9 @@ pub struct CloseFault<V: VolumeName, M: Meta, B: Block + Drop> {
 }
 
 impl<V: VolumeName, M: Meta, B: Block + Drop> Volume<V, M, B> {
-    /// Leaves the volume, and writes nothing: the parts of the device, whose blocks hold what was written last. It serves a
-    /// wounded volume too, and takes no memory.
+    /// Leaves the volume, and writes nothing: the parts of the device, whose blocks hold what was written last. Whatever a crash
+    /// leaves of the meta area has the superblock of the volume's numbers, and a pack that counts. It serves a wounded volume
+    /// too, and takes no memory.
     ///
     /// Answers PassesOut where fewer passes are handed in than there are files, with how many are missing, and then SeatsOut
     /// where fewer seats are handed in than the 64 of the volume; then all is handed back.
@@ -42,6 +43,7 @@ impl<V: VolumeName, M: Meta, B: Block + Drop> Volume<V, M, B> {
         passes: Vec<FilePass<V>>,
     ) -> Result<Parts<M, B>, CloseFault<V, M, B>>
         ensures size { IfOk result (λ parts. HasSize M.seen B.address_of B.content_of V.Numbers.geometry parts) }
+        ensures counts { IfOk result (λ parts. Leaves M.may_leave parts.meta (HasVolume V.Numbers.geometry)) }
         ensures complete { IfOk result (λ parts. 64 ≤ vec_len seats) }
         ensures volume { IfErr result (λ fault. fault.volume ≡ self) }
         ensures seats { IfErr result (λ fault. fault.seats.items ≡ seats.items) }
@@ -91,9 +93,11 @@ impl<V: VolumeName, M: Meta, B: Block + Drop> Volume<V, M, B> {
     }
 
     /// Ends the volume as a power cut would, with no seat and no pass asked for, and writes nothing: the parts of the device,
-    /// whose blocks hold what was written last. For who has lost a pass, or gives a volume up after an error. It takes no memory.
+    /// whose blocks hold what was written last, and whose meta area has a pack that counts, as of `abandon`. For who has lost a
+    /// pass, or gives a volume up after an error. It takes no memory.
     pub fn discard<R: Wait>(self, rt: &R) -> Parts<M, B>
-        ensures { HasSize M.seen B.address_of B.content_of V.Numbers.geometry result }
+        ensures size { HasSize M.seen B.address_of B.content_of V.Numbers.geometry result }
+        ensures counts { Leaves M.may_leave result.meta (HasVolume V.Numbers.geometry) }
     {
         let Volume {
             alloc: _,
@@ -104,41 +108,29 @@ impl<V: VolumeName, M: Meta, B: Block + Drop> Volume<V, M, B> {
             spare,
             base: _,
         } = self;
-        let SpareCell { rows, accounts } = spare.into_inner();
-        let meta = into_meta(packs.into_inner());
-        let mut permit = area.turnstile().enter(rt);
-        let accounts = give_up_files(rt, &area, &mut permit.hand, files, accounts);
-        area.turnstile().leave(rt, permit);
-        Parts {
-            meta,
-            blocks: empty_area(rt, area, rows, accounts),
-        }
+        let meta = packs.into_inner().into_meta();
+        let blocks = empty_files(rt, area, files, spare.into_inner());
+        Parts { meta, blocks }
     }
 }
 
-// The meta area of packs.
-pub(crate) fn into_meta<V: VolumeName, M: Meta>(packs: PacksCell<V, M>) -> M
-    ensures meta { result ≡ packs.packs.area.meta }
-    ensures size { length (M.seen result) ≡ meta_bytes V.Numbers.geometry }
+/// The blocks of a main area, in the order of their addresses, once all that its files have in memory was given up. It takes no
+/// memory.
+pub fn empty_files<V: VolumeName, B: Block + Drop, R: Wait>(
+    rt: &R,
+    area: MainArea<V, B>,
+    files: Vec<Mutex<FileCell<V, B>>>,
+    spare: SpareCell<V, B>,
+) -> Vec<B>
+    requires every { vec_len files ≡ V.Numbers.geometry.files }
+    ensures run { IsBlockRun B.address_of B.content_of (block_bytes V.Numbers.geometry.shape) 1 result.items }
+    ensures count { vec_len result ≡ block_count V.Numbers.geometry }
 {
-    let PacksCell {
-        packs,
-        wounded: _,
-        checkpoint: _,
-        pass: _,
-        mut kept,
-    } = packs;
-    'kept: while let Some(slip) = kept.pop() {
-        slip.store();
-    }
-    kept.destroy_empty();
-    let ImagePacks { area, geometry: _ } = packs;
-    let Packs {
-        meta,
-        len: _,
-        version: _,
-    } = area;
-    meta
+    let SpareCell { rows, accounts } = spare;
+    let mut permit = area.turnstile().enter(rt);
+    let accounts = give_up_files(rt, &area, &mut permit.hand, files, accounts);
+    area.turnstile().leave(rt, permit);
+    empty_area(rt, area, rows, accounts)
 }
 
 // All that the files have is given back: their accounts, which have lodged nothing, in the order of their numbers. There is

@@ -78,8 +78,8 @@ impl<V: VolumeName, M: Meta, B: Block + Drop> Volume<V, M, B> {
         self.area.geometry()
     }
 
-    /// Locks the file of this inode number.
-    pub fn lock_file<R: Wait>(&self, rt: &R, number: u32) -> MutexGuard<'_, FileCell<V, B>>
+    // Locks the file of this inode number.
+    pub(crate) fn lock_file<R: Wait>(&self, rt: &R, number: u32) -> MutexGuard<'_, FileCell<V, B>>
         requires some { 0 < number }
         requires within { number ≤ V.Numbers.geometry.files }
         ensures { (mutex_guard_value result).number ≡ number }
@@ -99,8 +99,8 @@ impl<V: VolumeName, M: Meta, B: Block + Drop> Volume<V, M, B> {
         self.wounded.load(Ordering::SeqCst)
     }
 
-    /// From now on nothing is changed, until the device is mounted again.
-    pub fn wound(&self) {
+    // From now on nothing is changed, until the device is mounted again.
+    pub(crate) fn wound(&self) {
         self.wounded.store(true, Ordering::SeqCst);
     }
 

@@ -7,11 +7,14 @@ ghost use Rattle.image.specs.View.{image_view};
 ghost use Rattle.checkpoint.specs.Holding.{AreWhole, HoldsTables};
 ghost use Rattle.device.specs.Disk.{Leaves};
 ghost use Rattle.tables.specs.Grammar.{HasSuper};
+ghost use Rattle.volume_packs.specs.Standing.{HasVolume};
 
+use crate::slips::end_slips;
 use checkpoint::{ImagePacks, Stored, Taken};
 use device::{Block, Meta};
 use geometry::Error;
 use names::VolumeName;
+use packs::Packs;
 use pool::PoolPass;
 use std::alloc::Global;
 use words::{CheckpointSeat, FreeSlip, Words};
@@ -19,8 +22,8 @@ use words::{CheckpointSeat, FreeSlip, Words};
 /// What a checkpoint needs: the two packs of the meta area, the right to advance the version, and with what it gives free
 /// segments back.
 ///
-/// Until a pack write fails the packs are whole: whatever crash comes leaves the one that counts. Its version is complete, and
-/// the superblock spells the volume's numbers.
+/// Whatever crash comes leaves the superblock of the volume's numbers and a pack that counts. Until a pack write fails the
+/// packs are whole: it is always the same pack, and its version is complete.
 pub struct PacksCell<V: VolumeName, M: Meta> {
     /// The packs.
     pub packs: ImagePacks<M>,
@@ -36,13 +39,41 @@ pub struct PacksCell<V: VolumeName, M: Meta> {
     pub ghost numbers: { packs.geometry ≡ V.Numbers.geometry },
     pub ghost of_words: { checkpoint.table ≡ V.Words.words },
     pub ghost whole: { wounded ≡ false → AreWhole M.seen M.may_leave packs },
-    pub ghost front: { wounded ≡ false → HasSuper V.Numbers.geometry (M.seen packs.area.meta) },
+    pub ghost front: { HasSuper V.Numbers.geometry (M.seen packs.area.meta) },
+    pub ghost counts: { Leaves M.may_leave packs.area.meta (HasVolume V.Numbers.geometry) },
     pub ghost complete: { wounded ≡ false → checkpoint.version ≡ packs.area.version },
     pub ghost slips: { All (λ slip. (slip.table ≡ V.Words.words) × (slip.segment < V.Numbers.geometry.segments)) kept.items },
     pub ghost room: { V.Numbers.geometry.segments ≤ vec_capacity kept },
 }
 
 impl<V: VolumeName, M: Meta> PacksCell<V, M> {
+    /// What a checkpoint needs of a volume whose packs are whole.
+    pub fn of(
+        packs: ImagePacks<M>,
+        checkpoint: CheckpointSeat,
+        pass: PoolPass<V::Words, V::Pool>,
+        kept: Vec<FreeSlip>,
+    ) -> PacksCell<V, M>
+        requires size { length (M.seen packs.area.meta) ≡ meta_bytes V.Numbers.geometry }
+        requires numbers { packs.geometry ≡ V.Numbers.geometry }
+        requires words { checkpoint.table ≡ V.Words.words }
+        requires whole { AreWhole M.seen M.may_leave packs }
+        requires front { HasSuper V.Numbers.geometry (M.seen packs.area.meta) }
+        requires complete { checkpoint.version ≡ packs.area.version }
+        requires slips { All (λ slip. (slip.table ≡ V.Words.words) × (slip.segment < V.Numbers.geometry.segments)) kept.items }
+        requires room { V.Numbers.geometry.segments ≤ vec_capacity kept }
+        ensures packs { result.packs ≡ packs }
+        ensures sound { result.wounded ≡ false }
+    {
+        PacksCell {
+            packs,
+            wounded: false,
+            checkpoint,
+            pass,
+            kept,
+        }
+    }
+
     /// The version of the next pack.
     ///
     /// Answers Wounded where a pack write failed, and Exhausted where the version is the largest that there is.
@@ -94,5 +125,28 @@ impl<V: VolumeName, M: Meta> PacksCell<V, M> {
                 Err(error)
             }
         }
+    }
+
+    /// The meta area alone.
+    pub fn into_meta(self) -> M
+        ensures meta { result ≡ self.packs.area.meta }
+        ensures size { length (M.seen result) ≡ meta_bytes V.Numbers.geometry }
+        ensures counts { Leaves M.may_leave result (HasVolume V.Numbers.geometry) }
+    {
+        let PacksCell {
+            packs,
+            wounded: _,
+            checkpoint: _,
+            pass: _,
+            kept,
+        } = self;
+        end_slips(kept);
+        let ImagePacks { area, geometry: _ } = packs;
+        let Packs {
+            meta,
+            len: _,
+            version: _,
+        } = area;
+        meta
     }
 }

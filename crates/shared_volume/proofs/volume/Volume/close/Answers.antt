@@ -12,7 +12,7 @@ returns-in-Ok-clause-mountable g c =
     let sound = c.in-Ok.ensures.sound in
     let meta = c.into_meta-meta.ensures.meta in
     let image = image_view c.in-Ok.last.image in
-    let front : Leaves g.M.Meta.may_leave packs.packs.area.meta (HasSuper geometry) = λ left there. ((packs.whole sound).settled.left left there).same.front ∙ packs.front sound in
+    let front : Leaves g.M.Meta.may_leave packs.packs.area.meta (HasSuper geometry) = λ left there. ((packs.whole sound).settled.left left there).same.front ∙ packs.front in
     record {
       size = record { area = c.into_meta-meta.ensures.size; count = sym c.close_area-blocks.result.ok.0 ∙ c.close_area-blocks.ensures.count; run = c.close_area-blocks.ensures.run };
       front = subst (λ m. Leaves g.M.Meta.may_leave m (HasSuper geometry)) (sym meta) front;
