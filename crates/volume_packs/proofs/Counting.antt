@@ -1,5 +1,5 @@
 -- Whatever a crash leaves of a volume's meta area, a pack counts.
-use Rattle.std.proofs.Common.{◌≡◌, ℕ, ◌≤◌, List, Some, ⊎_elim, ap, subst, ◌∙◌}
+use Rattle.std.proofs.Common.{◌≡◌, ◌≢◌, ℕ, ◌≤◌, List, Some, None, ⊎_elim, ap, sym, subst, ◌∙◌}
 use Rattle.geometry.specs.declared.geometry.Geometry.{Geometry}
 use Rattle.device.specs.Disk.{Leaves, LeavesOnly}
 use Rattle.image.proofs.Picking.{settled_picks, between_picks}
@@ -12,6 +12,9 @@ use Rattle.checkpoint.specs.declared.image_packs.ImagePacks.{ImagePacks}
 use Rattle.volume_packs.specs.Standing.{HasVolume}
 
 module _ {D : Type 0} (seen : D → List ℕ) (may_leave : D → List ℕ → Type 0) (geometry : Geometry) where
+  picks_one : (area body : List ℕ) → picked (reading_of (body_bytes geometry)) area ≡ Some body → picked (reading_of (body_bytes geometry)) area ≢ None
+  picks_one area body is none = let no : Some body ≡ None = sym is ∙ none in cc
+
   -- of packs that are whole
   pub whole_counts : (packs : ImagePacks D) → AreWhole seen may_leave packs → packs.geometry ≡ geometry → HasSuper geometry (seen packs.area.meta)
       → Leaves may_leave packs.area.meta (HasVolume geometry)
@@ -21,8 +24,7 @@ module _ {D : Type 0} (seen : D → List ℕ) (may_leave : D → List ℕ → Ty
       let size : packs.area.len ≡ body_bytes geometry = whole.size ∙ ap body_bytes same in
       record {
         front = kept.same.front ∙ front;
-        body = old;
-        counts = subst (λ n. picked (reading_of n) c ≡ Some old) size (settled_picks (slots_in (reading_of packs.area.len) c) old kept.packs);
+        counts = picks_one c old (subst (λ n. picked (reading_of n) c ≡ Some old) size (settled_picks (slots_in (reading_of packs.area.len) c) old kept.packs));
       }
 
   -- of packs that a write left between two
@@ -36,7 +38,6 @@ module _ {D : Type 0} (seen : D → List ℕ) (may_leave : D → List ℕ → Ty
       let size : packs.area.len ≡ body_bytes geometry = whole.size ∙ ap body_bytes same in
       let counts : (body : List ℕ) → picked (reading_of packs.area.len) c ≡ Some body → HasVolume geometry c = λ body is. record {
         front = kept.same.front ∙ front;
-        body = body;
-        counts = subst (λ n. picked (reading_of n) c ≡ Some body) size is;
+        counts = picks_one c body (subst (λ n. picked (reading_of n) c ≡ Some body) size is);
       } in
       ⊎_elim (counts old) (counts new) (between_picks (slots_in (reading_of packs.area.len) c) old new kept.packs)

@@ -2,4 +2,4 @@ use Rattle.std.proofs.Common.{vec_len}
 use Rattle.volume_packs.proofs.slips.end_slips.Given as goal
 
 abbrev pub decreases-kept : goal.decreases-kept
-decreases-kept g l = vec_len l.kept
+decreases-kept l = vec_len l.kept

@@ -1,9 +1,12 @@
-use Rattle.std.proofs.Common.{◌≡◌, ◌+◌, ◌<◌, ◌^◌, ap, sym, subst, ◌∙◌, arith}
+use Rattle.std.proofs.Common.{◌≡◌, ◌+◌, ◌<◌, ◌^◌, true, false, ap, sym, subst, ◌∙◌, arith}
 use Rattle.geometry.specs.declared.geometry.Geometry.{Geometry}
 use Rattle.device.specs.Disk.{Leaves}
+use Rattle.image.specs.Pack.{pack_body}
 use Rattle.image.specs.View.{image_view}
-use Rattle.checkpoint.specs.Holding.{HoldsTables}
+use Rattle.checkpoint.specs.Holding.{AreWhole, HoldsTables}
+use Rattle.volume_packs.proofs.Counting.{between_counts, whole_counts}
 use Rattle.volume_packs.proofs.Versions.{version_is}
+use Rattle.volume_packs.specs.Standing.{HasVolume}
 use Rattle.volume_packs.proofs.cell.PacksCell.store.Goals as goal
 
 pub invariant_of-self : goal.invariant_of-self
@@ -21,8 +24,45 @@ invariant_of-self g c =
       numbers = done.geometry ∙ old.numbers;
       of_words = c.advance.ensures.0 ∙ old.of_words;
       whole = λ sound. done.whole;
-      front = λ sound. done.same.front ∙ old.front sound;
+      front = done.same.front ∙ old.front;
+      counts = whole_counts g.M.Meta.seen g.M.Meta.may_leave g.V.Numbers.GeometryName.geometry new done.whole (done.geometry ∙ old.numbers) (done.same.front ∙ old.front);
       complete = λ sound. c.advance.ensures.1 ∙ (ap (λ n. n + 1) (old.complete sound) ∙ sym (version ∙ (same ∙ c.requires.next)));
+      slips = old.slips;
+      room = old.room;
+    }
+
+pub invariant_of-self-in-Err-NoMemory : goal.invariant_of-self-in-Err-NoMemory
+invariant_of-self-in-Err-NoMemory g c =
+    let old = c.args.self.now in
+    let done = c.in-Err-NoMemory.ensures in
+    let same : c.write.new.self ≡ old.packs = done.memory c.in-Err-NoMemory.field-0-is in
+    record {
+      size = done.same.long ∙ old.size;
+      numbers = done.geometry ∙ old.numbers;
+      of_words = old.of_words;
+      whole = λ sound. subst (λ p. AreWhole g.M.Meta.seen g.M.Meta.may_leave p) (sym same) (old.whole sound);
+      front = done.same.front ∙ old.front;
+      counts = subst (λ p. Leaves g.M.Meta.may_leave p.area.meta (HasVolume g.V.Numbers.GeometryName.geometry)) (sym same) old.counts;
+      complete = λ sound. old.complete sound ∙ ap (λ p. p.area.version) (sym same);
+      slips = old.slips;
+      room = old.room;
+    }
+
+pub invariant_of-self-in-Err : goal.invariant_of-self-in-Err
+invariant_of-self-in-Err g c =
+    let old = c.args.self.now in
+    let done = c.in-Err.ensures in
+    let meta = g.M.Meta in
+    let image = image_view c.args.taken.image in
+    record {
+      size = done.same.long ∙ old.size;
+      numbers = done.geometry ∙ old.numbers;
+      of_words = old.of_words;
+      whole = λ sound. absurd (let no : true ≡ false = sound in cc);
+      front = done.same.front ∙ old.front;
+      counts = between_counts meta.seen meta.may_leave g.V.Numbers.GeometryName.geometry meta.moment meta.left_since g.met.M.Meta.counts_now old.packs c.write.new.self.area.meta
+          (pack_body old.packs.geometry.shape image) (old.whole c.requires.sound) old.numbers old.front done.any_moment;
+      complete = λ sound. absurd (let no : true ≡ false = sound in cc);
       slips = old.slips;
       room = old.room;
     }
