@@ -72,12 +72,13 @@ impl<'a, V: VolumeName> Job for Writer<'a, V> {
 
     // Writes the blocks again, in no order, and tells how many calls did.
     fn run<R: Wait>(mut self, rt: &R) -> io::Result<u32> {
-        let calls = self.size.calls;
+        let size = self.size;
         let mut done = 0;
         let mut state = 1;
-        for _call in 0..calls {
+        for _call in 0..size.calls {
             state = next(state);
-            if self.write(rt, place_of(state, self.size.blocks)).is_ok() {
+            let place = place_of(state, size.blocks);
+            if self.write(rt, place).is_ok() {
                 done += 1;
             }
         }
