@@ -116,17 +116,37 @@ fn run_step<V: VolumeName, M: Meta, B: Block + Drop, R: Wait + Abort>(
         }
         Step::SyncTwice(place) => {
             assert!(rt; place < passes.len());
-            let _stored = volume.sync(rt, &[&passes[place], &passes[place]])?;
+            sync_twice(rt, volume, &passes[place])?;
         }
         Step::NoSync(wanted) => assert!(rt; volume.sync(rt, &[]).err() == Some(wanted)),
         Step::Fail(fuse) => assert!(rt; fuse.arm(1, false)),
-        Step::Has(files) => {
-            assert_eq!(rt; passes.len(), files.len());
-            for (pass, file) in passes.iter().zip(files) {
-                assert_eq!(rt; pass.number(), file.0);
-                assert_file(rt, alloc, volume, pass, file.1)?;
-            }
-        }
+        Step::Has(files) => assert_files(rt, alloc, volume, passes.as_slice(), files)?,
+    }
+    Ok(())
+}
+
+// Writes a checkpoint that lends a pass twice.
+fn sync_twice<V: VolumeName, M: Meta, B: Block + Drop, R: Wait>(
+    rt: &R,
+    volume: &Volume<V, M, B>,
+    pass: &FilePass<V>,
+) -> Result<(), Error> {
+    let _stored = volume.sync(rt, &[pass, pass])?;
+    Ok(())
+}
+
+// The passes are those of these files.
+fn assert_files<V: VolumeName, M: Meta, B: Block + Drop, R: Wait + Abort>(
+    rt: &R,
+    alloc: Global,
+    volume: &Volume<V, M, B>,
+    passes: &[FilePass<V>],
+    files: &[(u32, &[u8])],
+) -> Result<(), Error> {
+    assert_eq!(rt; passes.len(), files.len());
+    for (pass, file) in passes.iter().zip(files) {
+        assert_eq!(rt; pass.number(), file.0);
+        assert_file(rt, alloc, volume, pass, file.1)?;
     }
     Ok(())
 }

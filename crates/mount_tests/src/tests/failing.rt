@@ -1,5 +1,5 @@
 //! A device of which a call fails while it is mounted, or while a checkpoint is written.
-ghost use Rattle.std.specs.Prelude.{◌+◌};
+ghost use Rattle.std.specs.Prelude.{◌≡◌, ◌+◌, map, IfOk};
 
 use super::damage::refused;
 use super::image_file::{device_of, file_by_hand};
@@ -112,14 +112,14 @@ impl<B: Block> Block for Failing<B> {
 
 type FailingDevice = Device<Failing<MemMeta>, Failing<MemBlock>>;
 
-// A device all calls of which one fuse counts.
-fn with_fuse(
+// Blocks all calls of which one fuse counts.
+fn wrap(
     alloc: Global,
-    device: Device<MemMeta, MemBlock>,
+    blocks: Vec<MemBlock>,
     fuse: &Arc<Fuse>,
-) -> Result<FailingDevice, AllocError> {
-    let Device { parts } = device;
-    let Parts { meta, blocks } = parts;
+) -> Result<Vec<Failing<MemBlock>>, AllocError>
+    ensures { IfOk result (λ failing. map (λ block. block.inner) failing.items ≡ blocks.items) }
+{
     let mut failing = Vec::with_capacity(alloc, blocks.len())?;
     for block in blocks {
         failing.push_reserved(Failing {
@@ -128,16 +128,25 @@ fn with_fuse(
             failures: Failures::none(),
         });
     }
+    Ok(failing)
+}
+
+// A device all calls of which one fuse counts.
+fn with_fuse(
+    alloc: Global,
+    device: Device<MemMeta, MemBlock>,
+    fuse: &Arc<Fuse>,
+) -> Result<FailingDevice, AllocError> {
+    let Device { parts } = device;
+    let Parts { meta, blocks } = parts;
     let meta = Failing {
         inner: meta,
         fuse: Arc::try_clone(fuse)?,
         failures: Failures::none(),
     };
+    let blocks = wrap(alloc, blocks, fuse)?;
     Ok(Device {
-        parts: Parts {
-            meta,
-            blocks: failing,
-        },
+        parts: Parts { meta, blocks },
     })
 }
 

@@ -18,7 +18,7 @@ loop-place-preserved c =
     let bytes = c.args.bytes.now in
     let block = c.in_ok-new.field-0 in
     let made = c.in_ok-new.ensures in
-    let own : c.in_ok-own.own.items ≡ take 64 (drop (place * 64) bytes) = c.in_ok-own.ensures.items ∙ ap (λ n. take n (drop (place * 64) bytes)) (omega arith) in
+    let own : c.in_ok-own.own.items ≡ take 64 (drop (place * 64) bytes) = c.in_ok-own.ensures.items ∙ ap (λ n. take n (drop (place * 64) bytes)) {y = 64} (omega arith) in
     let rest : 64 ≤ length (drop (place * 64) bytes) = let whole = c.requires in let low = c.loop-place-test.true in omega (arith, length-drop (place * 64) bytes) in
     let long : length (content block) ≡ 64 = ap length (made.content ∙ own) ∙ length-take-le 64 (drop (place * 64) bytes) rest in
     let pushed = c.in_ok-push.ensures in record {
