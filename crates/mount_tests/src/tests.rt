@@ -6,11 +6,13 @@ ghost use Rattle.geometry.specs.Shape.{block_bytes};
 mod damage;
 mod ending;
 mod failing;
+mod image_file;
+mod memory;
 mod open;
 mod trips;
 
-use device::{Block, MemBlock, MemMeta, Meta, Parts};
-use ending::{End, close, close_twice};
+use device::{Block, Fuse, Meta, Parts};
+use ending::{End, end_volume};
 use geometry::{Error, Kind};
 use names::VolumeName;
 use open::{with_mounted, with_volume};
@@ -36,49 +38,53 @@ enum Step<'a> {
     DeleteLast,
     // Cleans a section, of which so many blocks are moved.
     Clean(u32),
+    // A checkpoint that lends no pass.
     Sync,
+    // A checkpoint that lends a pass twice.
+    SyncTwice(usize),
+    // A checkpoint that is refused.
+    NoSync(Error),
+    // Lets the next call of the device fail.
+    Fail(&'a Fuse),
     // The volume has exactly these files: a number, and a byte for each block, which is full of it.
     Has(&'a [(u32, &'a [u8])]),
 }
 
 // The parts of a device, whose blocks of 64 bytes are in the order of their addresses.
 #[derive(Drop)]
-struct Device<M: Meta> {
-    parts: Parts<M, MemBlock>,
-    ghost run: { IsBlockRun ⟦<MemBlock as Block>⟧.address_of ⟦<MemBlock as Block>⟧.content_of 64 1 parts.blocks.items },
+struct Device<M: Meta, B: Block> {
+    parts: Parts<M, B>,
+    ghost run: { IsBlockRun B.address_of B.content_of 64 1 parts.blocks.items },
 }
 
 // What a volume left: its device, and the version and the total of the image it was opened at, and of the one it wrote last.
 #[derive(Drop)]
-struct Left<M: Meta> {
-    device: Device<M>,
+struct Left<M: Meta, B: Block> {
+    device: Device<M, B>,
     opened: (u32, u32),
     written: (u32, u32),
 }
 
 // Does the steps on a volume with these files, and ends it.
-fn run_volume<V: VolumeName, M: Meta, R: Wait + Abort>(
+fn run_volume<V: VolumeName, M: Meta, B: Block + Drop, R: Wait + Abort>(
     rt: &R,
     alloc: Global,
-    volume: Volume<V, M, MemBlock>,
+    volume: Volume<V, M, B>,
     seats: Vec<Seat<V>>,
     mut passes: Vec<FilePass<V>>,
     steps: &[Step<'_>],
     end: End,
-) -> Left<M> {
+) -> Left<M, B> {
     for step in steps {
         run_step(rt, alloc, &volume, &mut passes, *step).expect(rt, "not refused");
     }
-    match end {
-        End::Close => close(rt, volume, seats, passes),
-        End::SeatOut => close_twice(rt, alloc, volume, seats, passes),
-    }
+    end_volume(rt, alloc, volume, seats, passes, end)
 }
 
-fn run_step<V: VolumeName, M: Meta, R: Wait + Abort>(
+fn run_step<V: VolumeName, M: Meta, B: Block + Drop, R: Wait + Abort>(
     rt: &R,
     alloc: Global,
-    volume: &Volume<V, M, MemBlock>,
+    volume: &Volume<V, M, B>,
     passes: &mut Vec<FilePass<V>>,
     step: Step<'_>,
 ) -> Result<(), Error> {
@@ -108,22 +114,48 @@ fn run_step<V: VolumeName, M: Meta, R: Wait + Abort>(
         Step::Sync => {
             let _stored = volume.sync(rt, &[])?;
         }
-        Step::Has(files) => {
-            assert_eq!(rt; passes.len(), files.len());
-            for (pass, file) in passes.iter().zip(files) {
-                assert_eq!(rt; pass.number(), file.0);
-                assert_file(rt, alloc, volume, pass, file.1)?;
-            }
+        Step::SyncTwice(place) => {
+            assert!(rt; place < passes.len());
+            sync_twice(rt, volume, &passes[place])?;
         }
+        Step::NoSync(wanted) => assert!(rt; volume.sync(rt, &[]).err() == Some(wanted)),
+        Step::Fail(fuse) => assert!(rt; fuse.arm(1, false)),
+        Step::Has(files) => assert_files(rt, alloc, volume, passes.as_slice(), files)?,
+    }
+    Ok(())
+}
+
+// Writes a checkpoint that lends a pass twice.
+fn sync_twice<V: VolumeName, M: Meta, B: Block + Drop, R: Wait>(
+    rt: &R,
+    volume: &Volume<V, M, B>,
+    pass: &FilePass<V>,
+) -> Result<(), Error> {
+    let _stored = volume.sync(rt, &[pass, pass])?;
+    Ok(())
+}
+
+// The passes are those of these files.
+fn assert_files<V: VolumeName, M: Meta, B: Block + Drop, R: Wait + Abort>(
+    rt: &R,
+    alloc: Global,
+    volume: &Volume<V, M, B>,
+    passes: &[FilePass<V>],
+    files: &[(u32, &[u8])],
+) -> Result<(), Error> {
+    assert_eq!(rt; passes.len(), files.len());
+    for (pass, file) in passes.iter().zip(files) {
+        assert_eq!(rt; pass.number(), file.0);
+        assert_file(rt, alloc, volume, pass, file.1)?;
     }
     Ok(())
 }
 
 // Writes a block for each byte, from an index on.
-fn write<V: VolumeName, M: Meta, R: Wait + Abort>(
+fn write<V: VolumeName, M: Meta, B: Block + Drop, R: Wait + Abort>(
     rt: &R,
     alloc: Global,
-    volume: &Volume<V, M, MemBlock>,
+    volume: &Volume<V, M, B>,
     pass: &mut FilePass<V>,
     from: u32,
     bytes: &[u8],
@@ -137,10 +169,10 @@ fn write<V: VolumeName, M: Meta, R: Wait + Abort>(
 }
 
 // A file has a block for each byte, which is full of it, and no more.
-fn assert_file<V: VolumeName, M: Meta, R: Wait + Abort>(
+fn assert_file<V: VolumeName, M: Meta, B: Block + Drop, R: Wait + Abort>(
     rt: &R,
     alloc: Global,
-    volume: &Volume<V, M, MemBlock>,
+    volume: &Volume<V, M, B>,
     pass: &FilePass<V>,
     bytes: &[u8],
 ) -> Result<(), Error> {
@@ -159,10 +191,10 @@ fn assert_file<V: VolumeName, M: Meta, R: Wait + Abort>(
 }
 
 // What a read answers, and the byte that the buffer is full of then, if it is full of one.
-fn read<V: VolumeName, M: Meta, R: Wait + Abort>(
+fn read<V: VolumeName, M: Meta, B: Block + Drop, R: Wait + Abort>(
     rt: &R,
     alloc: Global,
-    volume: &Volume<V, M, MemBlock>,
+    volume: &Volume<V, M, B>,
     pass: &FilePass<V>,
     index: u32,
 ) -> Result<(bool, Option<u8>), Error> {
@@ -174,10 +206,10 @@ fn read<V: VolumeName, M: Meta, R: Wait + Abort>(
 }
 
 // The bytes of a block that was not read yet.
-fn new_block<V: VolumeName, M: Meta, R: Abort>(
+fn new_block<V: VolumeName, M: Meta, B: Block + Drop, R: Abort>(
     rt: &R,
     alloc: Global,
-    volume: &Volume<V, M, MemBlock>,
+    volume: &Volume<V, M, B>,
 ) -> Vec<u8>
     ensures { vec_len result ≡ block_bytes V.Numbers.geometry.shape }
 {
@@ -190,13 +222,14 @@ fn is_full(block: &[u8], byte: u8) -> bool {
 }
 
 // What a volume that is mounted from a device leaves after the steps.
-fn mount_again<M: Meta, R: Wait + Abort>(
+fn mount_again<M: Meta, B: Block + Drop, R: Wait + Abort>(
     rt: &R,
     alloc: Global,
-    device: Device<M>,
+    device: Device<M, B>,
     steps: &[Step<'_>],
-) -> Left<M> {
-    match with_mounted(rt, alloc, device, steps) {
+    end: End,
+) -> Left<M, B> {
+    match with_mounted(rt, alloc, device, steps, end) {
         Ok(left) => left,
         Err((_device, error)) => panic!(rt; "refused {error}"),
     }

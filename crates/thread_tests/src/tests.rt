@@ -7,6 +7,7 @@ mod open;
 mod turns;
 mod waits;
 
+use crowd::Crowd;
 use device::MemMeta;
 use geometry::Kind;
 use names::{BooksName, GeometryName, Named, PoolName, TurnName, VolumeName, WordsName};
@@ -18,14 +19,10 @@ use std::test::*;
 use std::thread::Threads;
 use waits::{GatedBlock, Gates};
 
-// What the threads do: a crowd of so many writers, cleaners and readers, or one of the others.
+// What the threads do: a crowd, or one of the others.
 #[derive(Clone, Copy)]
 enum Row {
-    Crowd {
-        writers: u32,
-        cleaners: u32,
-        readers: u32,
-    },
+    Crowd(Crowd),
     LookBesideAWriter,
     WriteInTurns,
     WriteInTwoLogs,
@@ -49,11 +46,7 @@ fn run_row<
     row: Row,
 ) -> Vec<FilePass<Named<L, W, P, T, N>>> {
     match row {
-        Row::Crowd {
-            writers,
-            cleaners,
-            readers,
-        } => crowd::work_side_by_side(rt, alloc, volume, seats, (writers, cleaners, readers)),
+        Row::Crowd(crowd) => crowd::work_side_by_side(rt, alloc, volume, seats, crowd),
         Row::LookBesideAWriter => looks::look_beside_a_writer(rt, alloc, volume, seats),
         Row::WriteInTurns => turns::write_in_turns(rt, alloc, volume),
         Row::WriteInTwoLogs => gates::write_in_two_logs(rt, alloc, volume, gates),

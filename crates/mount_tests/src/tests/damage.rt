@@ -1,44 +1,44 @@
 //! Devices that hold no volume, or a damaged one.
-//!
-//! The meta area of these volumes has 3160 bytes: the superblock of 64, and two packs of 1548 each. A pack begins with its
-//! version and its total, and its last 4 bytes are the version once more. Version V is in the pack V mod 2.
-use super::{Device, End, Left, Step, mount_again, with_mounted, with_volume};
-use device::{MemDevice, MemMeta, Meta, Parts};
-use geometry::{Error, Geometry, Kind, Shape};
+use super::image_file::{META, bytes_of, changed_device, device_of};
+use super::{BLOCK, Device, End, Left, Step, mount_again, with_mounted, with_volume};
+use device::{Block, MemBlock, MemMeta, Meta};
+use geometry::{Error, Kind};
+use sample_images::{Changes, base_file, change};
 use std::alloc::Global;
 use std::process::Abort;
 use std::sync::Wait;
 use std::test::*;
 
-const EVEN_FOOTER: usize = 1608;
+// The last 4 bytes of the even pack, and of the odd one, which begins behind the even one.
+const EVEN_FOOTER: usize = 3_096;
 
-const ODD: usize = 1612;
+pub(crate) const ODD: usize = 3_100;
 
-const ODD_FOOTER: usize = 3156;
+pub(crate) const ODD_FOOTER: usize = 6_132;
 
 // A volume with a checkpoint of version 2, after which its file was written again, and of version 3.
 pub(crate) fn with_two_packs<R: Wait + Abort>(
     rt: &R,
     alloc: Global,
-) -> Result<Left<MemMeta>, Error> {
+) -> Result<Left<MemMeta, MemBlock>, Error> {
     let steps = [
         Step::Create(Kind::File),
         Step::Write(0, 0, &[0x31]),
         Step::Sync,
         Step::Write(0, 0, &[0x32, 0x33]),
     ];
-    with_volume(rt, alloc, &steps, End::Close)
+    with_volume(rt, alloc, 4, &steps, End::Close)
 }
 
 // A mount of the device is refused with this error, and hands it back.
-pub(crate) fn refused<M: Meta, R: Wait + Abort>(
+pub(crate) fn refused<M: Meta, B: Block + Drop, R: Wait + Abort>(
     rt: &R,
     alloc: Global,
-    device: Device<M>,
+    device: Device<M, B>,
     wanted: Error,
-) -> Device<M> {
+) -> Device<M, B> {
     let size = (device.parts.meta.len(), device.parts.blocks.len());
-    match with_mounted(rt, alloc, device, &[]) {
+    match with_mounted(rt, alloc, device, &[], End::Close) {
         Ok(_left) => panic!(rt; "not refused, in place of {wanted}"),
         Err((back, error)) => {
             assert!(rt; error == wanted, "{error} in place of {wanted}");
@@ -48,94 +48,98 @@ pub(crate) fn refused<M: Meta, R: Wait + Abort>(
     }
 }
 
-// Puts a byte at a place of the meta area, in place of one that is known.
-fn put(
-    rt: &impl Abort,
-    device: Device<MemMeta>,
-    at: usize,
-    known: u8,
-    byte: u8,
-) -> Device<MemMeta> {
-    let Device { parts } = device;
-    let Parts { mut meta, blocks } = parts;
-    assert!(rt; at < meta.bytes.len(), "no place {at}");
-    assert_eq!(rt; meta.bytes[at], known, "at {at}");
-    meta.bytes[at] = byte;
-    Device {
-        parts: Parts { meta, blocks },
-    }
-}
-
-// A device of zeros.
-fn blank(alloc: Global, segments: u32) -> Result<Device<MemMeta>, Error> {
-    let geometry = Geometry::new(Shape::TINY, segments, 1, 4, 32)?;
-    let parts = MemDevice::new(alloc, &geometry)?.split();
-    Ok(Device { parts })
-}
-
-// The meta area of a device, with the blocks of another one.
-fn with_blocks_of(device: Device<MemMeta>, other: Device<MemMeta>) -> Device<MemMeta> {
-    let Device { parts } = device;
-    let Parts { meta, blocks: _ } = parts;
-    let Device { parts: others } = other;
-    let Parts { meta: _, blocks } = others;
-    Device {
-        parts: Parts { meta, blocks },
-    }
+// A mount of the device of these bytes is refused, and hands each byte back.
+fn refuse_bytes<R: Wait + Abort>(
+    rt: &R,
+    alloc: Global,
+    file: &[u8],
+    wanted: Error,
+) -> Result<(), Error> {
+    let back = refused(rt, alloc, device_of(alloc, file)?, wanted);
+    assert!(rt; bytes_of(alloc, &back)?.as_slice() == file, "at {wanted}");
+    Ok(())
 }
 
 #[test]
 fn device_without_a_volume_is_refused(rt: HostRuntime) -> Result<(), Fail> {
     let alloc = rt.alloc();
-    let back = refused(&rt, alloc, blank(alloc, 16)?, Error::BadGeometry);
-    assert!(rt; back.parts.meta.bytes.iter().all(|byte| *byte == 0));
-    // The meta area of 16 segments beside the blocks of 24.
-    let first = with_two_packs(&rt, alloc)?;
-    let mixed = with_blocks_of(first.device, blank(alloc, 24)?);
-    let back = refused(&rt, alloc, mixed, Error::BadImage(1));
-    assert_eq!(rt; back.parts.blocks.len(), 192usize);
+    let mut file = base_file(alloc)?;
+    // The blocks of 24 segments behind the meta area of 32.
+    file.truncate(META + 192 * BLOCK);
+    refuse_bytes(&rt, alloc, file.as_slice(), Error::BadImage(1))?;
+    file.truncate(63);
+    refuse_bytes(&rt, alloc, file.as_slice(), Error::BadGeometry)?;
+    file.clear();
+    file.resize(META + 192 * BLOCK, 0)?;
+    refuse_bytes(&rt, alloc, file.as_slice(), Error::BadGeometry)?;
     Ok(())
 }
 
 #[test]
 fn damage_is_told_and_the_device_handed_back(rt: HostRuntime) -> Result<(), Fail> {
     let alloc = rt.alloc();
-    let first = with_two_packs(&rt, alloc)?;
-    // A place, the byte there, another one, and what is wrong with it.
-    let rows = [
-        (0, b'F', b'f', Error::BadGeometry),
-        // The superblock tells 17 segments.
-        (16, 16, 17, Error::BadImage(1)),
-        (ODD_FOOTER, 3, 0, Error::NoPack),
-        // The node of number 1 has an address and no inode.
-        (ODD + 56, 1, 0, Error::BadImage(1)),
-        // Two logs are in segment 1.
-        (ODD + 8, 0, 1, Error::BadImage(2)),
-        // The summary of address 34 has another slot.
-        (ODD + 788, 0, 1, Error::BadImage(9)),
-        // One block more than are valid.
-        (ODD + 4, 3, 4, Error::BadImage(10)),
+    let rows: [(Changes, Error); 13] = [
+        (&[(0, b'f')], Error::BadGeometry),
+        // The superblock tells 33 segments.
+        (&[(16, 33)], Error::BadImage(1)),
+        (&[(EVEN_FOOTER, 0), (ODD_FOOTER, 0)], Error::NoPack),
+        // Log 0 is in segment 32, and then in that of log 1.
+        (&[(72, 0x20)], Error::BadImage(1)),
+        (&[(72, 0x01)], Error::BadImage(2)),
+        // The inode tells another number, and then it names a number that has no node.
+        (&[(6_688, 0x02)], Error::BadImage(3)),
+        (&[(6_668, 0x05)], Error::BadImage(4)),
+        // Number 5 has a node that nothing names.
+        (
+            &[(152, 1), (156, 0x0a), (6_752, 5), (6_756, 1), (6_760, 1)],
+            Error::BadImage(5),
+        ),
+        // Two indexes have the same block.
+        (&[(6_660, 0x21)], Error::BadImage(6)),
+        // A block that is named is not marked, and one is marked that nothing names.
+        (&[(696, 0x02)], Error::BadImage(7)),
+        (&[(696, 0x07)], Error::BadImage(8)),
+        // A summary tells another slot, and a segment another count.
+        (&[(1_308, 0x01)], Error::BadImage(9)),
+        (&[(684, 0x01)], Error::BadImage(10)),
     ];
-    let mut device = put(&rt, first.device, EVEN_FOOTER, 2, 0);
-    for (at, byte, other, error) in rows {
-        let damaged = put(&rt, device, at, byte, other);
-        let back = refused(&rt, alloc, damaged, error);
-        device = put(&rt, back, at, other, byte);
+    // The bytes by hand are those that such a volume leaves.
+    let steps = [Step::Create(Kind::File), Step::Write(0, 0, &[0x41, 0x42])];
+    let closed = with_volume(&rt, alloc, 4, &steps, End::Close)?;
+    let bytes = bytes_of(alloc, &closed.device)?;
+    assert!(rt; bytes.as_slice() == base_file(alloc)?.as_slice());
+    for (changes, error) in rows {
+        let mut file = base_file(alloc)?;
+        change(file.as_mut_slice(), changes);
+        refuse_bytes(&rt, alloc, file.as_slice(), error)?;
     }
-    let steps = [Step::Has(&[(1, &[0x32, 0x33])])];
-    let second = mount_again(&rt, alloc, device, &steps);
-    assert_eq!(rt; second.opened, (3u32, 3u32));
     Ok(())
 }
 
 #[test]
 fn torn_pack_gives_way_to_the_older_one(rt: HostRuntime) -> Result<(), Fail> {
     let alloc = rt.alloc();
+    // Version 1 has no file.
+    let rows: [Changes; 4] = [
+        &[(EVEN_FOOTER, 0)],
+        &[(EVEN_FOOTER, 9)],
+        &[(64, 9)],
+        &[(64, 3), (EVEN_FOOTER, 3)],
+    ];
+    let file = base_file(alloc)?;
+    for changes in rows {
+        let torn = changed_device(alloc, file.as_slice(), changes)?;
+        let left = mount_again(&rt, alloc, torn, &[Step::Has(&[])], End::Close);
+        assert_eq!(rt; left.opened, (1u32, 0u32));
+        assert_eq!(rt; left.written, (2u32, 0u32));
+    }
+    let first = with_two_packs(&rt, alloc)?;
+    assert_eq!(rt; first.written, (3u32, 3u32));
+    let file = bytes_of(alloc, &first.device)?;
     for (at, byte) in [(ODD_FOOTER, 0), (ODD_FOOTER, 9), (ODD, 9)] {
-        let first = with_two_packs(&rt, alloc)?;
-        assert_eq!(rt; first.written, (3u32, 3u32));
-        let torn = put(&rt, first.device, at, 3, byte);
-        let second = mount_again(&rt, alloc, torn, &[Step::Has(&[(1, &[0x31])])]);
+        let torn = changed_device(alloc, file.as_slice(), &[(at, byte)])?;
+        let steps = [Step::Has(&[(1, &[0x31])])];
+        let second = mount_again(&rt, alloc, torn, &steps, End::Close);
         assert_eq!(rt; second.opened, (2u32, 2u32), "at {at}");
         assert_eq!(rt; second.written, (3u32, 2u32), "at {at}");
     }

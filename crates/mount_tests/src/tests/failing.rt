@@ -1,22 +1,25 @@
-//! A device of which a read fails while it is mounted.
-ghost use Rattle.std.specs.Prelude.{◌+◌};
+//! A device of which a call fails while it is mounted, or while a checkpoint is written.
+ghost use Rattle.std.specs.Prelude.{◌≡◌, ◌+◌, map, IfOk};
 
-use super::damage::{refused, with_two_packs};
-use super::{Device, Step, mount_again};
-use device::{DeviceError, Failures, Fuse, MemMeta, Meta, Parts};
+use super::damage::refused;
+use super::image_file::device_of;
+use super::{Device, End, Step, mount_again};
+use device::{Block, DeviceError, Failures, Fuse, MemBlock, MemMeta, Meta, Parts};
 use geometry::Error;
+use sample_images::base_file;
+use std::alloc::{AllocError, Global};
 use std::sync::Arc;
 use std::test::*;
 
-// A meta area of which one read fails where its fuse says so.
+// A meta area, or a block, of which a call fails where its fuse says so. A call that fails is not done.
 #[derive(Drop)]
-struct Unread<M> {
-    inner: M,
+struct Failing<P> {
+    inner: P,
     fuse: Arc<Fuse>,
     failures: Failures,
 }
 
-impl<M: Meta> Meta for Unread<M> {
+impl<M: Meta> Meta for Failing<M> {
     ghost seen = { λ f. M.Meta.seen f.inner };
 
     ghost may_leave = { λ f. M.Meta.may_leave f.inner };
@@ -42,10 +45,18 @@ impl<M: Meta> Meta for Unread<M> {
     }
 
     fn write(&mut self, at: u64, bytes: &[u8]) -> Result<(), DeviceError> {
+        if self.fuse.burn().is_some() {
+            self.failures.count();
+            return Err(DeviceError);
+        }
         self.inner.write(at, bytes)
     }
 
     fn sync(&mut self) -> Result<(), DeviceError> {
+        if self.fuse.burn().is_some() {
+            self.failures.count();
+            return Err(DeviceError);
+        }
         self.inner.sync()
     }
 
@@ -58,38 +69,128 @@ impl<M: Meta> Meta for Unread<M> {
     }
 }
 
-fn with_fuse(device: Device<MemMeta>, fuse: Arc<Fuse>) -> Device<Unread<MemMeta>> {
-    let Device { parts } = device;
-    let Parts {
-        meta: inner,
-        blocks,
-    } = parts;
-    let failures = Failures::none();
-    let meta = Unread {
-        inner,
-        fuse,
-        failures,
-    };
-    Device {
-        parts: Parts { meta, blocks },
+impl<B: Block> Block for Failing<B> {
+    type Lease = B::Lease;
+
+    ghost address_of = { λ f. B.Block.address_of f.inner };
+
+    ghost content_of = { λ f. B.Block.content_of f.inner };
+
+    ghost failed = { λ f. B.Block.failed f.inner + f.failures.total.count };
+
+    fn address(&self) -> u32 {
+        self.inner.address()
     }
+
+    fn write(&mut self, bytes: &[u8]) -> Result<(), DeviceError> {
+        if self.fuse.burn().is_some() {
+            self.failures.count();
+            return Err(DeviceError);
+        }
+        self.inner.write(bytes)
+    }
+
+    fn read(&mut self, out: &mut [u8]) -> Result<(), DeviceError> {
+        if self.fuse.burn().is_some() {
+            self.failures.count();
+            return Err(DeviceError);
+        }
+        self.inner.read(out)
+    }
+
+    fn lend(&mut self) -> Result<B::Lease, DeviceError> {
+        if self.fuse.burn().is_some() {
+            self.failures.count();
+            return Err(DeviceError);
+        }
+        self.inner.lend()
+    }
+
+    fn failures(&self) -> u64 {
+        self.failures.told().saturating_add(self.inner.failures())
+    }
+}
+
+type FailingDevice = Device<Failing<MemMeta>, Failing<MemBlock>>;
+
+// Blocks all calls of which one fuse counts.
+fn wrap(
+    alloc: Global,
+    blocks: Vec<MemBlock>,
+    fuse: &Arc<Fuse>,
+) -> Result<Vec<Failing<MemBlock>>, AllocError>
+    ensures { IfOk result (λ failing. map (λ block. block.inner) failing.items ≡ blocks.items) }
+{
+    let mut failing = Vec::with_capacity(alloc, blocks.len())?;
+    for block in blocks {
+        failing.push_reserved(Failing {
+            inner: block,
+            fuse: Arc::try_clone(fuse)?,
+            failures: Failures::none(),
+        });
+    }
+    Ok(failing)
+}
+
+// A device all calls of which one fuse counts.
+fn with_fuse(
+    alloc: Global,
+    device: Device<MemMeta, MemBlock>,
+    fuse: &Arc<Fuse>,
+) -> Result<FailingDevice, AllocError> {
+    let Device { parts } = device;
+    let Parts { meta, blocks } = parts;
+    let meta = Failing {
+        inner: meta,
+        fuse: Arc::try_clone(fuse)?,
+        failures: Failures::none(),
+    };
+    let blocks = wrap(alloc, blocks, fuse)?;
+    Ok(Device {
+        parts: Parts { meta, blocks },
+    })
+}
+
+// How often a device has failed.
+fn failures_of(device: &FailingDevice) -> u64 {
+    let mut count = device.parts.meta.failures();
+    for block in &device.parts.blocks {
+        count = count.saturating_add(block.failures());
+    }
+    count
 }
 
 #[test]
 fn mount_passes_once_the_device_does_not_fail(rt: HostRuntime) -> Result<(), Fail> {
     let alloc = rt.alloc();
     let fuse = Arc::new(alloc, Fuse::new(alloc, 1)?)?;
-    let first = with_two_packs(&rt, alloc)?;
-    let mut device = with_fuse(first.device, Arc::try_clone(&fuse)?);
-    // The superblock is read, then the first and the last number of each pack, and then the body that counts.
-    for nth in 1..7u32 {
-        fuse.arm(nth, false);
+    let file = base_file(alloc)?;
+    let mut device = with_fuse(alloc, device_of(alloc, file.as_slice())?, &fuse)?;
+    // The superblock is read, the first block lent for its length, and the area synced; then the first and the last number of
+    // each pack are read, the body that counts, and the block of the one node.
+    for nth in 1..10u32 {
+        assert!(rt; fuse.arm(nth, false));
         device = refused(&rt, alloc, device, Error::Device);
-        assert!(rt; device.parts.meta.failures() == u64::from(nth), "at {nth}");
+        assert!(rt; failures_of(&device) == u64::from(nth), "at {nth}");
     }
-    let steps = [Step::Has(&[(1, &[0x32, 0x33])])];
-    let second = mount_again(&rt, alloc, device, &steps);
-    assert_eq!(rt; second.opened, (3u32, 3u32));
-    assert_eq!(rt; second.device.parts.meta.failures(), 6u64);
+    let files: [(u32, &[u8]); 1] = [(1, &[0x41, 0x42])];
+    let steps = [
+        Step::Has(&files),
+        Step::Write(0, 0, &[0x43]),
+        // The node is written first: that this fails wounds nothing.
+        Step::Fail(&fuse),
+        Step::NoSync(Error::Device),
+        Step::Write(0, 2, &[0x44]),
+        Step::Sync,
+    ];
+    let second = mount_again(&rt, alloc, device, &steps, End::Close);
+    assert_eq!(rt;
+        (second.opened, second.written),
+        ((2u32, 3u32), (4u32, 4u32))
+    );
+    assert_eq!(rt; failures_of(&second.device), 10u64);
+    let files: [(u32, &[u8]); 1] = [(1, &[0x43, 0x42, 0x44])];
+    let third = mount_again(&rt, alloc, second.device, &[Step::Has(&files)], End::Close);
+    assert_eq!(rt; third.opened, (4u32, 4u32));
     Ok(())
 }

@@ -1,8 +1,9 @@
 //! How a test comes to its volume, a new one or a mounted one: a function for each step, so that names are picked between them.
 ghost use Rattle.std.specs.Prelude.{◌≡◌};
+ghost use Rattle.device.specs.Parts.{IsBlockRun};
 
 use super::{Device, End, Left, Step, run_volume};
-use device::{MemBlock, MemDevice, MemMeta, Meta};
+use device::{Block, MemBlock, MemDevice, MemMeta, Meta};
 use geometry::{Error, Geometry, Shape};
 use mounting::{Mounted, MountedQueues, mount};
 use names::{BooksName, GeometryName, PoolName, TurnName, WordsName};
@@ -12,14 +13,15 @@ use std::marker::Brand;
 use std::process::Abort;
 use std::sync::Wait;
 
-// What a new volume of 16 segments of 8 blocks, with 4 files and 32 numbers for nodes, leaves after the steps.
+// What a new volume of 32 segments of 8 blocks, with so many files and 64 numbers for nodes, leaves after the steps.
 pub(crate) fn with_volume<R: Wait + Abort>(
     rt: &R,
     alloc: Global,
+    files: u32,
     steps: &[Step<'_>],
     end: End,
-) -> Result<Left<MemMeta>, Error> {
-    let geometry = Geometry::new(Shape::TINY, 16, 1, 4, 32)?;
+) -> Result<Left<MemMeta, MemBlock>, Error> {
+    let geometry = Geometry::new(Shape::TINY, 32, 1, files, 64)?;
     let parts = MemDevice::new(alloc, &geometry)?.split();
     match format(alloc, parts, geometry) {
         Ok(formatted) => with_tables::<Brand, Brand, Brand, R>(rt, alloc, formatted, steps, end),
@@ -33,7 +35,7 @@ fn with_tables<L: BooksName, W: WordsName, N: GeometryName, R: Wait + Abort>(
     formatted: Formatted<MemMeta, MemBlock>,
     steps: &[Step<'_>],
     end: End,
-) -> Result<Left<MemMeta>, Error>
+) -> Result<Left<MemMeta, MemBlock>, Error>
     requires books { formatted.tables.books ≡ L.books }
     requires words { formatted.tables.words ≡ W.words }
     requires geometry { formatted.tables.geometry ≡ N.geometry }
@@ -57,7 +59,7 @@ fn with_queues<
     opened: Opened<L, W, N, MemMeta, MemBlock>,
     steps: &[Step<'_>],
     end: End,
-) -> Result<Left<MemMeta>, Error>
+) -> Result<Left<MemMeta, MemBlock>, Error>
     requires ordinary { opened.queues.ordinary ≡ P.ordinary }
     requires reserve { opened.queues.reserve ≡ P.reserve }
     requires turns { opened.channel.turns ≡ T.turns }
@@ -72,35 +74,46 @@ fn with_queues<
 }
 
 // What the volume of a device leaves after the steps, or why it is not mounted, with the device.
-pub(crate) fn with_mounted<M: Meta, R: Wait + Abort>(
+pub(crate) fn with_mounted<M: Meta, B: Block + Drop, R: Wait + Abort>(
     rt: &R,
     alloc: Global,
-    device: Device<M>,
+    device: Device<M, B>,
     steps: &[Step<'_>],
-) -> Result<Left<M>, (Device<M>, Error)> {
+    end: End,
+) -> Result<Left<M, B>, (Device<M, B>, Error)> {
     let Device { parts } = device;
     match mount(alloc, parts) {
         Ok(mounted) => {
-            let left = mounted_tables::<Brand, Brand, Brand, M, R>(rt, alloc, mounted, steps);
-            Ok(left)
+            mounted_tables::<Brand, Brand, Brand, M, B, R>(rt, alloc, mounted, steps, end)
         }
         Err(fault) => Err((Device { parts: fault.parts }, fault.error)),
     }
 }
 
-fn mounted_tables<L: BooksName, W: WordsName, N: GeometryName, M: Meta, R: Wait + Abort>(
+fn mounted_tables<
+    L: BooksName,
+    W: WordsName,
+    N: GeometryName,
+    M: Meta,
+    B: Block + Drop,
+    R: Wait + Abort,
+>(
     rt: &R,
     alloc: Global,
-    mounted: Mounted<M, MemBlock>,
+    mounted: Mounted<M, B>,
     steps: &[Step<'_>],
-) -> Left<M>
+    end: End,
+) -> Result<Left<M, B>, (Device<M, B>, Error)>
+    requires run { IsBlockRun B.address_of B.content_of 64 1 mounted.parts.blocks.items }
     requires books { mounted.books ≡ L.books }
     requires words { mounted.words ≡ W.words }
     requires geometry { mounted.geometry ≡ N.geometry }
 {
     match mounted.name::<L, W, N>() {
-        Ok(opened) => mounted_queues::<L, W, N, Brand, Brand, M, R>(rt, alloc, opened, steps),
-        Err(fault) => panic!(rt; "refused {}", fault.error),
+        Ok(opened) => {
+            mounted_queues::<L, W, N, Brand, Brand, M, B, R>(rt, alloc, opened, steps, end)
+        }
+        Err(fault) => Err((Device { parts: fault.parts }, fault.error)),
     }
 }
 
@@ -111,23 +124,26 @@ fn mounted_queues<
     P: PoolName,
     T: TurnName,
     M: Meta,
+    B: Block + Drop,
     R: Wait + Abort,
->(rt: &R, alloc: Global, opened: MountedQueues<L, W, N, M, MemBlock>, steps: &[Step<'_>]) -> Left<M>
+>(
+    rt: &R,
+    alloc: Global,
+    opened: MountedQueues<L, W, N, M, B>,
+    steps: &[Step<'_>],
+    end: End,
+) -> Result<Left<M, B>, (Device<M, B>, Error)>
+    requires run { IsBlockRun B.address_of B.content_of 64 1 opened.named.mounted.parts.blocks.items }
     requires ordinary { opened.queues.ordinary ≡ P.ordinary }
     requires reserve { opened.queues.reserve ≡ P.reserve }
     requires turns { opened.channel.turns ≡ T.turns }
     requires key { opened.channel.key ≡ T.key }
 {
     match opened.name::<P, T, R>(rt) {
-        Ok((volume, seats, passes)) => run_volume(
-            rt,
-            alloc,
-            volume,
-            seats,
-            passes,
-            steps,
-            End::Close,
-        ),
-        Err(fault) => panic!(rt; "refused {}", fault.error),
+        Ok((volume, seats, passes)) => {
+            let left = run_volume(rt, alloc, volume, seats, passes, steps, end);
+            Ok(left)
+        }
+        Err(fault) => Err((Device { parts: fault.parts }, fault.error)),
     }
 }

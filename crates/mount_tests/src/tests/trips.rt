@@ -1,6 +1,9 @@
 //! Volumes that are closed and mounted again.
+use super::damage::{ODD, ODD_FOOTER, with_two_packs};
+use super::image_file::{bytes_of, device_of};
 use super::{End, Step, mount_again, with_volume};
-use geometry::Kind;
+use geometry::{Error, Kind};
+use sample_images::change;
 use std::test::*;
 
 // The blocks of a file: three of its inode's, two of a direct node's, and behind a hole the first one of an indirect node's.
@@ -24,7 +27,7 @@ fn closed_files_are_mounted_again(rt: HostRuntime) -> Result<(), Fail> {
         Step::Cut(1, 3),
         Step::DeleteLast,
     ];
-    let first = with_volume(&rt, alloc, &steps, End::Close)?;
+    let first = with_volume(&rt, alloc, 4, &steps, End::Close)?;
     // The first file has 6 blocks and 4 nodes, and the second one 3 and 1.
     assert_eq!(rt; first.opened, (1u32, 0u32));
     assert_eq!(rt; first.written, (2u32, 14u32));
@@ -34,7 +37,7 @@ fn closed_files_are_mounted_again(rt: HostRuntime) -> Result<(), Fail> {
         Step::Create(Kind::File),
         Step::Has(&[(1, &DEEP), (2, &SIX[..3]), (3, &[])]),
     ];
-    let second = mount_again(&rt, alloc, first.device, &steps);
+    let second = mount_again(&rt, alloc, first.device, &steps, End::Close);
     assert_eq!(rt; second.opened, (2u32, 14u32));
     // The new file has an inode.
     assert_eq!(rt; second.written, (3u32, 15u32));
@@ -52,7 +55,7 @@ fn moved_blocks_are_mounted_again(rt: HostRuntime) -> Result<(), Fail> {
         Step::Clean(2),
         Step::Write(0, 7, &[9]),
     ];
-    let first = with_volume(&rt, alloc, &steps, End::Close)?;
+    let first = with_volume(&rt, alloc, 4, &steps, End::Close)?;
     // 8 blocks and 2 nodes.
     assert_eq!(rt; first.written, (2u32, 10u32));
     let steps = [
@@ -62,23 +65,54 @@ fn moved_blocks_are_mounted_again(rt: HostRuntime) -> Result<(), Fail> {
         Step::Clean(3),
         Step::Write(0, 7, &[10]),
     ];
-    let second = mount_again(&rt, alloc, first.device, &steps);
+    let second = mount_again(&rt, alloc, first.device, &steps, End::Close);
     assert_eq!(rt; second.opened, (2u32, 10u32));
     assert_eq!(rt; second.written, (3u32, 10u32));
     let blocks = [0x21, 0x21, 0x22, 0x23, 0x24, 0x25, 0x26, 10];
-    let third = mount_again(&rt, alloc, second.device, &[Step::Has(&[(1, &blocks)])]);
+    let steps = [Step::Has(&[(1, &blocks)])];
+    let third = mount_again(&rt, alloc, second.device, &steps, End::Close);
     assert_eq!(rt; third.opened, (3u32, 10u32));
     Ok(())
 }
 
+// What is written behind the last checkpoint is lost where the volume is abandoned.
 #[test]
-fn volume_is_not_closed_while_a_seat_is_out(rt: HostRuntime) -> Result<(), Fail> {
+fn image_of_the_last_checkpoint_is_mounted(rt: HostRuntime) -> Result<(), Fail> {
     let alloc = rt.alloc();
-    let steps = [Step::Create(Kind::File), Step::Write(0, 0, &[0x31])];
-    let first = with_volume(&rt, alloc, &steps, End::SeatOut)?;
-    assert_eq!(rt; first.written, (2u32, 3u32));
-    let steps = [Step::Has(&[(1, &[0x32, 0x33])])];
-    let second = mount_again(&rt, alloc, first.device, &steps);
-    assert_eq!(rt; second.opened, (2u32, 3u32));
+    let steps = [
+        Step::Create(Kind::File),
+        Step::Write(0, 0, &[0x31]),
+        Step::Sync,
+        Step::Write(0, 1, &[0x32]),
+        Step::SyncTwice(0),
+        Step::Write(0, 0, &[0x33, 0x34, 0x35]),
+    ];
+    let first = with_volume(&rt, alloc, 4, &steps, End::Abandon)?;
+    let steps = [Step::Has(&[(1, &[0x31, 0x32])])];
+    let second = mount_again(&rt, alloc, first.device, &steps, End::Close);
+    assert_eq!(rt; second.opened, (3u32, 3u32));
+    Ok(())
+}
+
+// No version follows 4294967295: nothing is written, and the files stay.
+#[test]
+fn volume_of_the_largest_version_is_mounted_and_abandoned(rt: HostRuntime) -> Result<(), Fail> {
+    let alloc = rt.alloc();
+    let first = with_two_packs(&rt, alloc)?;
+    let mut file = bytes_of(alloc, &first.device)?;
+    for byte in 0..4usize {
+        change(
+            file.as_mut_slice(),
+            &[(ODD + byte, 0xff), (ODD_FOOTER + byte, 0xff)],
+        );
+    }
+    let device = device_of(alloc, file.as_slice())?;
+    let files: [(u32, &[u8]); 1] = [(1, &[0x32, 0x33])];
+    let steps = [Step::NoSync(Error::Exhausted), Step::Has(&files)];
+    let second = mount_again(&rt, alloc, device, &steps, End::Exhausted);
+    assert_eq!(rt; second.opened, (u32::MAX, 3u32));
+    let steps = [Step::Has(&files)];
+    let third = mount_again(&rt, alloc, second.device, &steps, End::Abandon);
+    assert_eq!(rt; third.opened, (u32::MAX, 3u32));
     Ok(())
 }

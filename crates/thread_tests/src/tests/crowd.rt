@@ -1,10 +1,10 @@
-//! Writers of a file each, with cleaners and readers beside them.
+//! Writers of a file each, with cleaners, readers and checkpoints beside them.
 ghost use Rattle.std.specs.Prelude.{⊤};
 
 use super::job::{BLOCKS, Done, Job, work};
 use super::looks::take_reader;
 use super::open::with_volume;
-use super::waits::{GatedBlock, Gates};
+use super::waits::{GatedBlock, Gates, Sign};
 use super::{Row, create, fill, has, keep};
 use device::MemMeta;
 use geometry::Kind;
@@ -17,6 +17,16 @@ use std::test::*;
 use std::thread;
 use std::thread::Threads;
 
+// So many threads of each kind.
+#[derive(Clone, Copy)]
+pub(crate) struct Crowd {
+    pub(crate) writers: u32,
+    pub(crate) cleaners: u32,
+    pub(crate) readers: u32,
+    // Whether one more thread writes checkpoints. Half of them are written before a file is filled again.
+    pub(crate) syncs: bool,
+}
+
 // A file that a reader looks at is full of this byte first.
 const BEFORE: u8 = 0xbe;
 
@@ -26,7 +36,7 @@ const AGAIN: u8 = 16;
 // A file of 10 blocks in the tiny shape has its inode and a direct node beside them.
 const IN_ALL: u32 = 12;
 
-// Starts a thread for each of so many writers, cleaners and readers, and looks at the files once all have ended.
+// Starts a thread for each of a crowd, and looks at the files once all have ended.
 pub(crate) fn work_side_by_side<
     L: BooksName + Send + Sync,
     W: WordsName + Send + Sync,
@@ -39,11 +49,12 @@ pub(crate) fn work_side_by_side<
     alloc: Global,
     volume: &Volume<Named<L, W, P, T, N>, MemMeta, GatedBlock>,
     seats: &mut Vec<Seat<Named<L, W, P, T, N>>>,
-    (writers, cleaners, readers): (u32, u32, u32),
+    crowd: Crowd,
 ) -> Vec<FilePass<Named<L, W, P, T, N>>> {
+    let half = Sign::new();
     let mut jobs = Vec::new(alloc);
-    add_files(rt, alloc, volume, seats, &mut jobs, (writers, readers));
-    add_cleaners(rt, &mut jobs, cleaners);
+    add_files(rt, alloc, volume, seats, &mut jobs, &half, crowd);
+    add_others(rt, &mut jobs, &half, crowd);
     let all = thread::map_vec(
         rt,
         jobs,
@@ -53,7 +64,7 @@ pub(crate) fn work_side_by_side<
     )
     .expect(rt, "memory");
     let passes = take_back(rt, alloc, all, seats);
-    assert_eq!(rt; passes.len(), writers as usize);
+    assert_eq!(rt; passes.len(), crowd.writers as usize);
     for pass in &passes {
         let byte = AGAIN.saturating_add(byte_of(pass));
         assert!(rt;
@@ -76,11 +87,12 @@ fn add_files<'a, V: VolumeName, R: Wait + Abort>(
     volume: &'a Volume<V, MemMeta, GatedBlock>,
     seats: &mut Vec<Seat<V>>,
     jobs: &mut Vec<Job<'a, V>>,
-    (writers, readers): (u32, u32),
+    half: &'a Sign,
+    crowd: Crowd,
 ) {
-    for place in 0..writers {
+    for place in 0..crowd.writers {
         let mut pass = create(rt, volume, Kind::File);
-        if place < readers {
+        if place < crowd.readers {
             fill(rt, alloc, volume, &mut pass, BLOCKS, BEFORE);
             let reader = take_reader(rt, volume, &pass, seats);
             add(
@@ -94,13 +106,22 @@ fn add_files<'a, V: VolumeName, R: Wait + Abort>(
         }
         let byte = byte_of(&pass);
         let bytes = (byte, AGAIN.saturating_add(byte));
-        add(rt, jobs, Job::Write { pass, bytes });
+        let half = crowd.syncs.then_some(half);
+        add(rt, jobs, Job::Write { pass, bytes, half });
     }
 }
 
-fn add_cleaners<V: VolumeName>(rt: &impl Abort, jobs: &mut Vec<Job<'_, V>>, count: u32) {
-    for _cleaner in 0..count {
+fn add_others<'a, V: VolumeName>(
+    rt: &impl Abort,
+    jobs: &mut Vec<Job<'a, V>>,
+    half: &'a Sign,
+    crowd: Crowd,
+) {
+    for _cleaner in 0..crowd.cleaners {
         add(rt, jobs, Job::Clean);
+    }
+    if crowd.syncs {
+        add(rt, jobs, Job::Sync { half });
     }
 }
 
@@ -121,7 +142,7 @@ fn take_back<V: VolumeName>(
     for done in all {
         match done {
             Done::Wrote(pass) => keep(rt, &mut passes, pass),
-            Done::Cleaned => (),
+            Done::Cleaned | Done::Synced => (),
             Done::Looked(seat, same) => {
                 assert!(rt; same, "a reader has another block");
                 give_back(rt, seats, seat);
@@ -141,11 +162,12 @@ pub(crate) fn give_back<V: VolumeName>(rt: &impl Abort, seats: &mut Vec<Seat<V>>
 #[test]
 fn two_files_are_written_side_by_side(rt: HostRuntime) -> Result<(), Fail> {
     let gates = Arc::new(rt.alloc(), Gates::open())?;
-    let row = Row::Crowd {
+    let row = Row::Crowd(Crowd {
         writers: 2,
         cleaners: 0,
         readers: 0,
-    };
+        syncs: false,
+    });
     for _run in 0..200u32 {
         let total = with_volume(&rt, rt.alloc(), 32, &gates, row)?;
         assert_eq!(rt; total, 2 * IN_ALL);
@@ -156,14 +178,31 @@ fn two_files_are_written_side_by_side(rt: HostRuntime) -> Result<(), Fail> {
 #[test]
 fn eight_writers_two_cleaners_and_two_readers(rt: HostRuntime) -> Result<(), Fail> {
     let gates = Arc::new(rt.alloc(), Gates::open())?;
-    let row = Row::Crowd {
+    let row = Row::Crowd(Crowd {
         writers: 8,
         cleaners: 2,
         readers: 2,
-    };
+        syncs: false,
+    });
     for _run in 0..100u32 {
         let total = with_volume(&rt, rt.alloc(), 64, &gates, row)?;
         assert_eq!(rt; total, 8 * IN_ALL);
+    }
+    Ok(())
+}
+
+#[test]
+fn four_writers_two_cleaners_and_ten_checkpoints(rt: HostRuntime) -> Result<(), Fail> {
+    let gates = Arc::new(rt.alloc(), Gates::open())?;
+    let row = Row::Crowd(Crowd {
+        writers: 4,
+        cleaners: 2,
+        readers: 0,
+        syncs: true,
+    });
+    for _run in 0..50u32 {
+        let total = with_volume(&rt, rt.alloc(), 64, &gates, row)?;
+        assert_eq!(rt; total, 4 * IN_ALL);
     }
     Ok(())
 }
