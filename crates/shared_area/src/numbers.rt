@@ -14,6 +14,7 @@ use device::{Block, DeviceError};
 use geometry::Error;
 use names::VolumeName;
 use std::sync::Wait;
+use std::sync::atomic::Ordering;
 use tickets::{NidToken, Ticket};
 
 // A number is of the shard that it leaves by this.
@@ -42,10 +43,11 @@ impl<V: VolumeName, B: Block + Drop> MainArea<V, B> {
         Err(Error::NoFile)
     }
 
-    /// Takes a free number past those of inodes, for a node of this inode's file, and gives its token into the hand. Each
-    /// lower one was seen taken at a moment of the call.
+    /// Takes a free number past those of inodes, for a node of this inode's file, and gives its token into the hand: the
+    /// lowest, where no other thread takes or gives back a number meanwhile. The search goes on where the last one ended.
     ///
-    /// The only error is NoNode, where each number from `files` + 1 to `nodes` was seen taken; then nothing has changed.
+    /// The only error is NoNode, where each number from `files` + 1 to `nodes` was seen taken at a moment of the call; then
+    /// nothing has changed.
     pub fn new_nid<R: Wait>(&self, rt: &R, hand: &mut Permit, inode: u32) -> Result<NidToken, Error>
         requires book { hand.old.book ≡ V.Books.books.book }
         ensures token { IfOk result (λ token. token ≡ bare_entry token.number inode) }
@@ -55,13 +57,50 @@ impl<V: VolumeName, B: Block + Drop> MainArea<V, B> {
         ensures error { IfErr result (λ error. error ≡ NoNode) }
         ensures err { OnErr result (hand.new ≡ hand.old) }
     {
-        let geometry = self.geometry();
-        for before in geometry.files..geometry.nodes {
+        let files = self.geometry().files;
+        let seen = self.nodes_seen.load(Ordering::Relaxed);
+        let first = if seen < files { files } else { seen };
+        if let Some(token) = self.take_past(rt, hand, first, inode) {
+            self.see_taken(seen, &token);
+            return Ok(token);
+        }
+        match self.take_past(rt, hand, files, inode) {
+            Some(token) => {
+                self.see_taken(seen, &token);
+                Ok(token)
+            }
+            None => Err(Error::NoNode),
+        }
+    }
+
+    // The token of the first free number past this one, to `nodes`.
+    fn take_past<R: Wait>(
+        &self,
+        rt: &R,
+        hand: &mut Permit,
+        first: u32,
+        inode: u32,
+    ) -> Option<NidToken>
+        requires book { hand.old.book ≡ V.Books.books.book }
+        ensures token { IfSome result (λ token. token ≡ bare_entry token.number inode) }
+        ensures low { IfSome result (λ token. first < token.number) }
+        ensures high { IfSome result (λ token. token.number ≤ V.Numbers.geometry.nodes) }
+        ensures hand { MatchOption result (hand.new ≡ hand.old) (λ token. hand.new ≡ record hand.old { tokens = token ∷ hand.old.tokens }) }
+    {
+        for before in first..self.geometry().nodes {
             if let Some(token) = self.take(rt, hand, before + 1, inode) {
-                return Ok(token);
+                return Some(token);
             }
         }
-        Err(Error::NoNode)
+        None
+    }
+
+    // The next search begins past this token's number, unless a lower one was given back since the search before it.
+    fn see_taken(&self, seen: u32, token: &NidToken) {
+        let number = token.number();
+        let _ = self
+            .nodes_seen
+            .compare_exchange(seen, number, Ordering::Relaxed, Ordering::Relaxed);
     }
 
     /// Spends a token that is in hand: its number is free again. The node's block, where it had one, comes out with its
@@ -75,8 +114,13 @@ impl<V: VolumeName, B: Block + Drop> MainArea<V, B> {
           tokens = without same_entry token hand.old.tokens;
         } }
     {
-        let mut cell = self.lock_shard(rt, token.number() % SHARDS);
-        cell.give(self.books(), hand, token)
+        let number = token.number();
+        let mut cell = self.lock_shard(rt, number % SHARDS);
+        let ticket = cell.give(self.books(), hand, token);
+        if self.geometry().files < number {
+            let _ = self.nodes_seen.fetch_min(number - 1, Ordering::Relaxed);
+        }
+        ticket
     }
 
     /// A node gets the block of a ticket that is in hand, and its entry the block's address. The block before it, where it
