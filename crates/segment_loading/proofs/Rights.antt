@@ -1,5 +1,5 @@
 -- The rights of the last segment, and those of the others.
-use Rattle.std.proofs.Common.{◌≡◌, ℕ, ◌+◌, ◌-◌, ◌<◌, Bool, List, [], ◌∷◌, ◌++◌, length, get_or, map, replicate, if◌then◌else◌, Option, Some, None, inl, inr, refl, sym, ap, subst, ◌∙◌, arith}
+use Rattle.std.proofs.Common.{◌≡◌, ℕ, ◌+◌, ◌-◌, ◌*◌, ◌<◌, Bool, List, [], ◌∷◌, ◌++◌, length, get_or, map, replicate, if◌then◌else◌, Option, Some, None, inl, inr, refl, sym, ap, subst, ◌∙◌, arith}
 use Rattle.std.specs.Prelude.{IfSome}
 use Rattle.std.proofs.lemmas.Bool.{cases_lt}
 use Rattle.std.proofs.lemmas.List.{length-append, get_or-map, get_or_past}
@@ -8,16 +8,19 @@ use Rattle.sums.proofs.Indexing.{each_front, each_last}
 use Rattle.atomic_table.specs.Seated.{TableId}
 use Rattle.geometry.specs.declared.geometry.Geometry.{Geometry}
 use Rattle.geometry.specs.declared.shape.Shape.{Shape}
+use Rattle.geometry.specs.Shape.{segment_blocks}
 use Rattle.books.specs.Accounts.{SegmentView}
 use Rattle.image.specs.Image.{Image}
+use Rattle.tickets.specs.Placed.{Placed}
 use Rattle.words.specs.Tokens.{Post, FreeSegment, OpenSegment, fresh_post, fresh_slip}
 use Rattle.sit.specs.Room.{RoomOf}
 use Rattle.sit.specs.Registered.{Registered}
 use Rattle.image.specs.declared.image.Place.{Place}
 use Rattle.image.specs.Rules.{IsLawful, IsPlace}
 use borrow.Author.Tests.{lt-ltb}
-use Rattle.segment_loading.specs.Rights.{AreRights}
-use Rattle.segment_loading.specs.Table.{HaveBytes}
+use Rattle.sit.specs.Loading.{Loaded}
+use Rattle.segment_loading.specs.Rights.{AreRights, IsRightOf}
+use Rattle.segment_loading.specs.Table.{HaveBytes, AreTicketsPast}
 use Rattle.segment_loading.specs.States.{slip_weight, slip_from, AreSegmentsFrom}
 use Rattle.segment_loading.proofs.Tables.{all_none}
 
@@ -57,17 +60,13 @@ module _ (shape : Shape) (book table : TableId) (rooms rooms' : List RoomOf) (ac
   all_slips : (k : ℕ) (other : FreeSegment) → k < length (slips' ++ slip ∷ []) → get_or (slips' ++ slip ∷ []) k other ≡ fresh_slip table k
   all_slips = subst (λ xs. (k : ℕ) (other : FreeSegment) → k < length xs → get_or xs k other ≡ fresh_slip table k) slips_end rights.slips_are
 
-  pub room_is : room ≡ record { shape = shape; number = length rooms' }
-  room_is = each_last (λ k r. r ≡ record { shape = shape; number = k }) rooms' room all_rooms
-
-  pub account_is : account ≡ record { book = book; segment = length rooms'; marks = [] }
-  account_is = each_last (λ k a. a ≡ record { book = book; segment = k; marks = [] }) accounts' account all_accounts ∙ (λ i. record { book = book; segment = few_accounts i; marks = [] })
-
-  pub standing_is : standing ≡ fresh_post table (length rooms')
-  standing_is = each_last (λ k s. s ≡ fresh_post table k) standings' standing all_standings ∙ ap (fresh_post table) few_standings
-
-  pub slip_is : slip ≡ fresh_slip table (length rooms')
-  slip_is = each_last (λ k s. s ≡ fresh_slip table k) slips' slip all_slips ∙ ap (fresh_slip table) few_slips
+  pub right_is : IsRightOf shape book table (length rooms') room account standing slip
+  right_is = record {
+    room_is = each_last (λ k r. r ≡ record { shape = shape; number = k }) rooms' room all_rooms;
+    account_is = each_last (λ k a. a ≡ record { book = book; segment = k; marks = [] }) accounts' account all_accounts ∙ (λ i. record { book = book; segment = few_accounts i; marks = [] });
+    standing_is = each_last (λ k s. s ≡ fresh_post table k) standings' standing all_standings ∙ ap (fresh_post table) few_standings;
+    slip_is = each_last (λ k s. s ≡ fresh_slip table k) slips' slip all_slips ∙ ap (fresh_slip table) few_slips;
+  }
 
   pub rights_next : AreRights shape book table rooms' accounts' standings' slips'
   rights_next = record {
@@ -80,6 +79,14 @@ module _ (shape : Shape) (book table : TableId) (rooms rooms' : List RoomOf) (ac
     slips_count = few_slips;
   }
 
+-- a segment of which no block has come
+abbrev pub begun : Shape → TableId → ℕ → Loaded
+begun shape book number = record { shape = shape; number = number; book = book; left = segment_blocks shape; summaries = replicate (segment_blocks shape) None; contents = replicate (segment_blocks shape) []; failed = 0 }
+
+pub begun_is : {shape : Shape} {book table : TableId} {number : ℕ} {room : RoomOf} {account : SegmentView} {standing : Post} {slip : FreeSegment}
+    → IsRightOf shape book table number room account standing slip → begun room.shape account.book room.number ≡ begun shape book number
+begun_is right i = begun (right.room_is i).shape (right.account_is i).book (right.room_is i).number
+
 -- the bytes of the blocks of a run, by their addresses
 pub bytes_of : {B : Type 0} → (B → List ℕ) → List B → ℕ → List ℕ
 bytes_of content blocks a = get_or (map content blocks) (a - 1) []
@@ -89,6 +96,12 @@ unfolding bytes_of
 have_own content blocks k other within =
     let back : k + 1 - 1 ≡ k = omega arith in
     sym (ap (λ i. get_or (map content blocks) i []) back ∙ get_or-map content blocks k other [] within)
+
+-- once no segment is left the table has the tickets of all blocks
+pub all_come : (geometry : Geometry) (image : Image) (bytes : ℕ → List ℕ) (tickets : List (Option Placed)) (segments blocks : ℕ) → segments ≡ 0 → blocks ≡ segments * segment_blocks geometry.shape
+    → AreTicketsPast geometry image bytes blocks tickets → AreTicketsPast geometry image bytes 0 tickets
+all_come geometry image bytes tickets segments blocks none so_many =
+    subst (λ k. AreTicketsPast geometry image bytes k tickets) (so_many ∙ (ap (λ k. k * segment_blocks geometry.shape) none ∙ omega arith))
 
 -- before the first segment has its blocks
 module _ (geometry : Geometry) (image : Image) (lawful : IsLawful geometry image) (book table : TableId) where

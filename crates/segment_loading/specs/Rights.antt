@@ -16,3 +16,10 @@ pub record AreRights (shape : Shape) (book table : TableId) (rooms : List RoomOf
   pub accounts_count : length accounts ≡ length rooms
   pub standings_count : length standings ≡ length rooms
   pub slips_count : length slips ≡ length rooms
+
+-- What a segment of this number is put together from.
+pub record IsRightOf (shape : Shape) (book table : TableId) (number : ℕ) (room : RoomOf) (account : SegmentView) (standing : Post) (slip : FreeSegment) : Type 0 where
+  pub room_is : room ≡ record { shape = shape; number = number }
+  pub account_is : account ≡ record { book = book; segment = number; marks = [] }
+  pub standing_is : standing ≡ fresh_post table number
+  pub slip_is : slip ≡ fresh_slip table number

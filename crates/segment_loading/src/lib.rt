@@ -5,10 +5,12 @@
 
 mod blocks;
 mod owners;
+mod segment_rights;
 mod segments;
 mod settling;
 mod table;
 
-pub use segments::{SegmentRights, load_segments};
+pub use segment_rights::SegmentRights;
+pub use segments::load_segments;
 pub use settling::LoadedSegments;
 pub use table::{free_table, new_table, put_at, take_at};

@@ -14,35 +14,14 @@ ghost use Rattle.segment_loading.specs.Table.{AreTicketsPast, HaveBytes};
 ghost use Rattle.segment_loading.specs.States.{AreSegmentsFrom};
 
 use crate::blocks::load_blocks;
+use crate::segment_rights::{SegmentRight, SegmentRights};
 use crate::settling::LoadedSegments;
-use books::{Books, Permit, SegmentAccount};
+use books::{Books, Permit};
 use device::Block;
 use geometry::Geometry;
 use image::Image;
-use sit::Room;
 use tickets::Ticket;
-use words::{Standing, StoredSlip, Words};
-
-/// The memory of each segment, its account of the books, its standing of the words and the slip with which it is opened, for
-/// the segments from 0 on.
-#[derive(Drop)]
-pub struct SegmentRights<B: Block + Drop> {
-    pub rooms: Vec<Room<B>>,
-    pub accounts: Vec<SegmentAccount>,
-    pub standings: Vec<Standing>,
-    pub slips: Vec<StoredSlip>,
-}
-
-// The last of some values.
-fn take_last<T>(values: &mut Vec<T>) -> T
-    requires { 0 < length values.old.items }
-    ensures { values.old.items ≡ values.new.items ++ result ∷ [] }
-{
-    match values.pop() {
-        Some(value) => value,
-        None => unreachable!(),
-    }
-}
+use words::Words;
 
 /// The blocks of a device come into the segments of a lawful image, the last ones first. The tickets of those that it marks
 /// come into the hand and stand in the table, each at its address. It takes no memory.
@@ -52,7 +31,7 @@ pub fn load_segments<B: Block + Drop>(
     books: &Books,
     words: &Words,
     permit: &mut Permit,
-    rights: SegmentRights<B>,
+    mut rights: SegmentRights<B>,
     mut segments: LoadedSegments<B>,
     blocks: &mut Vec<B>,
     tickets: &mut Vec<Option<Ticket<B>>>,
@@ -78,17 +57,14 @@ pub fn load_segments<B: Block + Drop>(
     ensures blocks { length blocks.new.items ≡ 0 }
     ensures capacity { vec_capacity blocks.new ≡ vec_capacity blocks.old }
 {
-    let SegmentRights {
-        mut rooms,
-        mut accounts,
-        mut standings,
-        mut slips,
-    } = rights;
-    'rooms: while let Some(room) = rooms.pop() {
-        let number = rooms.len() as u32;
-        let account = take_last(&mut accounts);
-        let standing = take_last(&mut standings);
-        let slip = take_last(&mut slips);
+    'rights: while let Some(right) = rights.take_last(geometry, books, words) {
+        let number = rights.rooms.len() as u32;
+        let SegmentRight {
+            room,
+            account,
+            standing,
+            slip,
+        } = right;
         let mut loading = room.load(account);
         load_blocks(
             geometry,

@@ -31,7 +31,6 @@ loop-turn-preserved g c =
     let some : 0 < length old = omega arith in
     let one = first_slip table c.args.segments old slip c.loop-turn.invariant.slips some c.remove-slip.ensures.value in
     let others = other_slips table c.args.segments old rest c.remove-slip.ensures.items c.loop-turn.invariant.slips in
-    let there_rest = c.remove-slip.new.self.ok in
     let less = c.remove-slip.ensures.len in
     let fewer : length rest + 1 ≡ length old = omega arith in
     record {

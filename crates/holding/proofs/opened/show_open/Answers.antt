@@ -11,7 +11,6 @@ pub show_open-requires-clause-words : goal.show_open-requires-clause-words
 show_open-requires-clause-words g c =
     let len = c.len-k-end.ensures in
     let test = c.loop-k-test.true in
-    let long = c.args.logs.now.ok in
     let low : c.loop-k.k < length c.args.logs.now.items = omega arith in
     c.requires.words
     ∙ (slip_is g.V.Numbers.GeometryName.geometry g.V.Books.BooksName.books.book g.V.Words.WordsName.words c.args.segments.now.items c.loop-k.segments.items c.args.logs.now.items c.loop-k.logs.items
@@ -22,7 +21,6 @@ pub show_open-requires-clause-slip : goal.show_open-requires-clause-slip
 show_open-requires-clause-slip g c =
     let len = c.len-k-end.ensures in
     let test = c.loop-k-test.true in
-    let long = c.args.logs.now.ok in
     let low : c.loop-k.k < length c.args.logs.now.items = omega arith in
     (slip_is g.V.Numbers.GeometryName.geometry g.V.Books.BooksName.books.book g.V.Words.WordsName.words c.args.segments.now.items c.loop-k.segments.items c.args.logs.now.items c.loop-k.logs.items
     c.requires.segments c.requires.logs c.requires.every c.loop-k.invariant.segments c.loop-k.invariant.logs
@@ -36,7 +34,6 @@ loop-k-preserved g c =
     let log = c.index.result.now in
     let len = c.len-k-end.ensures in
     let test = c.loop-k-test.true in
-    let long = c.args.logs.now.ok in
     let low : k < length logs = omega arith in
     let here : log ≡ get_or logs k log = c.index.ensures ∙ ap (λ l. get_or l k log) c.loop-k.invariant.logs in
     let before = c.loop-k.invariant.there in

@@ -10,109 +10,36 @@ use Rattle.mounted_files.proofs.law.tell_file.Goals as goal
 
 pub tell_loaded-requires-clause-lengths : goal.tell_loaded-requires-clause-lengths
 tell_loaded-requires-clause-lengths g c =
-    let geometry = c.args.geometry.now in
     let image = image_view c.args.image.now in
-    let file = c.args.file.now in
     let loaded = c.requires.loaded in
-    let shape = loaded.shape_is in
-    let bytes = c.requires.blocks.0 in
-    let blocks = c.requires.blocks.1 in
-    let goods = c.requires.blocks.2 in
-    let all = c.args.stock.now.all in
-    let lawful = c.requires.lawful in
-    let fits = c.tell_lawful.ensures.fits in
-    subst (λ s. (index : ℕ) → data_address s image c.args.inode index ≢ 0 → index < file.length) (sym shape)
-    (subst (λ n. (index : ℕ) → data_address geometry.shape image c.args.inode index ≢ 0 → index < n) (sym loaded.length_is) c.tell_lawful.ensures.lengths)
+    subst (λ s. (index : ℕ) → data_address s image c.args.inode index ≢ 0 → index < c.args.file.now.length) (sym loaded.shape_is)
+    (subst (λ n. (index : ℕ) → data_address c.args.geometry.now.shape image c.args.inode index ≢ 0 → index < n) (sym loaded.length_is) c.tell_lawful.ensures.lengths)
 
 pub returns-clause-short : goal.returns-clause-short
 returns-clause-short g c =
     let geometry = c.args.geometry.now in
-    let image = image_view c.args.image.now in
     let file = c.args.file.now in
     let loaded = c.requires.loaded in
-    let shape = loaded.shape_is in
-    let bytes = c.requires.blocks.0 in
-    let blocks = c.requires.blocks.1 in
-    let goods = c.requires.blocks.2 in
-    let all = c.args.stock.now.all in
-    let lawful = c.requires.lawful in
-    let fits = c.tell_lawful.ensures.fits in
-    let short : file.length ≤ largest_length file.shape = subst (λ s. file.length ≤ largest_length s) (sym shape) (subst (λ n. n ≤ largest_length geometry.shape) (sym loaded.length_is) (length_within geometry image lawful bytes all goods c.args.inode file.token loaded.token)) in
-    short
+    let within = length_within geometry (image_view c.args.image.now) c.requires.lawful c.requires.blocks.0 c.args.stock.now.all c.requires.blocks.2 c.args.inode file.token loaded.token in
+    subst (λ s. file.length ≤ largest_length s) (sym loaded.shape_is) (subst (λ n. n ≤ largest_length geometry.shape) (sym loaded.length_is) within)
+
+pub returns-clause-counted : goal.returns-clause-counted
+returns-clause-counted g c = file_counted c.args.file.now c.tell_loaded.ensures.file (returns-clause-short g c)
 
 pub returns-clause-numbered : goal.returns-clause-numbered
 returns-clause-numbered g c =
-    let geometry = c.args.geometry.now in
-    let image = image_view c.args.image.now in
-    let file = c.args.file.now in
-    let loaded = c.requires.loaded in
-    let shape = loaded.shape_is in
-    let bytes = c.requires.blocks.0 in
-    let blocks = c.requires.blocks.1 in
-    let goods = c.requires.blocks.2 in
-    let all = c.args.stock.now.all in
-    let lawful = c.requires.lawful in
-    let fits = c.tell_lawful.ensures.fits in
-    all_numbered geometry image lawful bytes all goods blocks c.args.inode file loaded fits
-
-pub returns-clause-whole : goal.returns-clause-whole
-returns-clause-whole g c =
-    let geometry = c.args.geometry.now in
-    let image = image_view c.args.image.now in
-    let file = c.args.file.now in
-    let loaded = c.requires.loaded in
-    let shape = loaded.shape_is in
-    let bytes = c.requires.blocks.0 in
-    let blocks = c.requires.blocks.1 in
-    let goods = c.requires.blocks.2 in
-    let all = c.args.stock.now.all in
-    let lawful = c.requires.lawful in
-    let fits = c.tell_lawful.ensures.fits in
-    λ index t at. (let there = c.tell_loaded.ensures.contents index t at in
-    ticket_whole geometry image bytes all goods blocks t.mark.address t there.0 there.1 ∙ ap block_bytes (sym shape))
-
-pub returns-clause-counted : goal.returns-clause-counted
-returns-clause-counted g c =
-    let geometry = c.args.geometry.now in
-    let image = image_view c.args.image.now in
-    let file = c.args.file.now in
-    let loaded = c.requires.loaded in
-    let shape = loaded.shape_is in
-    let bytes = c.requires.blocks.0 in
-    let blocks = c.requires.blocks.1 in
-    let goods = c.requires.blocks.2 in
-    let all = c.args.stock.now.all in
-    let lawful = c.requires.lawful in
-    let fits = c.tell_lawful.ensures.fits in
-    let short : file.length ≤ largest_length file.shape = subst (λ s. file.length ≤ largest_length s) (sym shape) (subst (λ n. n ≤ largest_length geometry.shape) (sym loaded.length_is) (length_within geometry image lawful bytes all goods c.args.inode file.token loaded.token)) in
-    file_counted file c.tell_loaded.ensures.file short
+    all_numbered c.args.geometry.now (image_view c.args.image.now) c.requires.lawful c.requires.blocks.0 c.args.stock.now.all c.requires.blocks.2 c.requires.blocks.1 c.args.inode c.args.file.now c.requires.loaded c.tell_lawful.ensures.fits
 
 pub returns-clause-law : goal.returns-clause-law
 returns-clause-law g c =
-    let geometry = c.args.geometry.now in
-    let image = image_view c.args.image.now in
-    let file = c.args.file.now in
-    let loaded = c.requires.loaded in
-    let shape = loaded.shape_is in
-    let bytes = c.requires.blocks.0 in
-    let blocks = c.requires.blocks.1 in
-    let goods = c.requires.blocks.2 in
-    let all = c.args.stock.now.all in
-    let lawful = c.requires.lawful in
-    let fits = c.tell_lawful.ensures.fits in
-    state_law geometry image lawful bytes all goods blocks c.args.inode file loaded fits shape
+    state_law c.args.geometry.now (image_view c.args.image.now) c.requires.lawful c.requires.blocks.0 c.args.stock.now.all c.requires.blocks.2 c.requires.blocks.1 c.args.inode c.args.file.now c.requires.loaded c.tell_lawful.ensures.fits c.requires.loaded.shape_is
+
+pub returns-clause-whole : goal.returns-clause-whole
+returns-clause-whole g c = λ index t at.
+    let there = c.tell_loaded.ensures.contents index t at in
+    ticket_whole c.args.geometry.now (image_view c.args.image.now) c.requires.blocks.0 c.args.stock.now.all c.requires.blocks.2 c.requires.blocks.1 t.mark.address t there.0 there.1 ∙ ap block_bytes (sym c.requires.loaded.shape_is)
 
 pub returns-clause-contents : goal.returns-clause-contents
-returns-clause-contents g c =
-    let geometry = c.args.geometry.now in
-    let image = image_view c.args.image.now in
-    let file = c.args.file.now in
-    let loaded = c.requires.loaded in
-    let shape = loaded.shape_is in
-    let bytes = c.requires.blocks.0 in
-    let blocks = c.requires.blocks.1 in
-    let goods = c.requires.blocks.2 in
-    let all = c.args.stock.now.all in
-    let lawful = c.requires.lawful in
-    let fits = c.tell_lawful.ensures.fits in
-    λ bs are index t at. (let there = c.tell_loaded.ensures.contents index t at in (there.0, ticket_bytes geometry image bs all are t.mark.address t there.1))
+returns-clause-contents g c = λ bytes are index t at.
+    let there = c.tell_loaded.ensures.contents index t at in
+    (there.0, ticket_bytes c.args.geometry.now (image_view c.args.image.now) bytes c.args.stock.now.all are t.mark.address t there.1)

@@ -13,14 +13,14 @@ use Rattle.segment_loading.specs.Table.{AreTicketsPast, HaveBytes}
 use Rattle.segment_loading.specs.States.{AreSegmentsFrom}
 use Rattle.segment_loading.proofs.segments.load_segments.Given as goal
 
-abbrev pub invariant-rooms : goal.invariant-rooms
-invariant-rooms g l = record {
-  rights : AreRights l.geometry.shape l.books.book l.words.table l.rooms.items l.accounts.items l.standings.items l.slips.items;
-  few : length l.rooms.items ≤ l.geometry.segments;
+abbrev pub invariant-rights : goal.invariant-rights
+invariant-rights g l = record {
+  rights : AreRights l.geometry.shape l.books.book l.words.table l.rights.rooms.items l.rights.accounts.items l.rights.standings.items l.rights.slips.items;
+  few : length l.rights.rooms.items ≤ l.geometry.segments;
   run : IsBlockRun g.B.Block.address_of g.B.Block.content_of (block_bytes l.geometry.shape) 1 l.blocks.items;
-  so_many : length l.blocks.items ≡ length l.rooms.items * segment_blocks l.geometry.shape;
+  so_many : length l.blocks.items ≡ length l.rights.rooms.items * segment_blocks l.geometry.shape;
   capacity : vec_capacity l.blocks ≡ vec_capacity l.initial.blocks;
-  segments : AreSegmentsFrom l.geometry (image_view l.image) l.books.book l.words.table (length l.rooms.items) l.segments.states.items l.segments.free.items l.segments.logs.items;
+  segments : AreSegmentsFrom l.geometry (image_view l.image) l.books.book l.words.table (length l.rights.rooms.items) l.segments.states.items l.segments.free.items l.segments.logs.items;
   states_fit : l.geometry.segments ≤ vec_capacity l.segments.states;
   free_fit : l.geometry.segments ≤ vec_capacity l.segments.free;
   places : length l.tickets.items ≡ block_count l.geometry + 1;
@@ -33,5 +33,5 @@ invariant-rooms g l = record {
   account : l.permit.book ≡ l.initial.permit.book;
 }
 
-abbrev pub decreases-rooms : goal.decreases-rooms
-decreases-rooms g l = vec_len l.rooms
+abbrev pub decreases-rights : goal.decreases-rights
+decreases-rights g l = vec_len l.rights.rooms

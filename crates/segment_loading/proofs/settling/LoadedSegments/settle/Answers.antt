@@ -18,14 +18,12 @@ index_mut-requires g c =
     let many = range.logs in
     let low = some_within (image_view c.args.image.now).logs c.in-Some.log c.in-Some.place c.in-Some.ensures.0 in
     let six = c.requires.before.six in
-    let long = c.args.self.now.logs.ok.0 in
     omega arith
 
 pub push_reserved-requires-then-valid-eq0 : goal.push_reserved-requires-then-valid-eq0
 push_reserved-requires-then-valid-eq0 g c =
     let few = few_slips c.args.self.now.states.items c.args.self.now.free.items c.requires.before.slips in
     let count = c.requires.before.count in
-    let long = c.args.self.now.free.ok.0 in
     let fit = c.requires.free in
     omega arith
 
