@@ -19,13 +19,14 @@ mod tests;
 mod turns;
 
 use geometry::Error;
+use measuring::is_measure;
 use std::alloc::Global;
 use std::fmt::Write;
+use std::io;
 use std::rt::Runtime;
 use std::sync::Wait;
 use std::thread::Threads;
 use std::time::{Duration, Instant};
-use std::{env, io};
 
 const SHOWN: u32 = 10;
 
@@ -103,16 +104,6 @@ fn main(rt: HostRuntime) -> io::Result<()> {
             println!(rt; "refused {number} {error:?}")
         }
     }
-}
-
-// Tells whether an argument asks for times.
-fn is_measure<R: Runtime>(rt: &R) -> io::Result<bool> {
-    for word in env::args(rt)? {
-        if word.as_str() == "--measure" {
-            return Ok(true);
-        }
-    }
-    Ok(false)
 }
 
 // How many of ten pairs of each kind were done.

@@ -13,9 +13,10 @@ mod work;
 
 use first::measure;
 use geometry::Shape;
+use measuring::is_measure;
 use std::fmt::Write;
+use std::io;
 use std::rt::Runtime;
-use std::{env, io};
 use timed::Found;
 
 // What is measured: a volume of so many segments, and a file of so many blocks.
@@ -48,16 +49,6 @@ fn main(rt: HostRuntime) -> io::Result<()> {
         Some(found) => tell_counts(&mut text, found)?,
     }
     rt.print(text.as_str())
-}
-
-// Tells whether an argument asks for times.
-fn is_measure<R: Runtime>(rt: &R) -> io::Result<bool> {
-    for word in env::args(rt)? {
-        if word.as_str() == "--measure" {
-            return Ok(true);
-        }
-    }
-    Ok(false)
 }
 
 // What was done.

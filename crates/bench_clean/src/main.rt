@@ -15,12 +15,13 @@ mod work;
 
 use geometry::Shape;
 use load::{Load, PATTERNS, POLICIES, Size, policy_name};
+use measuring::is_measure;
 use naming::measure;
 use std::alloc::Global;
 use std::fmt::Write;
+use std::io;
 use std::rt::Runtime;
 use std::sync::Wait;
-use std::{env, io};
 use work::tell;
 
 const SHOWN: Size = Size {
@@ -49,16 +50,6 @@ fn main(rt: HostRuntime) -> io::Result<()> {
         rt.print(text.as_str())?;
     }
     Ok(())
-}
-
-// Tells whether an argument asks for the large volumes.
-fn is_measure<R: Runtime>(rt: &R) -> io::Result<bool> {
-    for word in env::args(rt)? {
-        if word.as_str() == "--measure" {
-            return Ok(true);
-        }
-    }
-    Ok(false)
 }
 
 // The lines of one utilization.

@@ -17,11 +17,12 @@ mod volume;
 use file::image_file;
 use geometry::{Error, Geometry, Shape};
 use image::Image;
+use measuring::{is_measure, tell_time};
 use std::alloc::Global;
 use std::fmt::Write;
+use std::io;
 use std::rt::Runtime;
 use std::time::{Duration, Instant};
-use std::{env, io};
 use tables::ReadImage;
 use volume::{Content, Volume};
 
@@ -36,16 +37,6 @@ fn main(rt: HostRuntime) -> io::Result<()> {
         shown(alloc)?
     };
     rt.print(text.as_str())
-}
-
-// Tells whether an argument asks for times.
-fn is_measure<R: Runtime>(rt: &R) -> io::Result<bool> {
-    for word in env::args(rt)? {
-        if word.as_str() == "--measure" {
-            return Ok(true);
-        }
-    }
-    Ok(false)
 }
 
 // The two volumes of 16 tiny segments.
@@ -138,15 +129,6 @@ fn tell_times(
     text.push_str(", a read ")?;
     tell_time(text, read)?;
     text.push_str("\n")?;
-    Ok(())
-}
-
-// Adds milliseconds, to three places.
-fn tell_time(text: &mut String, time: Duration) -> io::Result<()> {
-    let micros = time.as_micros();
-    let whole = micros / 1000;
-    let rest = micros % 1000;
-    write!(text, "{whole}.{rest:03} ms")?;
     Ok(())
 }
 

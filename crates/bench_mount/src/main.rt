@@ -15,12 +15,13 @@ mod sparse;
 use check::Found;
 use first::measure;
 use geometry::Shape;
+use measuring::{is_measure, tell_time};
 use std::alloc::Global;
 use std::fmt::Write;
+use std::io;
 use std::rt::Runtime;
 use std::sync::Wait;
 use std::time::Duration;
-use std::{env, io};
 
 // A volume of so many segments and node numbers, with so many files, each of which has so many direct nodes.
 #[derive(Clone, Copy)]
@@ -76,16 +77,6 @@ fn main(rt: HostRuntime) -> io::Result<()> {
     rt.print(text.as_str())
 }
 
-// Tells whether an argument asks for times.
-fn is_measure<R: Runtime>(rt: &R) -> io::Result<bool> {
-    for word in env::args(rt)? {
-        if word.as_str() == "--measure" {
-            return Ok(true);
-        }
-    }
-    Ok(false)
-}
-
 // Measures a volume, and adds the line of it.
 fn tell_volume<R: Runtime + Wait>(
     rt: &R,
@@ -130,15 +121,6 @@ fn tell_times(text: &mut String, found: Found) -> io::Result<()> {
     tell_time(text, found.mount)?;
     let (times, hundredths) = quotient(found.mount, found.check);
     write!(text, ", {times}.{hundredths:02} times")?;
-    Ok(())
-}
-
-// Adds milliseconds, to three places.
-fn tell_time(text: &mut String, time: Duration) -> io::Result<()> {
-    let micros = time.as_micros();
-    let whole = micros / 1000;
-    let rest = micros % 1000;
-    write!(text, "{whole}.{rest:03} ms")?;
     Ok(())
 }
 

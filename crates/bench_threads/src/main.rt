@@ -14,14 +14,15 @@ mod writer;
 
 use depth::Depth;
 use geometry::Shape;
+use measuring::is_measure;
 use naming::measure;
 use side::Work;
 use std::alloc::Global;
 use std::fmt::Write;
+use std::io;
 use std::rt::Runtime;
 use std::sync::Wait;
 use std::thread::Threads;
-use std::{env, io};
 
 // What is measured: so many blocks of each file, and so many overwrites by each thread.
 #[derive(Clone, Copy)]
@@ -58,16 +59,6 @@ fn main(rt: HostRuntime) -> io::Result<()> {
         }
     }
     rt.print(text.as_str())
-}
-
-// Tells whether an argument asks for times.
-fn is_measure<R: Runtime>(rt: &R) -> io::Result<bool> {
-    for word in env::args(rt)? {
-        if word.as_str() == "--measure" {
-            return Ok(true);
-        }
-    }
-    Ok(false)
 }
 
 // Measures so many threads at a depth, and adds the line of it.

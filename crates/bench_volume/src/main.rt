@@ -15,10 +15,11 @@ mod work;
 
 use depth::DEPTHS;
 use geometry::Shape;
+use measuring::is_measure;
 use naming::measure;
 use std::fmt::Write;
+use std::io;
 use std::rt::Runtime;
-use std::{env, io};
 use work::Work;
 
 // What is measured: so many blocks of a file, so many writes and reads of them, and so many readers.
@@ -57,16 +58,6 @@ fn main(rt: HostRuntime) -> io::Result<()> {
         }
     }
     rt.print(text.as_str())
-}
-
-// Tells whether an argument asks for times.
-fn is_measure<R: Runtime>(rt: &R) -> io::Result<bool> {
-    for word in env::args(rt)? {
-        if word.as_str() == "--measure" {
-            return Ok(true);
-        }
-    }
-    Ok(false)
 }
 
 // How many calls were done at a depth.
