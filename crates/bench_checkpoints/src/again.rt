@@ -69,9 +69,14 @@ impl<R: Runtime + Wait> VolumeTask<MemMeta, MemBlock, R> for TimedMount {
 
     fn run<V: VolumeName>(self, rt: &R, opened: OpenVolume<V, MemMeta, MemBlock>) -> Self::Answer {
         let time = self.start.elapsed(rt);
-        let base = opened.volume.base();
-        let geometry = opened.volume.geometry();
-        drop(opened.volume.discard(rt));
+        let OpenVolume {
+            volume,
+            seats: _,
+            passes: _,
+        } = opened;
+        let base = volume.base();
+        let geometry = volume.geometry();
+        drop(volume.discard(rt));
         Ok(Again {
             base,
             geometry,

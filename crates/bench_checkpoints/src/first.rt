@@ -42,7 +42,12 @@ impl<R: Runtime + Wait> VolumeTask<MemMeta, MemBlock, R> for OneFile {
     type Answer = io::Result<Option<Found>>;
 
     fn run<V: VolumeName>(self, rt: &R, opened: OpenVolume<V, MemMeta, MemBlock>) -> Self::Answer {
-        measure_volume(rt, self.alloc, opened.volume, opened.seats, self.size)
+        let OpenVolume {
+            volume,
+            seats,
+            passes: _,
+        } = opened;
+        measure_volume(rt, self.alloc, volume, seats, self.size)
     }
 }
 

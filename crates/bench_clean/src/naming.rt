@@ -32,7 +32,11 @@ impl<R: Wait> VolumeTask<MemMeta, MemBlock, R> for LoadedFile {
     type Answer = Result<Counts, Error>;
 
     fn run<V: VolumeName>(self, rt: &R, opened: OpenVolume<V, MemMeta, MemBlock>) -> Self::Answer {
-        let volume = opened.volume;
+        let OpenVolume {
+            volume,
+            seats: _,
+            passes: _,
+        } = opened;
         let counts = measure_file(rt, self.alloc, &volume, self.load);
         drop(volume.discard(rt));
         counts

@@ -83,8 +83,13 @@ impl<R: Runtime + Wait> VolumeTask<MemMeta, MemBlock, R> for TimedMount {
 
     fn run<V: VolumeName>(self, rt: &R, opened: OpenVolume<V, MemMeta, MemBlock>) -> Self::Answer {
         let time = self.start.elapsed(rt);
-        let total = opened.volume.base().total;
-        drop(opened.volume.discard(rt));
+        let OpenVolume {
+            volume,
+            seats: _,
+            passes: _,
+        } = opened;
+        let total = volume.base().total;
+        drop(volume.discard(rt));
         Ok(Again { total, time: time? })
     }
 }

@@ -44,7 +44,12 @@ impl<R: Runtime + Wait> VolumeTask<MemMeta, MemBlock, R> for FarBlocks {
     type Answer = io::Result<Option<Found>>;
 
     fn run<V: VolumeName>(self, rt: &R, opened: OpenVolume<V, MemMeta, MemBlock>) -> Self::Answer {
-        fill_and_close(rt, self.alloc, opened.volume, opened.seats, self.size)
+        let OpenVolume {
+            volume,
+            seats,
+            passes: _,
+        } = opened;
+        fill_and_close(rt, self.alloc, volume, seats, self.size)
     }
 }
 

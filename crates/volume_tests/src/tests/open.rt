@@ -36,6 +36,11 @@ impl<R: Wait + Abort> VolumeTask<MemMeta, MemBlock, R> for RowTask {
     type Answer = Parts<MemMeta, MemBlock>;
 
     fn run<V: VolumeName>(self, rt: &R, opened: OpenVolume<V, MemMeta, MemBlock>) -> Self::Answer {
-        run_row(rt, self.alloc, opened.volume, opened.seats, self.row)
+        let OpenVolume {
+            volume,
+            seats,
+            passes: _,
+        } = opened;
+        run_row(rt, self.alloc, volume, seats, self.row)
     }
 }
