@@ -1,15 +1,16 @@
-//! A device that is mounted.
-ghost use Rattle.std.specs.Prelude.{ℕ};
+//! A device that is mounted: a function for each step, so that names are picked between them.
+ghost use Rattle.std.specs.Prelude.{◌≡◌, ℕ};
 ghost use Rattle.device.specs.Parts.{IsBlockRun};
 
 use crate::timed::{Checkpoints, Found};
 use device::{Block, MemBlock, MemMeta, Parts};
 use geometry::Geometry;
-use mounting::{OpenVolume, VolumeTask, on_mounted_volume};
-use names::VolumeName;
+use mounting::{Mounted, MountedQueues, mount};
+use names::{BooksName, GeometryName, PoolName, TurnName, WordsName};
 use shared_volume::Base;
 use std::alloc::Global;
 use std::io;
+use std::marker::Brand;
 use std::rt::Runtime;
 use std::sync::Wait;
 use std::time::{Duration, Instant};
@@ -31,12 +32,12 @@ pub fn measure_mount<R: Runtime + Wait>(
 ) -> io::Result<Option<Found>>
     requires run { (bytes : ℕ) × IsBlockRun ⟦<MemBlock as Block>⟧.address_of ⟦<MemBlock as Block>⟧.content_of bytes 1 parts.blocks.items }
 {
-    let task = TimedMount {
-        start: Instant::now(rt)?,
+    let start = Instant::now(rt)?;
+    let Ok(mounted) = mount(alloc, parts) else {
+        return Ok(None);
     };
-    let again = match on_mounted_volume(rt, alloc, parts, task) {
-        Ok(again) => again?,
-        Err(_fault) => return Ok(None),
+    let Some(again) = with_mounted::<Brand, Brand, Brand, R>(rt, mounted, start)? else {
+        return Ok(None);
     };
     let Again {
         base,
@@ -58,30 +59,51 @@ pub fn measure_mount<R: Runtime + Wait>(
     }))
 }
 
-// A mount that began at this moment.
-#[derive(Clone, Copy)]
-struct TimedMount {
+fn with_mounted<L: BooksName, W: WordsName, N: GeometryName, R: Runtime + Wait>(
+    rt: &R,
+    mounted: Mounted<MemMeta, MemBlock>,
     start: Instant,
+) -> io::Result<Option<Again>>
+    requires books { mounted.books ≡ L.books }
+    requires words { mounted.words ≡ W.words }
+    requires geometry { mounted.geometry ≡ N.geometry }
+{
+    match mounted.name::<L, W, N>() {
+        Ok(opened) => with_opened::<L, W, N, Brand, Brand, R>(rt, opened, start),
+        Err(_fault) => Ok(None),
+    }
 }
 
-impl<R: Runtime + Wait> VolumeTask<MemMeta, MemBlock, R> for TimedMount {
-    type Answer = io::Result<Again>;
-
-    fn run<V: VolumeName>(self, rt: &R, opened: OpenVolume<V, MemMeta, MemBlock>) -> Self::Answer {
-        let time = self.start.elapsed(rt);
-        let OpenVolume {
-            volume,
-            seats: _,
-            passes: _,
-        } = opened;
-        let base = volume.base();
-        let geometry = volume.geometry();
-        drop(volume.discard(rt));
-        Ok(Again {
-            base,
-            geometry,
-            time: time?,
-        })
+fn with_opened<
+    L: BooksName,
+    W: WordsName,
+    N: GeometryName,
+    P: PoolName,
+    T: TurnName,
+    R: Runtime + Wait,
+>(
+    rt: &R,
+    opened: MountedQueues<L, W, N, MemMeta, MemBlock>,
+    start: Instant,
+) -> io::Result<Option<Again>>
+    requires ordinary { opened.queues.ordinary ≡ P.ordinary }
+    requires reserve { opened.queues.reserve ≡ P.reserve }
+    requires turns { opened.channel.turns ≡ T.turns }
+    requires key { opened.channel.key ≡ T.key }
+{
+    match opened.name::<P, T, R>(rt) {
+        Ok((volume, _seats, _passes)) => {
+            let time = start.elapsed(rt);
+            let base = volume.base();
+            let geometry = volume.geometry();
+            drop(volume.discard(rt));
+            Ok(Some(Again {
+                base,
+                geometry,
+                time: time?,
+            }))
+        }
+        Err(_fault) => Ok(None),
     }
 }
 

@@ -1,53 +1,75 @@
-//! What is measured of a new volume.
+//! How a measurement comes to its volume: a function for each step, so that names are picked between them.
+ghost use Rattle.std.specs.Prelude.{◌≡◌};
+
 use crate::Size;
 use crate::again::measure_mount;
 use crate::timed::{Checkpoints, Found};
 use crate::work::run_checkpoints;
 use device::{MemBlock, MemDevice, MemMeta};
 use geometry::{Error, Geometry};
-use names::VolumeName;
-use opening::{CloseFault, Closed, FilePass, OpenVolume, Seat, Volume, VolumeTask, on_new_volume};
+use names::{BooksName, GeometryName, PoolName, TurnName, VolumeName, WordsName};
+use opening::{CloseFault, Closed, FilePass, Formatted, Opened, Seat, Volume, format};
 use std::alloc::Global;
 use std::io;
+use std::marker::Brand;
 use std::rt::Runtime;
 use std::sync::Wait;
 use std::time::Instant;
 
-/// Measures checkpoints, a close and a mount of a new volume. None where a call was refused.
+/// Measures checkpoints, a close and a mount. None where a call was refused.
 pub fn measure<R: Runtime + Wait>(rt: &R, alloc: Global, size: Size) -> io::Result<Option<Found>> {
-    match on_device(rt, OneFile { alloc, size }) {
-        Ok(found) => found,
+    match new_volume(alloc, size) {
+        Ok(formatted) => with_tables::<Brand, Brand, Brand, R>(rt, alloc, formatted, size),
         Err(_) => Ok(None),
     }
 }
 
-fn on_device<R: Runtime + Wait>(rt: &R, task: OneFile) -> Result<io::Result<Option<Found>>, Error> {
-    let OneFile { alloc, size } = task;
+fn new_volume(alloc: Global, size: Size) -> Result<Formatted<MemMeta, MemBlock>, Error> {
     let geometry = Geometry::new(size.shape, size.segments, 1, 4, 1024)?;
     let parts = MemDevice::new(alloc, &geometry)?.split();
-    match on_new_volume(rt, alloc, parts, geometry, task) {
-        Ok(found) => Ok(found),
+    match format(alloc, parts, geometry) {
+        Ok(formatted) => Ok(formatted),
         Err(fault) => Err(fault.error),
     }
 }
 
-// A volume with one file.
-#[derive(Clone, Copy)]
-struct OneFile {
+fn with_tables<L: BooksName, W: WordsName, N: GeometryName, R: Runtime + Wait>(
+    rt: &R,
     alloc: Global,
+    formatted: Formatted<MemMeta, MemBlock>,
     size: Size,
+) -> io::Result<Option<Found>>
+    requires books { formatted.tables.books ≡ L.books }
+    requires words { formatted.tables.words ≡ W.words }
+    requires geometry { formatted.tables.geometry ≡ N.geometry }
+{
+    match formatted.name::<L, W, N>() {
+        Ok(opened) => with_queues::<L, W, N, Brand, Brand, R>(rt, alloc, opened, size),
+        Err(_fault) => Ok(None),
+    }
 }
 
-impl<R: Runtime + Wait> VolumeTask<MemMeta, MemBlock, R> for OneFile {
-    type Answer = io::Result<Option<Found>>;
-
-    fn run<V: VolumeName>(self, rt: &R, opened: OpenVolume<V, MemMeta, MemBlock>) -> Self::Answer {
-        let OpenVolume {
-            volume,
-            seats,
-            passes: _,
-        } = opened;
-        measure_volume(rt, self.alloc, volume, seats, self.size)
+fn with_queues<
+    L: BooksName,
+    W: WordsName,
+    N: GeometryName,
+    P: PoolName,
+    T: TurnName,
+    R: Runtime + Wait,
+>(
+    rt: &R,
+    alloc: Global,
+    opened: Opened<L, W, N, MemMeta, MemBlock>,
+    size: Size,
+) -> io::Result<Option<Found>>
+    requires ordinary { opened.queues.ordinary ≡ P.ordinary }
+    requires reserve { opened.queues.reserve ≡ P.reserve }
+    requires turns { opened.channel.turns ≡ T.turns }
+    requires key { opened.channel.key ≡ T.key }
+{
+    match opened.name::<P, T, R>(rt) {
+        Ok((volume, seats)) => measure_volume(rt, alloc, volume, seats, size),
+        Err(_fault) => Ok(None),
     }
 }
 

@@ -1,12 +1,15 @@
-//! What is counted on a new volume.
+//! How a run comes to its volume: a function for each step, so that names are picked between them.
+ghost use Rattle.std.specs.Prelude.{◌≡◌};
+
 use crate::desk::Desk;
 use crate::load::Load;
 use crate::work::Counts;
 use device::{MemBlock, MemDevice, MemMeta};
 use geometry::{Error, Geometry};
-use names::VolumeName;
-use opening::{OpenVolume, Volume, VolumeTask, on_new_volume};
+use names::{BooksName, GeometryName, PoolName, TurnName, VolumeName, WordsName};
+use opening::{Formatted, Opened, Volume, format};
 use std::alloc::Global;
+use std::marker::Brand;
 use std::sync::Wait;
 
 /// What is counted under a load, on a new volume.
@@ -14,32 +17,46 @@ pub fn measure<R: Wait>(rt: &R, alloc: Global, load: Load) -> Result<Counts, Err
     let size = load.size;
     let geometry = Geometry::new(size.shape, size.segments, 1, 1, size.numbers)?;
     let parts = MemDevice::new(alloc, &geometry)?.split();
-    let task = LoadedFile { alloc, load };
-    match on_new_volume(rt, alloc, parts, geometry, task) {
-        Ok(counts) => counts,
+    match format(alloc, parts, geometry) {
+        Ok(formatted) => with_tables::<Brand, Brand, Brand, R>(rt, alloc, formatted, load),
         Err(fault) => Err(fault.error),
     }
 }
 
-// A file under a load.
-#[derive(Clone, Copy)]
-struct LoadedFile {
+fn with_tables<L: BooksName, W: WordsName, N: GeometryName, R: Wait>(
+    rt: &R,
     alloc: Global,
+    formatted: Formatted<MemMeta, MemBlock>,
     load: Load,
+) -> Result<Counts, Error>
+    requires books { formatted.tables.books ≡ L.books }
+    requires words { formatted.tables.words ≡ W.words }
+    requires geometry { formatted.tables.geometry ≡ N.geometry }
+{
+    match formatted.name::<L, W, N>() {
+        Ok(opened) => with_queues::<L, W, N, Brand, Brand, R>(rt, alloc, opened, load),
+        Err(fault) => Err(fault.error),
+    }
 }
 
-impl<R: Wait> VolumeTask<MemMeta, MemBlock, R> for LoadedFile {
-    type Answer = Result<Counts, Error>;
-
-    fn run<V: VolumeName>(self, rt: &R, opened: OpenVolume<V, MemMeta, MemBlock>) -> Self::Answer {
-        let OpenVolume {
-            volume,
-            seats: _,
-            passes: _,
-        } = opened;
-        let counts = measure_file(rt, self.alloc, &volume, self.load);
-        drop(volume.discard(rt));
-        counts
+fn with_queues<L: BooksName, W: WordsName, N: GeometryName, P: PoolName, T: TurnName, R: Wait>(
+    rt: &R,
+    alloc: Global,
+    opened: Opened<L, W, N, MemMeta, MemBlock>,
+    load: Load,
+) -> Result<Counts, Error>
+    requires ordinary { opened.queues.ordinary ≡ P.ordinary }
+    requires reserve { opened.queues.reserve ≡ P.reserve }
+    requires turns { opened.channel.turns ≡ T.turns }
+    requires key { opened.channel.key ≡ T.key }
+{
+    match opened.name::<P, T, R>(rt) {
+        Ok((volume, _seats)) => {
+            let counts = measure_file(rt, alloc, &volume, load);
+            drop(volume.discard(rt));
+            counts
+        }
+        Err(fault) => Err(fault.error),
     }
 }
 

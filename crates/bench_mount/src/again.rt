@@ -1,13 +1,14 @@
-//! A device that is checked and mounted.
-ghost use Rattle.std.specs.Prelude.{ℕ};
+//! A device that is checked and mounted: a function for each step of a mount, so that names are picked between them.
+ghost use Rattle.std.specs.Prelude.{◌≡◌, ℕ};
 ghost use Rattle.device.specs.Parts.{IsBlockRun};
 
 use crate::check::{Checked, Found, check_file};
 use device::{Block, MemBlock, MemDevice, MemMeta, Parts};
-use mounting::{OpenVolume, VolumeTask, on_mounted_volume};
-use names::VolumeName;
+use mounting::{Mounted, MountedQueues, mount};
+use names::{BooksName, GeometryName, PoolName, TurnName, WordsName};
 use std::alloc::Global;
 use std::io;
+use std::marker::Brand;
 use std::rt::Runtime;
 use std::sync::Wait;
 use std::time::{Duration, Instant};
@@ -63,33 +64,52 @@ fn measure_mount<R: Runtime + Wait>(
 ) -> io::Result<Option<Again>>
     requires run { (bytes : ℕ) × IsBlockRun ⟦<MemBlock as Block>⟧.address_of ⟦<MemBlock as Block>⟧.content_of bytes 1 parts.blocks.items }
 {
-    let task = TimedMount {
-        start: Instant::now(rt)?,
-    };
-    match on_mounted_volume(rt, alloc, parts, task) {
-        Ok(again) => Ok(Some(again?)),
+    let start = Instant::now(rt)?;
+    match mount(alloc, parts) {
+        Ok(mounted) => with_mounted::<Brand, Brand, Brand, R>(rt, mounted, start),
         Err(_fault) => Ok(None),
     }
 }
 
-// A mount that began at this moment.
-#[derive(Clone, Copy)]
-struct TimedMount {
+fn with_mounted<L: BooksName, W: WordsName, N: GeometryName, R: Runtime + Wait>(
+    rt: &R,
+    mounted: Mounted<MemMeta, MemBlock>,
     start: Instant,
+) -> io::Result<Option<Again>>
+    requires books { mounted.books ≡ L.books }
+    requires words { mounted.words ≡ W.words }
+    requires geometry { mounted.geometry ≡ N.geometry }
+{
+    match mounted.name::<L, W, N>() {
+        Ok(opened) => with_opened::<L, W, N, Brand, Brand, R>(rt, opened, start),
+        Err(_fault) => Ok(None),
+    }
 }
 
-impl<R: Runtime + Wait> VolumeTask<MemMeta, MemBlock, R> for TimedMount {
-    type Answer = io::Result<Again>;
-
-    fn run<V: VolumeName>(self, rt: &R, opened: OpenVolume<V, MemMeta, MemBlock>) -> Self::Answer {
-        let time = self.start.elapsed(rt);
-        let OpenVolume {
-            volume,
-            seats: _,
-            passes: _,
-        } = opened;
-        let total = volume.base().total;
-        drop(volume.discard(rt));
-        Ok(Again { total, time: time? })
+fn with_opened<
+    L: BooksName,
+    W: WordsName,
+    N: GeometryName,
+    P: PoolName,
+    T: TurnName,
+    R: Runtime + Wait,
+>(
+    rt: &R,
+    opened: MountedQueues<L, W, N, MemMeta, MemBlock>,
+    start: Instant,
+) -> io::Result<Option<Again>>
+    requires ordinary { opened.queues.ordinary ≡ P.ordinary }
+    requires reserve { opened.queues.reserve ≡ P.reserve }
+    requires turns { opened.channel.turns ≡ T.turns }
+    requires key { opened.channel.key ≡ T.key }
+{
+    match opened.name::<P, T, R>(rt) {
+        Ok((volume, _seats, _passes)) => {
+            let time = start.elapsed(rt);
+            let total = volume.base().total;
+            drop(volume.discard(rt));
+            Ok(Some(Again { total, time: time? }))
+        }
+        Err(_fault) => Ok(None),
     }
 }

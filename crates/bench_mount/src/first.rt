@@ -1,55 +1,74 @@
-//! What is measured of a new volume.
+//! How a measurement comes to its volume: a function for each step, so that names are picked between them.
+ghost use Rattle.std.specs.Prelude.{◌≡◌};
+
 use crate::Size;
 use crate::again::check_and_mount;
 use crate::check::Found;
 use crate::sparse::make_files;
 use device::{MemBlock, MemDevice, MemMeta};
 use geometry::{Error, Geometry};
-use names::VolumeName;
-use opening::{CloseFault, Closed, FilePass, OpenVolume, Seat, Volume, VolumeTask, on_new_volume};
+use names::{BooksName, GeometryName, PoolName, TurnName, VolumeName, WordsName};
+use opening::{CloseFault, Closed, FilePass, Formatted, Opened, Seat, Volume, format};
 use std::alloc::Global;
 use std::io;
+use std::marker::Brand;
 use std::rt::Runtime;
 use std::sync::Wait;
 
 /// Measures a check and a mount of what a new volume with such files leaves. None where a call was refused.
 pub fn measure<R: Runtime + Wait>(rt: &R, alloc: Global, size: Size) -> io::Result<Option<Found>> {
-    match on_device(rt, FarBlocks { alloc, size }) {
-        Ok(found) => found,
+    match new_volume(alloc, size) {
+        Ok(formatted) => with_tables::<Brand, Brand, Brand, R>(rt, alloc, formatted, size),
         Err(_) => Ok(None),
     }
 }
 
-fn on_device<R: Runtime + Wait>(
-    rt: &R,
-    task: FarBlocks,
-) -> Result<io::Result<Option<Found>>, Error> {
-    let FarBlocks { alloc, size } = task;
+fn new_volume(alloc: Global, size: Size) -> Result<Formatted<MemMeta, MemBlock>, Error> {
     let geometry = Geometry::new(size.shape, size.segments, 1, size.files, size.nodes)?;
     let parts = MemDevice::new(alloc, &geometry)?.split();
-    match on_new_volume(rt, alloc, parts, geometry, task) {
-        Ok(found) => Ok(found),
+    match format(alloc, parts, geometry) {
+        Ok(formatted) => Ok(formatted),
         Err(fault) => Err(fault.error),
     }
 }
 
-// Files whose blocks stand far from each other.
-#[derive(Clone, Copy)]
-struct FarBlocks {
+fn with_tables<L: BooksName, W: WordsName, N: GeometryName, R: Runtime + Wait>(
+    rt: &R,
     alloc: Global,
+    formatted: Formatted<MemMeta, MemBlock>,
     size: Size,
+) -> io::Result<Option<Found>>
+    requires books { formatted.tables.books ≡ L.books }
+    requires words { formatted.tables.words ≡ W.words }
+    requires geometry { formatted.tables.geometry ≡ N.geometry }
+{
+    match formatted.name::<L, W, N>() {
+        Ok(opened) => with_queues::<L, W, N, Brand, Brand, R>(rt, alloc, opened, size),
+        Err(_fault) => Ok(None),
+    }
 }
 
-impl<R: Runtime + Wait> VolumeTask<MemMeta, MemBlock, R> for FarBlocks {
-    type Answer = io::Result<Option<Found>>;
-
-    fn run<V: VolumeName>(self, rt: &R, opened: OpenVolume<V, MemMeta, MemBlock>) -> Self::Answer {
-        let OpenVolume {
-            volume,
-            seats,
-            passes: _,
-        } = opened;
-        fill_and_close(rt, self.alloc, volume, seats, self.size)
+fn with_queues<
+    L: BooksName,
+    W: WordsName,
+    N: GeometryName,
+    P: PoolName,
+    T: TurnName,
+    R: Runtime + Wait,
+>(
+    rt: &R,
+    alloc: Global,
+    opened: Opened<L, W, N, MemMeta, MemBlock>,
+    size: Size,
+) -> io::Result<Option<Found>>
+    requires ordinary { opened.queues.ordinary ≡ P.ordinary }
+    requires reserve { opened.queues.reserve ≡ P.reserve }
+    requires turns { opened.channel.turns ≡ T.turns }
+    requires key { opened.channel.key ≡ T.key }
+{
+    match opened.name::<P, T, R>(rt) {
+        Ok((volume, seats)) => fill_and_close(rt, alloc, volume, seats, size),
+        Err(_fault) => Ok(None),
     }
 }
 

@@ -1,14 +1,17 @@
-//! What is measured on a new volume.
+//! How a measurement comes to its volume: a function for each step, so that names are picked between them.
+ghost use Rattle.std.specs.Prelude.{◌≡◌};
+
 use crate::Size;
 use crate::depth::Depth;
 use crate::desk::Desk;
 use crate::work::{Work, measure_on};
 use device::{MemBlock, MemDevice, MemMeta};
 use geometry::{Error, Geometry};
-use names::VolumeName;
-use opening::{OpenVolume, Seat, Volume, VolumeTask, on_new_volume};
+use names::{BooksName, GeometryName, PoolName, TurnName, VolumeName, WordsName};
+use opening::{Formatted, Opened, Seat, Volume, format};
 use std::alloc::Global;
 use std::io;
+use std::marker::Brand;
 use std::rt::Runtime;
 use std::sync::Wait;
 
@@ -20,45 +23,67 @@ pub fn measure<R: Runtime + Wait>(
     size: Size,
     depth: Depth,
 ) -> io::Result<Option<Work>> {
-    match on_device(rt, OneFile { alloc, size, depth }) {
-        Ok(work) => work,
+    match new_volume(alloc, size) {
+        Ok(formatted) => with_tables::<Brand, Brand, Brand, R>(rt, alloc, formatted, size, depth),
         Err(_) => Ok(None),
     }
 }
 
-fn on_device<R: Runtime + Wait>(rt: &R, task: OneFile) -> Result<io::Result<Option<Work>>, Error> {
-    let OneFile { alloc, size, .. } = task;
+fn new_volume(alloc: Global, size: Size) -> Result<Formatted<MemMeta, MemBlock>, Error> {
     let geometry = Geometry::new(size.shape, 16, 1, 1, 32)?;
     let parts = MemDevice::new(alloc, &geometry)?.split();
-    match on_new_volume(rt, alloc, parts, geometry, task) {
-        Ok(work) => Ok(work),
+    match format(alloc, parts, geometry) {
+        Ok(formatted) => Ok(formatted),
         Err(fault) => Err(fault.error),
     }
 }
 
-// The calls on a file at a depth.
-#[derive(Clone, Copy)]
-struct OneFile {
+fn with_tables<L: BooksName, W: WordsName, N: GeometryName, R: Runtime + Wait>(
+    rt: &R,
     alloc: Global,
+    formatted: Formatted<MemMeta, MemBlock>,
     size: Size,
     depth: Depth,
+) -> io::Result<Option<Work>>
+    requires books { formatted.tables.books ≡ L.books }
+    requires words { formatted.tables.words ≡ W.words }
+    requires geometry { formatted.tables.geometry ≡ N.geometry }
+{
+    match formatted.name::<L, W, N>() {
+        Ok(opened) => with_queues::<L, W, N, Brand, Brand, R>(rt, alloc, opened, size, depth),
+        Err(_fault) => Ok(None),
+    }
 }
 
-impl<R: Runtime + Wait> VolumeTask<MemMeta, MemBlock, R> for OneFile {
-    type Answer = io::Result<Option<Work>>;
-
-    fn run<V: VolumeName>(self, rt: &R, opened: OpenVolume<V, MemMeta, MemBlock>) -> Self::Answer {
-        let OpenVolume {
-            volume,
-            mut seats,
-            passes: _,
-        } = opened;
-        let work = match seats.pop() {
-            Some(seat) => measure_file(rt, self.alloc, &volume, seat, self.size, self.depth),
-            None => Ok(None),
-        };
-        drop(volume.discard(rt));
-        work
+fn with_queues<
+    L: BooksName,
+    W: WordsName,
+    N: GeometryName,
+    P: PoolName,
+    T: TurnName,
+    R: Runtime + Wait,
+>(
+    rt: &R,
+    alloc: Global,
+    opened: Opened<L, W, N, MemMeta, MemBlock>,
+    size: Size,
+    depth: Depth,
+) -> io::Result<Option<Work>>
+    requires ordinary { opened.queues.ordinary ≡ P.ordinary }
+    requires reserve { opened.queues.reserve ≡ P.reserve }
+    requires turns { opened.channel.turns ≡ T.turns }
+    requires key { opened.channel.key ≡ T.key }
+{
+    match opened.name::<P, T, R>(rt) {
+        Ok((volume, mut seats)) => {
+            let work = match seats.pop() {
+                Some(seat) => measure_file(rt, alloc, &volume, seat, size, depth),
+                None => Ok(None),
+            };
+            drop(volume.discard(rt));
+            work
+        }
+        Err(_fault) => Ok(None),
     }
 }
 

@@ -4,8 +4,7 @@
 //! is there. So a volume is mounted in three steps, as it is formatted: `mount` reads the image and makes what has no name,
 //! `Mounted::name` makes the queues whose types have the names of the books, the words and the numbers, and
 //! `MountedQueues::name` puts all together under the names of the queues too. Each step may find no memory, and then it hands the
-//! device back. Nothing is refused once the first block has moved. Who needs no names of their own calls `on_mounted_volume`,
-//! which does the three.
+//! device back. Nothing is refused once the first block has moved.
 #![tactic(auto)]
 
 mod area;
@@ -13,9 +12,6 @@ mod files;
 mod frames;
 mod mounted;
 mod named;
-mod task;
 
 pub use device_opening::OpenFault;
 pub use mounted::{Mounted, MountedQueues, NamedMount, mount};
-pub use shared_volume::{OpenVolume, VolumeTask};
-pub use task::on_mounted_volume;

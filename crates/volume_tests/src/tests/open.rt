@@ -1,10 +1,13 @@
-//! How a test comes to its volume.
+//! How a test comes to its volume: a function for each step, so that names are picked between them.
+ghost use Rattle.std.specs.Prelude.{◌≡◌};
+
 use super::{Row, run_row};
 use device::{MemBlock, MemDevice, MemMeta, Parts};
 use geometry::{Error, Geometry, Shape};
-use names::VolumeName;
-use opening::{OpenVolume, VolumeTask, on_new_volume};
+use names::{BooksName, GeometryName, PoolName, TurnName, WordsName};
+use opening::{Formatted, Opened, format};
 use std::alloc::Global;
+use std::marker::Brand;
 use std::process::Abort;
 use std::sync::Wait;
 
@@ -18,29 +21,48 @@ pub(crate) fn with_volume<R: Wait + Abort>(
 ) -> Result<Parts<MemMeta, MemBlock>, Error> {
     let geometry = Geometry::new(Shape::TINY, segments, 1, 4, numbers)?;
     let parts = MemDevice::new(alloc, &geometry)?.split();
-    let task = RowTask { alloc, row };
-    match on_new_volume(rt, alloc, parts, geometry, task) {
-        Ok(parts) => Ok(parts),
+    match format(alloc, parts, geometry) {
+        Ok(formatted) => with_tables::<Brand, Brand, Brand, R>(rt, alloc, formatted, row),
         Err(fault) => Err(fault.error),
     }
 }
 
-// A row on a volume.
-#[derive(Clone, Copy)]
-struct RowTask {
+fn with_tables<L: BooksName, W: WordsName, N: GeometryName, R: Wait + Abort>(
+    rt: &R,
     alloc: Global,
+    formatted: Formatted<MemMeta, MemBlock>,
     row: Row,
+) -> Result<Parts<MemMeta, MemBlock>, Error>
+    requires books { formatted.tables.books ≡ L.books }
+    requires words { formatted.tables.words ≡ W.words }
+    requires geometry { formatted.tables.geometry ≡ N.geometry }
+{
+    match formatted.name::<L, W, N>() {
+        Ok(opened) => with_queues::<L, W, N, Brand, Brand, R>(rt, alloc, opened, row),
+        Err(fault) => Err(fault.error),
+    }
 }
 
-impl<R: Wait + Abort> VolumeTask<MemMeta, MemBlock, R> for RowTask {
-    type Answer = Parts<MemMeta, MemBlock>;
-
-    fn run<V: VolumeName>(self, rt: &R, opened: OpenVolume<V, MemMeta, MemBlock>) -> Self::Answer {
-        let OpenVolume {
-            volume,
-            seats,
-            passes: _,
-        } = opened;
-        run_row(rt, self.alloc, volume, seats, self.row)
+fn with_queues<
+    L: BooksName,
+    W: WordsName,
+    N: GeometryName,
+    P: PoolName,
+    T: TurnName,
+    R: Wait + Abort,
+>(
+    rt: &R,
+    alloc: Global,
+    opened: Opened<L, W, N, MemMeta, MemBlock>,
+    row: Row,
+) -> Result<Parts<MemMeta, MemBlock>, Error>
+    requires ordinary { opened.queues.ordinary ≡ P.ordinary }
+    requires reserve { opened.queues.reserve ≡ P.reserve }
+    requires turns { opened.channel.turns ≡ T.turns }
+    requires key { opened.channel.key ≡ T.key }
+{
+    match opened.name::<P, T, R>(rt) {
+        Ok((volume, seats)) => Ok(run_row(rt, alloc, volume, seats, row)),
+        Err(fault) => Err(fault.error),
     }
 }

@@ -1,4 +1,4 @@
-use Rattle.opening.proofs.task.on_new_volume.Given as goal
+use Rattle.bench_clean.proofs.naming.measure.Given as goal
 
 -- the tables that were just made, and the numbers of the volume
 abbrev pub ghosts-with_tables-L-BooksName : goal.ghosts-with_tables-L-BooksName

@@ -1,4 +1,4 @@
-use Rattle.mounting.proofs.task.with_tables.Given as goal
+use Rattle.bench_clean.proofs.naming.with_tables.Given as goal
 
 -- the queues that were just made
 abbrev pub ghosts-with_queues-P-PoolName : goal.ghosts-with_queues-P-PoolName

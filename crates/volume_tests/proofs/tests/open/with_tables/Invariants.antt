@@ -1,4 +1,4 @@
-use Rattle.opening.proofs.task.with_tables.Given as goal
+use Rattle.volume_tests.proofs.tests.open.with_tables.Given as goal
 
 -- the queues that were just made
 abbrev pub ghosts-with_queues-P-PoolName : goal.ghosts-with_queues-P-PoolName
