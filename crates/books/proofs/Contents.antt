@@ -3,7 +3,6 @@ use Rattle.std.proofs.Common.{◌≡◌, sym, ap, ◌∙◌}
 use Rattle.std.specs.Ordering.{nat_cmp}
 use Rattle.std.specs.FinMap.{FinMap, entries, entries_sorted, from_sorted, entries-from_sorted, same_entries_map}
 use Rattle.geometry.specs.File.{File, Block}
-use Rattle.books.specs.declared.claim.Content.{Content}
 use Rattle.books.specs.Contents.{as_content, as_file}
 
 blocks_again : (m : FinMap nat_cmp Block) → from_sorted (entries m) ≡ m

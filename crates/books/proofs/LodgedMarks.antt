@@ -1,8 +1,7 @@
 -- What a file's tickets tell of the segments, whatever the others have.
-use Rattle.std.proofs.Common.{◌≡◌, ℕ, ◌-◌, ◌/◌, ◌<◌, ◌≤◌, List, [], ◌∷◌, Option, inl, inr, arith}
-use Rattle.std.proofs.lemmas.Bool.{cases_lt, cases_eq}
-use Rattle.sums.specs.Weights.{weigh}
-use Rattle.claims.specs.Rules.{together, Follows}
+use Rattle.std.proofs.Common.{ℕ, ◌-◌, ◌/◌, ◌<◌, List, [], ◌∷◌, Option, inl, inr, arith}
+use Rattle.std.proofs.lemmas.Bool.{cases_lt}
+use Rattle.claims.specs.Rules.{Follows}
 use Rattle.geometry.specs.declared.owner.Mark.{Mark}
 use Rattle.geometry.specs.Mark.{same_mark}
 use Rattle.books.specs.declared.claim.Entry.{Entry}
@@ -13,7 +12,6 @@ use Rattle.books.specs.declared.claim.Claim.TheVariants.{Segment, File}
 use Rattle.books.specs.Lodged.{AreMarked, AreWithin}
 use Rattle.books.specs.Lists.{times}
 use Rattle.books.specs.Rules.{Lawful}
-use Rattle.books.specs.Weights.{segment_in}
 use Rattle.books.proofs.Lists.{is, none_past}
 use Rattle.books.proofs.Rests.{at, no_mark_at_none, no_mark_elsewhere}
 use Rattle.books.proofs.Steps.{at_self, segment_alone, home_alone}

@@ -7,12 +7,13 @@ use Rattle.books.specs.declared.claim.Entry.{Entry}
 use Rattle.books.specs.declared.claim.Content.{Content}
 use Rattle.books.specs.declared.claim.Layout.{Layout}
 use Rattle.books.specs.declared.claim.Claim.{Claim}
+use Rattle.books.specs.declared.claim.Copied.{Copied}
 use Rattle.books.specs.declared.claim.Claim.TheVariants.{Segment, Hand, File, Shard, Pass, Census}
 use Rattle.books.specs.Lists.{times, without}
 use Rattle.geometry.specs.Mark.{same_mark}
 use Rattle.geometry.proofs.MarkTests.{mark_eq, mark_self}
 use Rattle.books.specs.Sameness.{same_entry, same_content}
-use Rattle.books.specs.Weights.{mark_of, of_entry, stray_mark, stray_entry, marks_in, tickets_in, taken_in, tokens_in, shown, shown_in, segment_in, hand_in, file_in, shard_in, stray_in}
+use Rattle.books.specs.Weights.{mark_of, of_entry, stray_mark, stray_entry, marks_in, tickets_in, taken_in, tokens_in, shown, shown_in, segment_in, hand_in, file_in, shard_in, stray_in, pass_in, copies_in}
 use Rattle.books.specs.Rules.{Lawful, moved_to, with_lodged, IsWhole, Settled}
 use Rattle.books.proofs.Sameness.{entry_eq, entry_self, content_eq, content_self}
 use Rattle.books.proofs.Lists.{is, is_self, weigh_none, weigh_plus, weigh-without, without_head, none_past, one_below, sum_below_suc, sum_below_ones, weigh_le}
@@ -48,7 +49,46 @@ weigh-with_lodged h e ts = go (e.address == 0)
 pub file_is_no_pass : (i j : ℕ) (ts : List Mark) (ks : List Entry) (o : Option Content) (f : Content) → File i ts ks o ∷ [] ≢ Pass j f ∷ []
 file_is_no_pass i j ts ks o f e = let counts = ap (weigh (file_in (λ k. 1))) e in absurd (omega arith)
 
+-- Claims come in the place of others that have a hand: the holders are the same, and the passes, and nothing is counted.
+record AreSameHolders (old new : List Claim) : Type 0 where
+  segments : (h : ℕ → ℕ) → weigh (segment_in h) new ≡ weigh (segment_in h) old
+  files : (h : ℕ → ℕ) → weigh (file_in h) new ≡ weigh (file_in h) old
+  shards : (h : ℕ → ℕ) → weigh (shard_in h) new ≡ weigh (shard_in h) old
+  hands : weigh hand_in new ≡ weigh hand_in old
+  passes : (h : ℕ → Content → ℕ) → weigh (pass_in h) new ≡ weigh (pass_in h) old
+  shown_same : (h : ℕ → Content → ℕ) → weigh (shown_in h) new ≡ weigh (shown_in h) old
+  hand : 0 < weigh hand_in old
+  uncounted : (h : Copied → ℕ) → weigh (copies_in h) new ≡ 0
+
+segment_and_hand : (s : ℕ) (ms ms' ts ts' : List Mark) (ks ks' : List Entry) → AreSameHolders (Segment s ms ∷ Hand ts ks ∷ []) (Segment s ms' ∷ Hand ts' ks' ∷ [])
+segment_and_hand s ms ms' ts ts' ks ks' =
+    record { segments = λ h. refl; files = λ h. refl; shards = λ h. refl; hands = refl; passes = λ h. refl; shown_same = λ h. refl; hand = omega arith; uncounted = λ h. refl }
+
+shard_and_hand : (k : ℕ) (es es' ks ks' : List Entry) (ts ts' : List Mark) → AreSameHolders (Shard k es ∷ Hand ts ks ∷ []) (Shard k es' ∷ Hand ts' ks' ∷ [])
+shard_and_hand k es es' ks ks' ts ts' =
+    record { segments = λ h. refl; files = λ h. refl; shards = λ h. refl; hands = refl; passes = λ h. refl; shown_same = λ h. refl; hand = omega arith; uncounted = λ h. refl }
+
+file_and_hand : (i : ℕ) (f : Option Content) (fts fts' ts ts' : List Mark) (fks fks' ks ks' : List Entry) → AreSameHolders (File i fts fks f ∷ Hand ts ks ∷ []) (File i fts' fks' f ∷ Hand ts' ks' ∷ [])
+file_and_hand i f fts fts' ts ts' fks fks' ks ks' =
+    record { segments = λ h. refl; files = λ h. refl; shards = λ h. refl; hands = refl; passes = λ h. refl; shown_same = λ h. refl; hand = omega arith; uncounted = λ h. refl }
+
 module _ (l : Layout) where
+  -- the rule stays if it does for the tickets, the tokens and the places
+  keeps : {old new : List Claim} (rest : List Claim) → AreSameHolders old new → Lawful l (together old rest)
+      → ((h : Mark → ℕ) → together new rest (marks_in h) ≡ together new rest (tickets_in h)) → ((h : Entry → ℕ) → together new rest (taken_in h) ≡ together new rest (tokens_in h))
+      → together new rest (stray_in l.blocks) ≡ 0 → Lawful l (together new rest)
+  keeps rest same law tickets tokens home = record {
+    tickets = tickets;
+    tokens = tokens;
+    passes = λ h. let p = law.passes h in let a = same.passes h in let b = same.shown_same h in omega arith;
+    segments = λ h. let p = law.segments h in let a = same.segments h in omega arith;
+    files = λ h. let p = law.files h in let a = same.files h in omega arith;
+    shards = λ h. let p = law.shards h in let a = same.shards h in omega arith;
+    hands = let p = law.hands in let a = same.hands in omega arith;
+    copies = λ h. let p = law.hands in let a = same.hand in let q = no_census h rest (omega arith) in let b = same.uncounted h in omega arith;
+    home = home;
+  }
+
   pub segment_alone : (mine rest : List Claim) (s : ℕ) → Lawful l (together mine rest) → 0 < weigh (segment_in (at s)) mine → weigh (segment_in (at s)) rest ≡ 0
   segment_alone mine rest s law some = let p = law.segments (at s) in let q = one_below l.segments s in omega arith
 
@@ -69,17 +109,10 @@ module _ (l : Layout) where
   pub marks : (s : ℕ) (ms ts : List Mark) (ks : List Entry) (m : Mark) → 0 < m.address → (m.address - 1) / l.blocks ≡ s
       → Follows (Lawful l) (Segment s ms ∷ Hand ts ks ∷ []) (Segment s (m ∷ ms) ∷ Hand (m ∷ ts) ks ∷ []) (Unit {0})
   marks s ms ts ks m some here rest law = (
-    record {
-      tickets = λ h. let p = law.tickets h in omega arith;
-      tokens = law.tokens;
-      passes = law.passes;
-      segments = law.segments;
-      files = law.files;
-      shards = law.shards;
-      hands = law.hands;
-      copies = λ h. let p = law.hands in let q = no_census h rest (omega arith) in omega arith;
-      home = let p = law.home in let q = in_place l.blocks s m some here in omega arith;
-    },
+    keeps rest (segment_and_hand s ms (m ∷ ms) ts (m ∷ ts) ks ks) law
+        (λ h. let p = law.tickets h in omega arith)
+        law.tokens
+        (let p = law.home in let q = in_place l.blocks s m some here in omega arith),
     tt,
   )
 
@@ -92,17 +125,10 @@ module _ (l : Layout) where
       let none = no_mark_elsewhere l.blocks s m here rest alone (home_alone mine rest law) in
       let count = law.tickets (is same_mark m) in
       let marked : 0 < times same_mark m ms = omega arith in (
-        record {
-          tickets = λ h. let p = law.tickets h in let a = without_mark h m ms marked in let b = without_mark h m ts held in omega arith;
-          tokens = law.tokens;
-          passes = law.passes;
-          segments = law.segments;
-          files = law.files;
-          shards = law.shards;
-          hands = law.hands;
-          copies = λ h. let p = law.hands in let q = no_census h rest (omega arith) in omega arith;
-          home = let p = law.home in let q = without_mark (stray_mark l.blocks s) m ms marked in omega arith;
-        },
+        keeps rest (segment_and_hand s ms (without same_mark m ms) ts (without same_mark m ts) ks ks) law
+            (λ h. let p = law.tickets h in let a = without_mark h m ms marked in let b = without_mark h m ts held in omega arith)
+            law.tokens
+            (let p = law.home in let q = without_mark (stray_mark l.blocks s) m ms marked in omega arith),
         marked,
       )
 
@@ -140,17 +166,10 @@ module _ (l : Layout) where
   pub takes : (k : ℕ) (es ks : List Entry) (ts : List Mark) (e : Entry) → e.number % 16 ≡ k → e.address ≡ 0
       → Follows (Lawful l) (Shard k es ∷ Hand ts ks ∷ []) (Shard k (e ∷ es) ∷ Hand ts (e ∷ ks) ∷ []) (Unit {0})
   takes k es ks ts e here bare rest law = (
-    record {
-      tickets = λ h. let p = law.tickets h in let q : of_entry h e ≡ 0 = rw (eq-eqb e.address 0 bare) refl in omega arith;
-      tokens = λ h. let p = law.tokens h in omega arith;
-      passes = law.passes;
-      segments = law.segments;
-      files = law.files;
-      shards = law.shards;
-      hands = law.hands;
-      copies = λ h. let p = law.hands in let q = no_census h rest (omega arith) in omega arith;
-      home = let p = law.home in let q : stray_entry k e ≡ 0 = at_home (e.number % 16) k here in omega arith;
-    },
+    keeps rest (shard_and_hand k es (e ∷ es) ks (e ∷ ks) ts ts) law
+        (λ h. let p = law.tickets h in let q : of_entry h e ≡ 0 = rw (eq-eqb e.address 0 bare) refl in omega arith)
+        (λ h. let p = law.tokens h in omega arith)
+        (let p = law.home in let q : stray_entry k e ≡ 0 = at_home (e.number % 16) k here in omega arith),
     tt,
   )
 
@@ -172,17 +191,10 @@ module _ (l : Layout) where
       → Follows (Lawful l) (Shard k es ∷ Hand ts ks ∷ []) (Shard k (without same_entry e es) ∷ Hand (with_lodged e ts) (without same_entry e ks) ∷ []) (0 < times same_entry e es)
   gives k es ks ts e here held rest law =
       let taken = taken_here k es ks ts e here held rest law in (
-        record {
-          tickets = λ h. let p = law.tickets h in let a = without_entry (of_entry h) e es taken in let b = weigh-with_lodged h e ts in omega arith;
-          tokens = λ h. let p = law.tokens h in let a = without_entry h e es taken in let b = without_entry h e ks held in omega arith;
-          passes = law.passes;
-          segments = law.segments;
-          files = law.files;
-          shards = law.shards;
-          hands = law.hands;
-          copies = λ h. let p = law.hands in let q = no_census h rest (omega arith) in omega arith;
-          home = let p = law.home in let q = without_entry (stray_entry k) e es taken in omega arith;
-        },
+        keeps rest (shard_and_hand k es (without same_entry e es) ks (without same_entry e ks) ts (with_lodged e ts)) law
+            (λ h. let p = law.tickets h in let a = without_entry (of_entry h) e es taken in let b = weigh-with_lodged h e ts in omega arith)
+            (λ h. let p = law.tokens h in let a = without_entry h e es taken in let b = without_entry h e ks held in omega arith)
+            (let p = law.home in let q = without_entry (stray_entry k) e es taken in omega arith),
         taken,
       )
 
@@ -196,94 +208,50 @@ module _ (l : Layout) where
       let mine : List Claim = Shard k es ∷ Hand ts ks ∷ [] in
       let placed : a ≢ 0 =
       λ none. let unmarked = no_mark_at_none l.blocks m none rest (home_alone mine rest law) in let count = law.tickets (is same_mark m) in omega arith in (
-        record {
-          tickets =
-              λ h.
-              let p = law.tickets h in
-              let x = without_entry (of_entry h) e es taken in
-              let y = weigh-with_lodged h e (without same_mark m ts) in
-              let z = without_mark h m ts ticket in
-              let q : of_entry h (moved_to a bytes e) ≡ h m = rw (ne_eqb a 0 placed) refl in omega arith;
-          tokens = λ h. let p = law.tokens h in let x = without_entry h e es taken in let y = without_entry h e ks held in omega arith;
-          passes = law.passes;
-          segments = law.segments;
-          files = law.files;
-          shards = law.shards;
-          hands = law.hands;
-          copies = λ h. let p = law.hands in let q = no_census h rest (omega arith) in omega arith;
-          home =
-              let p = law.home in
-              let q = without_entry (stray_entry k) e es taken in
-              let r : stray_entry k (moved_to a bytes e) ≡ 0 = at_home (e.number % 16) k here in omega arith;
-        },
+        keeps rest (shard_and_hand k es (moved_to a bytes e ∷ without same_entry e es) ks (moved_to a bytes e ∷ without same_entry e ks) ts (with_lodged e (without same_mark m ts))) law
+            (λ h. let p = law.tickets h in let x = without_entry (of_entry h) e es taken in let y = weigh-with_lodged h e (without same_mark m ts) in let z = without_mark h m ts ticket in let q : of_entry h (moved_to a bytes e) ≡ h m = rw (ne_eqb a 0 placed) refl in omega arith)
+            (λ h. let p = law.tokens h in let x = without_entry h e es taken in let y = without_entry h e ks held in omega arith)
+            (let p = law.home in let q = without_entry (stray_entry k) e es taken in let r : stray_entry k (moved_to a bytes e) ≡ 0 = at_home (e.number % 16) k here in omega arith),
         (taken, omega arith),
       )
 
   pub lodges : (i : ℕ) (fts ts : List Mark) (fks ks : List Entry) (f : Option Content) (m : Mark) → 0 < times same_mark m ts
       → Follows (Lawful l) (File i fts fks f ∷ Hand ts ks ∷ []) (File i (m ∷ fts) fks f ∷ Hand (without same_mark m ts) ks ∷ []) (Unit {0})
   lodges i fts ts fks ks f m held rest law = (
-    record {
-      tickets = λ h. let p = law.tickets h in let a = without_mark h m ts held in omega arith;
-      tokens = law.tokens;
-      passes = law.passes;
-      segments = law.segments;
-      files = law.files;
-      shards = law.shards;
-      hands = law.hands;
-      copies = λ h. let p = law.hands in let q = no_census h rest (omega arith) in omega arith;
-      home = law.home;
-    },
+    keeps rest (file_and_hand i f fts (m ∷ fts) ts (without same_mark m ts) fks fks ks ks) law
+        (λ h. let p = law.tickets h in let a = without_mark h m ts held in omega arith)
+        law.tokens
+        law.home,
     tt,
   )
 
   pub unlodges : (i : ℕ) (fts ts : List Mark) (fks ks : List Entry) (f : Option Content) (m : Mark) → 0 < times same_mark m fts
       → Follows (Lawful l) (File i fts fks f ∷ Hand ts ks ∷ []) (File i (without same_mark m fts) fks f ∷ Hand (m ∷ ts) ks ∷ []) (Unit {0})
   unlodges i fts ts fks ks f m lodged rest law = (
-    record {
-      tickets = λ h. let p = law.tickets h in let a = without_mark h m fts lodged in omega arith;
-      tokens = law.tokens;
-      passes = law.passes;
-      segments = law.segments;
-      files = law.files;
-      shards = law.shards;
-      hands = law.hands;
-      copies = λ h. let p = law.hands in let q = no_census h rest (omega arith) in omega arith;
-      home = law.home;
-    },
+    keeps rest (file_and_hand i f fts (without same_mark m fts) ts (m ∷ ts) fks fks ks ks) law
+        (λ h. let p = law.tickets h in let a = without_mark h m fts lodged in omega arith)
+        law.tokens
+        law.home,
     tt,
   )
 
   pub lodges_token : (i : ℕ) (fts ts : List Mark) (fks ks : List Entry) (f : Option Content) (e : Entry) → 0 < times same_entry e ks
       → Follows (Lawful l) (File i fts fks f ∷ Hand ts ks ∷ []) (File i fts (e ∷ fks) f ∷ Hand ts (without same_entry e ks) ∷ []) (Unit {0})
   lodges_token i fts ts fks ks f e held rest law = (
-    record {
-      tickets = law.tickets;
-      tokens = λ h. let p = law.tokens h in let a = without_entry h e ks held in omega arith;
-      passes = law.passes;
-      segments = law.segments;
-      files = law.files;
-      shards = law.shards;
-      hands = law.hands;
-      copies = λ h. let p = law.hands in let q = no_census h rest (omega arith) in omega arith;
-      home = law.home;
-    },
+    keeps rest (file_and_hand i f fts fts ts ts fks (e ∷ fks) ks (without same_entry e ks)) law
+        law.tickets
+        (λ h. let p = law.tokens h in let a = without_entry h e ks held in omega arith)
+        law.home,
     tt,
   )
 
   pub unlodges_token : (i : ℕ) (fts ts : List Mark) (fks ks : List Entry) (f : Option Content) (e : Entry) → 0 < times same_entry e fks
       → Follows (Lawful l) (File i fts fks f ∷ Hand ts ks ∷ []) (File i fts (without same_entry e fks) f ∷ Hand ts (e ∷ ks) ∷ []) (Unit {0})
   unlodges_token i fts ts fks ks f e lodged rest law = (
-    record {
-      tickets = law.tickets;
-      tokens = λ h. let p = law.tokens h in let a = without_entry h e fks lodged in omega arith;
-      passes = law.passes;
-      segments = law.segments;
-      files = law.files;
-      shards = law.shards;
-      hands = law.hands;
-      copies = λ h. let p = law.hands in let q = no_census h rest (omega arith) in omega arith;
-      home = law.home;
-    },
+    keeps rest (file_and_hand i f fts fts ts ts fks (without same_entry e fks) ks (e ∷ ks)) law
+        law.tickets
+        (λ h. let p = law.tokens h in let a = without_entry h e fks lodged in omega arith)
+        law.home,
     tt,
   )
 
@@ -292,17 +260,10 @@ module _ (l : Layout) where
       → ((h : Mark → ℕ) → weigh h fts' + weigh h ts' ≡ weigh h fts + weigh h ts) → ((h : Entry → ℕ) → weigh h fks' + weigh h ks' ≡ weigh h fks + weigh h ks)
       → Follows (Lawful l) (File i fts fks f ∷ Hand ts ks ∷ []) (File i fts' fks' f ∷ Hand ts' ks' ∷ []) (Unit {0})
   lodges_all i fts ts fts' ts' fks ks fks' ks' f marks entries rest law = (
-    record {
-      tickets = λ h. let p = law.tickets h in let a = marks h in omega arith;
-      tokens = λ h. let p = law.tokens h in let a = entries h in omega arith;
-      passes = law.passes;
-      segments = law.segments;
-      files = law.files;
-      shards = law.shards;
-      hands = law.hands;
-      copies = λ h. let p = law.hands in let q = no_census h rest (omega arith) in omega arith;
-      home = law.home;
-    },
+    keeps rest (file_and_hand i f fts fts' ts ts' fks fks' ks ks') law
+        (λ h. let p = law.tickets h in let a = marks h in omega arith)
+        (λ h. let p = law.tokens h in let a = entries h in omega arith)
+        law.home,
     tt,
   )
 

@@ -163,3 +163,15 @@ none_left words len from is clear o past = ⊎_elim
 
 pub length-bits_of : (words : List ℕ) (len : ℕ) → length (bits_of words len) ≡ len
 length-bits_of words len = length-map-range_with_len _ 0 len
+
+-- a place within the list of bits is within its words
+pub record IsInside (words : List ℕ) (len offset : ℕ) : Type 0 where
+  pub inside : offset < len
+  pub within : offset < 64 * length words
+  pub word : offset / 64 < length words
+
+pub inside_of : (words : List ℕ) (len offset : ℕ) (bits : List Bool) → bits_of words len ≡ bits → len ≤ 64 * length words → offset < length bits → IsInside words len offset
+inside_of words len offset bits is enough asked =
+    let long = length-bits_of words len in
+    let seen : length (bits_of words len) ≡ length bits = ap (λ (bs : List Bool). length bs) is in
+    record { inside = omega arith; within = omega arith; word = omega arith }

@@ -19,6 +19,7 @@ use Rattle.files_loading.specs.Files.{StandsFor}
 use Rattle.files_loading.proofs.Walks.{walks_to, walks_more, walks_same, walks_most, untaken}
 use Rattle.files_loading.proofs.Nothing.{nothing_left}
 use Rattle.files_loading.proofs.Standing.{AreUpTo, up_to_begins, up_to_more, up_to_same, up_to_all}
+use Rattle.files_loading.proofs.states.load_files.Given as given
 use Rattle.files_loading.proofs.states.load_files.Goals as goal
 use Rattle.files_loading.proofs.states.load_files.Goals.{then-entry-ne0, else-entry-ne0}
 
@@ -38,32 +39,19 @@ loop-before-init g c =
     }
 
 pub load_file-file-requires-clause-room : goal.load_file-file-requires-clause-room
-load_file-file-requires-clause-room g c =
-    let geometry = c.args.geometry.now in
-    let image = image_view c.args.image.now in
-    let at = c.loop-before in
-    let before = at.invariant in
-    let inode : ℕ = at.before + 1 in
-    let entry = c.entry.result in
-    let same : entry.address ≡ (entry_of image inode).address = ap (λ (e : NodeEntry). e.address) c.entry.ensures in
-    ((before.rooms inode (omega arith)).right c.take_at-room.result c.take_at-room.ensures.right).1
+load_file-file-requires-clause-room g c = ((c.loop-before.invariant.rooms (c.loop-before.before + 1) (omega arith)).right c.take_at-room.result c.take_at-room.ensures.right).1
 
 pub load_file-file-requires-clause-there : goal.load_file-file-requires-clause-there
-load_file-file-requires-clause-there g c =
-    let geometry = c.args.geometry.now in
+load_file-file-requires-clause-there g c = λ h.
     let image = image_view c.args.image.now in
-    let at = c.loop-before in
-    let before = at.invariant in
-    let inode : ℕ = at.before + 1 in
-    let entry = c.entry.result in
-    let same : entry.address ≡ (entry_of image inode).address = ap (λ (e : NodeEntry). e.address) c.entry.ensures in
-    let some : (entry_of image inode).address ≢ 0 = λ z. (let none = same ∙ z in absurd (omega arith)) in
-    let taken = taken_of image inode some in
-    λ h. (let balance = before.marks h in
+    let before = c.loop-before.before in
+    let same = ap (λ (e : NodeEntry). e.address) c.entry.ensures in
+    let taken = taken_of image (before + 1) (λ z. (let none = same ∙ z in absurd (omega arith))) in
+    let balance = c.loop-before.invariant.marks h in
     let named = c.tell_lawful.ensures.names h in
-    let more = walks_more image h at.before taken in
-    let most = walks_most image h inode geometry.files (omega arith) in
-    omega arith)
+    let more = walks_more image h before taken in
+    let most = walks_most image h (before + 1) c.args.geometry.now.files (omega arith) in
+    omega arith
 
 pub loop-before-preserved : goal.loop-before-preserved
 loop-before-preserved g c =
@@ -136,24 +124,20 @@ returns-clause-files g c =
     let all = subst (λ n. AreUpTo geometry image (λ i f. IsLoadedFile image geometry.shape c.args.stock.now.all i f) at.files.items n) last at.invariant.files in
     record { places = all.places; each = up_to_all geometry image (λ i f. IsLoadedFile image geometry.shape c.args.stock.now.all i f) at.files.items all }
 
-pub returns-clause-nothing : goal.returns-clause-nothing
-returns-clause-nothing g c =
-    let geometry = c.args.geometry.now in
-    let image = image_view c.args.image.now in
+-- nothing is left once the last file is there
+spent : (g : given.Over) (c : goal.After-free_file_rooms g) → goods_weight (λ _. 1) (λ _. 1) c.loop-before.stock ≡ 0
+spent g c =
     let at = c.loop-before in
-    let last : at.before ≡ geometry.files = omega arith in
+    let last : at.before ≡ c.args.geometry.now.files = omega arith in
     let balance = at.invariant.marks (λ _. 1) in
-    let same = ap (λ n. weigh (λ (m : Mark). 1) (walks_to image n)) last in
+    let same = ap (λ n. weigh (λ (m : Mark). 1) (walks_to (image_view c.args.image.now) n)) last in
     omega arith
 
+pub returns-clause-nothing : goal.returns-clause-nothing
+returns-clause-nothing g c = spent g c
+
 pub returns-clause-trades : goal.returns-clause-trades
-returns-clause-trades g c =
-    let geometry = c.args.geometry.now in
-    let image = image_view c.args.image.now in
-    let at = c.loop-before in
-    let last : at.before ≡ geometry.files = omega arith in
-    let balance = at.invariant.marks (λ _. 1) in
-    let same = ap (λ n. weigh (λ (m : Mark). 1) (walks_to image n)) last in
-    λ ticket token. (let so = at.invariant.trades ticket token in
-    let none : goods_weight ticket token at.stock ≡ 0 = nothing_left ticket token at.stock (omega arith) in
-    omega arith)
+returns-clause-trades g c = λ ticket token.
+    let so = c.loop-before.invariant.trades ticket token in
+    let none : goods_weight ticket token c.loop-before.stock ≡ 0 = nothing_left ticket token c.loop-before.stock (spent g c) in
+    omega arith

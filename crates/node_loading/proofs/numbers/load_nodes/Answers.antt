@@ -1,15 +1,17 @@
-use Rattle.std.proofs.Common.{◌≡◌, ◌≢◌, ℕ, ◌+◌, ◌%◌, ◌<◌, ◌∷◌, None, Some, length, get_or, set, if◌then◌else◌, refl, sym, ap, subst, ◌∙◌, arith}
+use Rattle.std.proofs.Common.{◌≡◌, ◌≢◌, ℕ, ◌+◌, ◌%◌, ◌<◌, ◌∷◌, List, Option, None, Some, length, get_or, set, if◌then◌else◌, refl, sym, ap, subst, ◌∙◌, arith}
 use Rattle.books.specs.Lists.{times}
 use Rattle.books.specs.Weights.{mark_of}
 use Rattle.books.specs.declared.claim.Entry.{Entry}
 use Rattle.books.specs.Accounts.{HandView}
 use Rattle.books.proofs.Steps.{without_mark}
+use Rattle.geometry.specs.declared.geometry.Geometry.{Geometry}
 use Rattle.geometry.specs.declared.owner.Mark.{Mark}
 use Rattle.geometry.specs.declared.owner.Owner.TheVariants.{Node}
 use Rattle.geometry.specs.Mark.{same_mark}
 use Rattle.geometry.proofs.MarkTests.{mark_self}
 use Rattle.image.specs.declared.image.NodeEntry.{NodeEntry}
-use Rattle.image.specs.Image.{entry_of}
+use Rattle.image.specs.Image.{Image, entry_of}
+use Rattle.image.specs.Rules.{IsLawful}
 use Rattle.image.specs.View.{image_view}
 use Rattle.loading.specs.Goods.{in_place}
 use Rattle.loading.proofs.Stocks.{goes, is_there, token_mark}
@@ -25,6 +27,17 @@ use Rattle.node_loading.proofs.Passing.{ArePassed, passing_begins, passing_ends,
 use Rattle.node_loading.proofs.Shards.{shards_next, taken_next, free_next, home_of, none_taken}
 use Rattle.node_loading.proofs.numbers.load_nodes.Goals as goal
 use Rattle.node_loading.proofs.numbers.load_nodes.Goals.{then-entry-ne0, else-entry-ne0}
+
+-- the ticket of the block of a node that has one
+ticket_there : (geometry : Geometry) (image : Image) → IsLawful geometry image → (bytes : ℕ → List ℕ) (next : ℕ) (tickets : List (Option Placed)) (tokens : List (Option Entry))
+    → (address : ℕ) → address ≡ (entry_of image next).address → (entry_of image next).address ≢ 0 → ArePassed geometry image bytes next tickets tokens
+    → get_or tickets address None ≡ Some (record { mark = record { address = (entry_of image next).address; owner = Node next }; content = bytes (entry_of image next).address })
+ticket_there geometry image lawful bytes next tickets tokens address is some passed =
+    ap (λ k. get_or tickets k None) is ∙ ticket_stands geometry image lawful bytes next tickets tokens some passed
+
+-- a node of the image has a block where the entry that was read tells an address
+has_block : (image : Image) (next : ℕ) (entry : NodeEntry) → entry ≡ entry_of image next → entry.address ≢ 0 → (entry_of image next).address ≢ 0
+has_block image next entry is some none = some (ap (λ (e : NodeEntry). e.address) is ∙ none)
 
 pub loop-before-init : goal.loop-before-init
 loop-before-init g c =
@@ -45,89 +58,44 @@ loop-before-init g c =
 
 pub take_at-ticket-requires : goal.take_at-ticket-requires
 take_at-ticket-requires g c =
-    let geometry = c.args.geometry.now in
-    let image = image_view c.args.image.now in
     let at = c.loop-before in
-    let before = at.invariant in
     let next : ℕ = at.before + 1 in
-    let entry = c.entry-entry.result in
-    let same : entry.address ≡ (entry_of image next).address = ap (λ (e : NodeEntry). e.address) c.entry-entry.ensures in
-    let some : (entry_of image next).address ≢ 0 = λ z. (let none = same ∙ z in absurd (omega arith)) in
-    let bytes = c.requires.tickets.0 in
-    let passed = before.goods bytes c.requires.tickets.1 in
-    let there : get_or at.tickets.items entry.address None ≡ Some (record { mark = record { address = (entry_of image next).address; owner = Node next }; content = bytes (entry_of image next).address }) = ap (λ k. get_or at.tickets.items k None) same ∙ ticket_stands geometry image c.requires.lawful bytes next at.tickets.items at.tokens.items some passed in
-    is_there (get_or at.tickets.items entry.address None) _ there
+    let same = ap (λ (e : NodeEntry). e.address) c.entry-entry.ensures in
+    let some = has_block (image_view c.args.image.now) next c.entry-entry.result c.entry-entry.ensures (λ z. absurd (omega arith)) in
+    is_there (get_or at.tickets.items c.entry-entry.result.address None) _
+    (ticket_there c.args.geometry.now (image_view c.args.image.now) c.requires.lawful c.requires.tickets.0 next at.tickets.items at.tokens.items c.entry-entry.result.address same some (at.invariant.goods c.requires.tickets.0 c.requires.tickets.1))
 
 pub load_node-token-requires-clause-held : goal.load_node-token-requires-clause-held
 load_node-token-requires-clause-held g c =
-    let geometry = c.args.geometry.now in
-    let image = image_view c.args.image.now in
-    let at = c.loop-before in
-    let before = at.invariant in
-    let next : ℕ = at.before + 1 in
-    let entry = c.entry-entry.result in
-    let same : entry.address ≡ (entry_of image next).address = ap (λ (e : NodeEntry). e.address) c.entry-entry.ensures in
-    let some : (entry_of image next).address ≢ 0 = λ z. (let none = same ∙ z in absurd (omega arith)) in
-    let bytes = c.requires.tickets.0 in
-    let passed = before.goods bytes c.requires.tickets.1 in
-    let there : get_or at.tickets.items entry.address None ≡ Some (record { mark = record { address = (entry_of image next).address; owner = Node next }; content = bytes (entry_of image next).address }) = ap (λ k. get_or at.tickets.items k None) same ∙ ticket_stands geometry image c.requires.lawful bytes next at.tickets.items at.tokens.items some passed in
     let t = c.take_at-ticket.result in
-    let ticket_is = same_some (get_or at.tickets.items entry.address None) t _ c.take_at-ticket.ensures.right there in
-    let owner_is : t.mark.owner ≡ Node next = ap (λ (p : Placed). p.mark.owner) ticket_is in
     let h : Mark → ℕ = λ y. if same_mark t.mark y then 1 else 0 in
     let one : h t.mark ≡ 1 = rw (mark_self t.mark) refl in
-    let went = goes (λ (p : Placed). h p.mark) at.tickets.items entry.address t c.take_at-ticket.ensures.right in
-    let so_far = before.hand h in
+    let went = goes (λ (p : Placed). h p.mark) c.loop-before.tickets.items c.entry-entry.result.address t c.take_at-ticket.ensures.right in
+    let so_far = c.loop-before.invariant.hand h in
     let enough = c.requires.held h in
     omega arith
 
 pub load_node-token-requires-clause-owner : goal.load_node-token-requires-clause-owner
 load_node-token-requires-clause-owner g c =
-    let geometry = c.args.geometry.now in
     let image = image_view c.args.image.now in
-    let at = c.loop-before in
-    let before = at.invariant in
-    let next : ℕ = at.before + 1 in
-    let entry = c.entry-entry.result in
-    let same : entry.address ≡ (entry_of image next).address = ap (λ (e : NodeEntry). e.address) c.entry-entry.ensures in
-    let some : (entry_of image next).address ≢ 0 = λ z. (let none = same ∙ z in absurd (omega arith)) in
-    let bytes = c.requires.tickets.0 in
-    let passed = before.goods bytes c.requires.tickets.1 in
-    let there : get_or at.tickets.items entry.address None ≡ Some (record { mark = record { address = (entry_of image next).address; owner = Node next }; content = bytes (entry_of image next).address }) = ap (λ k. get_or at.tickets.items k None) same ∙ ticket_stands geometry image c.requires.lawful bytes next at.tickets.items at.tokens.items some passed in
-    let t = c.take_at-ticket.result in
-    let ticket_is = same_some (get_or at.tickets.items entry.address None) t _ c.take_at-ticket.ensures.right there in
-    let owner_is : t.mark.owner ≡ Node next = ap (λ (p : Placed). p.mark.owner) ticket_is in
-    owner_is
+    let next : ℕ = c.loop-before.before + 1 in
+    let some = has_block image next c.entry-entry.result c.entry-entry.ensures (λ z. absurd (omega arith)) in
+    ap (λ (p : Placed). p.mark.owner) (same_some (get_or c.loop-before.tickets.items c.entry-entry.result.address None) c.take_at-ticket.result _ c.take_at-ticket.ensures.right
+    (ticket_there c.args.geometry.now image c.requires.lawful c.requires.tickets.0 next c.loop-before.tickets.items c.loop-before.tokens.items c.entry-entry.result.address (ap (λ (e : NodeEntry). e.address) c.entry-entry.ensures) some (c.loop-before.invariant.goods c.requires.tickets.0 c.requires.tickets.1)))
 
 pub put_at-requires-clause-within : goal.put_at-requires-clause-within
 put_at-requires-clause-within g c =
-    let geometry = c.args.geometry.now in
-    let image = image_view c.args.image.now in
     let at = c.loop-before in
-    let before = at.invariant in
     let next : ℕ = at.before + 1 in
-    let entry = c.entry-entry.result in
-    let same : entry.address ≡ (entry_of image next).address = ap (λ (e : NodeEntry). e.address) c.entry-entry.ensures in
-    let some : (entry_of image next).address ≢ 0 = λ z. (let none = same ∙ z in absurd (omega arith)) in
-    let bytes = c.requires.tickets.0 in
-    let passed = before.goods bytes c.requires.tickets.1 in
-    let there : get_or at.tickets.items entry.address None ≡ Some (record { mark = record { address = (entry_of image next).address; owner = Node next }; content = bytes (entry_of image next).address }) = ap (λ k. get_or at.tickets.items k None) same ∙ ticket_stands geometry image c.requires.lawful bytes next at.tickets.items at.tokens.items some passed in
-    token_within geometry image c.requires.lawful bytes next at.tickets.items at.tokens.items some passed
+    let some = has_block (image_view c.args.image.now) next c.entry-entry.result c.entry-entry.ensures (λ z. absurd (omega arith)) in
+    token_within c.args.geometry.now (image_view c.args.image.now) c.requires.lawful c.requires.tickets.0 next at.tickets.items at.tokens.items some (at.invariant.goods c.requires.tickets.0 c.requires.tickets.1)
 
 pub put_at-requires-clause-none : goal.put_at-requires-clause-none
 put_at-requires-clause-none g c =
-    let geometry = c.args.geometry.now in
-    let image = image_view c.args.image.now in
     let at = c.loop-before in
-    let before = at.invariant in
     let next : ℕ = at.before + 1 in
-    let entry = c.entry-entry.result in
-    let same : entry.address ≡ (entry_of image next).address = ap (λ (e : NodeEntry). e.address) c.entry-entry.ensures in
-    let some : (entry_of image next).address ≢ 0 = λ z. (let none = same ∙ z in absurd (omega arith)) in
-    let bytes = c.requires.tickets.0 in
-    let passed = before.goods bytes c.requires.tickets.1 in
-    let there : get_or at.tickets.items entry.address None ≡ Some (record { mark = record { address = (entry_of image next).address; owner = Node next }; content = bytes (entry_of image next).address }) = ap (λ k. get_or at.tickets.items k None) same ∙ ticket_stands geometry image c.requires.lawful bytes next at.tickets.items at.tokens.items some passed in
-    token_misses geometry image c.requires.lawful bytes next at.tickets.items at.tokens.items some passed
+    let some = has_block (image_view c.args.image.now) next c.entry-entry.result c.entry-entry.ensures (λ z. absurd (omega arith)) in
+    token_misses c.args.geometry.now (image_view c.args.image.now) c.requires.lawful c.requires.tickets.0 next at.tickets.items at.tokens.items some (at.invariant.goods c.requires.tickets.0 c.requires.tickets.1)
 
 pub loop-before-preserved : goal.loop-before-preserved
 loop-before-preserved g c =
@@ -240,20 +208,12 @@ loop-before-preserved g c =
     ]
 
 pub returns-clause-goods : goal.returns-clause-goods
-returns-clause-goods g c =
-    let geometry = c.args.geometry.now in
-    let image = image_view c.args.image.now in
+returns-clause-goods g c = λ bytes are.
     let at = c.loop-before in
-    let last : at.before ≡ geometry.nodes = omega arith in
-    λ bytes are. passing_ends geometry image c.requires.lawful bytes at.tickets.items at.tokens.items
-    (subst (λ n. ArePassed geometry image bytes (n + 1) at.tickets.items at.tokens.items) last (at.invariant.goods bytes are))
+    let last : at.before ≡ c.args.geometry.now.nodes = omega arith in
+    passing_ends c.args.geometry.now (image_view c.args.image.now) c.requires.lawful bytes at.tickets.items at.tokens.items
+    (subst (λ n. ArePassed c.args.geometry.now (image_view c.args.image.now) bytes (n + 1) at.tickets.items at.tokens.items) last (at.invariant.goods bytes are))
 
 pub returns-clause-placed : goal.returns-clause-placed
 returns-clause-placed g c =
-    let geometry = c.args.geometry.now in
-    let image = image_view c.args.image.now in
-    let at = c.loop-before in
-    let last : at.before ≡ geometry.nodes = omega arith in
-    let bytes = c.requires.tickets.0 in
-    goods_placed geometry image c.requires.lawful bytes at.tickets.items at.tokens.items (passing_ends geometry image c.requires.lawful bytes at.tickets.items at.tokens.items
-    (subst (λ n. ArePassed geometry image bytes (n + 1) at.tickets.items at.tokens.items) last (at.invariant.goods bytes c.requires.tickets.1)))
+    goods_placed c.args.geometry.now (image_view c.args.image.now) c.requires.lawful c.requires.tickets.0 c.loop-before.tickets.items c.loop-before.tokens.items (returns-clause-goods g c c.requires.tickets.0 c.requires.tickets.1)

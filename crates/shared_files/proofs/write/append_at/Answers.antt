@@ -37,60 +37,50 @@ returns-in-Some-clause-serves g c =
     let b = c.in-Some.before in
     let done = c.in_ok-ticket.ensures in
     let planted = c.plant_path.ensures.serves c.args.hand.now in
-    let is = planted.stored in
-    let old = c.plant_path.new.file in
     let inside = subst (λ s. c.args.index < largest_length s) (sym planted.shape) c.requires.inside in
     let whole = c.requires.bytes ∙ ap block_bytes (sym planted.shape) in
-    let owner = planted_owner c.args.file.now old planted.shape c.args.index inside c.plant_path.ensures.names (end_number c.args.spares.now) c.plant_path.ensures.end
-    c.owner_with-owner.result c.owner_with-owner.ensures.owner ∙ ap (λ o. Some o) (sym done.owner) in
-    let put_it = serves_over old c.put.new.self c.args.hand.now c.release.new.hand c.args.index c.in_ok-ticket.ticket is put.file put.shape inside put.length put.sets
-    (put.written (file_of old) (shows_file_of old is.file)) (ap length done.content ∙ whole)
+    let owner = planted_owner c.args.file.now c.plant_path.new.file planted.shape c.args.index inside c.plant_path.ensures.names (end_number c.args.spares.now) c.plant_path.ensures.end c.owner_with-owner.result c.owner_with-owner.ensures.owner ∙ ap (λ o. Some o) (sym done.owner) in
+    let put_it = serves_over c.plant_path.new.file c.put.new.self c.args.hand.now c.release.new.hand c.args.index c.in_ok-ticket.ticket planted.stored put.file put.shape inside put.length put.sets
+    (put.written (file_of c.plant_path.new.file) (shows_file_of c.plant_path.new.file planted.stored.file)) (ap length done.content ∙ whole)
     put.namer owner b put.old put.change (c.release.ensures.hand ∙ ap (less_ticket b.mark) done.hand) in
-    beside_both c.args.file.now old c.put.new.self c.args.spares.now c.plant_path.new.spares c.plant_path.new.spares c.args.hand.now c.args.hand.now c.release.new.hand planted
-    (beside_serves old c.put.new.self c.plant_path.new.spares c.args.hand.now c.release.new.hand planted.spare put_it)
+    beside_both c.args.file.now c.plant_path.new.file c.put.new.self c.args.spares.now c.plant_path.new.spares c.plant_path.new.spares c.args.hand.now c.args.hand.now c.release.new.hand planted
+    (beside_serves c.plant_path.new.file c.put.new.self c.plant_path.new.spares c.args.hand.now c.release.new.hand planted.spare put_it)
 
 pub returns-in-Some-clause-file : goal.returns-in-Some-clause-file
 returns-in-Some-clause-file g c =
     let put = c.in-Some.ensures in
     let done = c.in_ok-ticket.ensures in
     let planted = c.plant_path.ensures.serves c.args.hand.now in
-    let is = planted.stored in
-    let old = c.plant_path.new.file in
     let inside = subst (λ s. c.args.index < largest_length s) (sym planted.shape) c.requires.inside in
     let whole = c.requires.bytes ∙ ap block_bytes (sym planted.shape) in
-    put_file old c.put.new.self c.args.hand.now c.release.new.hand c.args.index c.in_ok-ticket.ticket is put.file put.shape inside put.length put.sets
-    (put.written (file_of old) (shows_file_of old is.file)) (ap length done.content ∙ whole)
-    ∙ (ap (written (file_of old) c.args.index) done.content ∙ ap (λ f. written f c.args.index c.args.bytes.now) c.plant_path.ensures.file)
+    put_file c.plant_path.new.file c.put.new.self c.args.hand.now c.release.new.hand c.args.index c.in_ok-ticket.ticket planted.stored put.file put.shape inside put.length put.sets
+    (put.written (file_of c.plant_path.new.file) (shows_file_of c.plant_path.new.file planted.stored.file)) (ap length done.content ∙ whole)
+    ∙ (ap (written (file_of c.plant_path.new.file) c.args.index) done.content ∙ ap (λ f. written f c.args.index c.args.bytes.now) c.plant_path.ensures.file)
 
 pub returns-in_default-clause-serves : goal.returns-in_default-clause-serves
 returns-in_default-clause-serves g c =
     let put = c.in_default.ensures in
     let done = c.in_ok-ticket.ensures in
     let planted = c.plant_path.ensures.serves c.args.hand.now in
-    let is = planted.stored in
-    let old = c.plant_path.new.file in
     let inside = subst (λ s. c.args.index < largest_length s) (sym planted.shape) c.requires.inside in
     let whole = c.requires.bytes ∙ ap block_bytes (sym planted.shape) in
-    let owner = planted_owner c.args.file.now old planted.shape c.args.index inside c.plant_path.ensures.names (end_number c.args.spares.now) c.plant_path.ensures.end
-    c.owner_with-owner.result c.owner_with-owner.ensures.owner ∙ ap (λ o. Some o) (sym done.owner) in
-    let put_it = serves_put old c.put.new.self c.args.hand.now c.append.new.hand c.args.index c.in_ok-ticket.ticket is put.file put.shape inside put.length put.sets
-    (put.written (file_of old) (shows_file_of old is.file)) (ap length done.content ∙ whole)
+    let owner = planted_owner c.args.file.now c.plant_path.new.file planted.shape c.args.index inside c.plant_path.ensures.names (end_number c.args.spares.now) c.plant_path.ensures.end c.owner_with-owner.result c.owner_with-owner.ensures.owner ∙ ap (λ o. Some o) (sym done.owner) in
+    let put_it = serves_put c.plant_path.new.file c.put.new.self c.args.hand.now c.append.new.hand c.args.index c.in_ok-ticket.ticket planted.stored put.file put.shape inside put.length put.sets
+    (put.written (file_of c.plant_path.new.file) (shows_file_of c.plant_path.new.file planted.stored.file)) (ap length done.content ∙ whole)
     put.namer owner put.old put.change done.hand in
-    beside_both c.args.file.now old c.put.new.self c.args.spares.now c.plant_path.new.spares c.plant_path.new.spares c.args.hand.now c.args.hand.now c.append.new.hand planted
-    (beside_serves old c.put.new.self c.plant_path.new.spares c.args.hand.now c.append.new.hand planted.spare put_it)
+    beside_both c.args.file.now c.plant_path.new.file c.put.new.self c.args.spares.now c.plant_path.new.spares c.plant_path.new.spares c.args.hand.now c.args.hand.now c.append.new.hand planted
+    (beside_serves c.plant_path.new.file c.put.new.self c.plant_path.new.spares c.args.hand.now c.append.new.hand planted.spare put_it)
 
 pub returns-in_default-clause-file : goal.returns-in_default-clause-file
 returns-in_default-clause-file g c =
     let put = c.in_default.ensures in
     let done = c.in_ok-ticket.ensures in
     let planted = c.plant_path.ensures.serves c.args.hand.now in
-    let is = planted.stored in
-    let old = c.plant_path.new.file in
     let inside = subst (λ s. c.args.index < largest_length s) (sym planted.shape) c.requires.inside in
     let whole = c.requires.bytes ∙ ap block_bytes (sym planted.shape) in
-    put_file old c.put.new.self c.args.hand.now c.append.new.hand c.args.index c.in_ok-ticket.ticket is put.file put.shape inside put.length put.sets
-    (put.written (file_of old) (shows_file_of old is.file)) (ap length done.content ∙ whole)
-    ∙ (ap (written (file_of old) c.args.index) done.content ∙ ap (λ f. written f c.args.index c.args.bytes.now) c.plant_path.ensures.file)
+    put_file c.plant_path.new.file c.put.new.self c.args.hand.now c.append.new.hand c.args.index c.in_ok-ticket.ticket planted.stored put.file put.shape inside put.length put.sets
+    (put.written (file_of c.plant_path.new.file) (shows_file_of c.plant_path.new.file planted.stored.file)) (ap length done.content ∙ whole)
+    ∙ (ap (written (file_of c.plant_path.new.file) c.args.index) done.content ∙ ap (λ f. written f c.args.index c.args.bytes.now) c.plant_path.ensures.file)
 
 pub put-requires-clause-inside : goal.put-requires-clause-inside
 put-requires-clause-inside g c =

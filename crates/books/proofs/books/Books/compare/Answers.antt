@@ -1,8 +1,5 @@
-use Rattle.std.proofs.Common.{◌≡◌, ◌≢◌, ◌++◌, [], ◌∷◌, Some, sym, ap, ◌∙◌}
-use Rattle.claims.specs.Rules.{Tells}
-use Rattle.books.specs.Rules.{Lawful}
+use Rattle.std.proofs.Common.{sym, ap, ◌∙◌}
 use Rattle.books.specs.Accounts.{FileView, PassView, file_view, pass_view}
-use Rattle.books.specs.declared.claim.Claim.TheVariants.{File, Pass}
 use Rattle.books.proofs.Steps.{compares, file_is_no_pass}
 use Rattle.books.proofs.books.Books.compare.Goals as goal
 

@@ -5,6 +5,7 @@ use Rattle.books.specs.declared.claim.Layout.{Layout}
 use Rattle.parts.specs.Cells.{OpenApart, parts_of}
 use Rattle.holding.specs.Held.{AreaView, LogView, held_cells, open_in}
 use Rattle.holding.proofs.Laws.{cells_law, segments_of, shards_of, law_back, parts_on, image_on, faithful_on, in_range, has_trees}
+use Rattle.holding.proofs.area.HeldArea.take_image.Given as given
 use Rattle.holding.proofs.area.HeldArea.take_image.Goals as goal
 
 pub take_audited-requires-clause-segments : goal.take_audited-requires-clause-segments
@@ -30,45 +31,27 @@ take_audited-requires-clause-cells g c =
     law_back filed c.args.geometry.now geometry shown inside files c.requires.geometry same
     (cells_law filed geometry g.V.Books.BooksName.books.book g.V.Words.WordsName.words inside files c.self.invariant c.show_open.ensures.open_there apart every c.requires.files)
 
+-- what the audit was shown is what the area has
+module _ (g : given.Over) (c : goal.After-take_audited g) where
+  abbrev shown : AreaView
+  shown = record { segments = c.show_open.new.segments.items; shards = c.self.inside.shards.items; logs = c.show_apart.new.logs.items }
+
+  same : shown ≡ c.args.self.now
+  same = (λ i. record { segments = c.show_open.ensures.segments i; shards = c.self.inside.shards.items; logs = (c.show_apart.ensures.same ∙ c.show_open.ensures.logs) i }) ∙ c.self.view_is
+
 pub returns-clause-image : goal.returns-clause-image
 returns-clause-image g c =
-    let geometry = g.V.Numbers.GeometryName.geometry in
-    let filed = g.F.HoldsFile.shown in
-    let files = c.args.files.now.items in
-    let inside : AreaView = record { segments = c.self.inside.segments.items; shards = c.self.inside.shards.items; logs = c.self.inside.logs.items } in
-    let shown : AreaView = record { segments = c.show_open.new.segments.items; shards = c.self.inside.shards.items; logs = c.show_apart.new.logs.items } in
-    let same : shown ≡ inside = (λ i. record { segments = c.show_open.ensures.segments i; shards = c.self.inside.shards.items; logs = (c.show_apart.ensures.same ∙ c.show_open.ensures.logs) i }) in
-    image_on filed c.args.geometry.now geometry shown c.args.self.now files c.requires.geometry (same ∙ c.self.view_is) c.take_audited.result c.take_audited.ensures.image
+    image_on g.F.HoldsFile.shown c.args.geometry.now g.V.Numbers.GeometryName.geometry (shown g c) c.args.self.now c.args.files.now.items c.requires.geometry (same g c) c.take_audited.result c.take_audited.ensures.image
 
 pub returns-clause-faithful : goal.returns-clause-faithful
 returns-clause-faithful g c =
-    let geometry = g.V.Numbers.GeometryName.geometry in
-    let filed = g.F.HoldsFile.shown in
-    let files = c.args.files.now.items in
-    let inside : AreaView = record { segments = c.self.inside.segments.items; shards = c.self.inside.shards.items; logs = c.self.inside.logs.items } in
-    let shown : AreaView = record { segments = c.show_open.new.segments.items; shards = c.self.inside.shards.items; logs = c.show_apart.new.logs.items } in
-    let same : shown ≡ inside = (λ i. record { segments = c.show_open.ensures.segments i; shards = c.self.inside.shards.items; logs = (c.show_apart.ensures.same ∙ c.show_open.ensures.logs) i }) in
-    faithful_on filed c.args.geometry.now geometry shown c.args.self.now files c.requires.geometry (same ∙ c.self.view_is) c.take_audited.result c.take_audited.ensures.faithful
+    faithful_on g.F.HoldsFile.shown c.args.geometry.now g.V.Numbers.GeometryName.geometry (shown g c) c.args.self.now c.args.files.now.items c.requires.geometry (same g c) c.take_audited.result c.take_audited.ensures.faithful
 
 pub returns-clause-in_range : goal.returns-clause-in_range
 returns-clause-in_range g c =
-    let geometry = g.V.Numbers.GeometryName.geometry in
-    let filed = g.F.HoldsFile.shown in
-    let files = c.args.files.now.items in
-    let inside : AreaView = record { segments = c.self.inside.segments.items; shards = c.self.inside.shards.items; logs = c.self.inside.logs.items } in
-    let shown : AreaView = record { segments = c.show_open.new.segments.items; shards = c.self.inside.shards.items; logs = c.show_apart.new.logs.items } in
-    let same : shown ≡ inside = (λ i. record { segments = c.show_open.ensures.segments i; shards = c.self.inside.shards.items; logs = (c.show_apart.ensures.same ∙ c.show_open.ensures.logs) i }) in
-    in_range geometry (parts_of (held_cells filed c.args.self.now files)) c.take_audited.result
-    (faithful_on filed c.args.geometry.now geometry shown c.args.self.now files c.requires.geometry (same ∙ c.self.view_is) c.take_audited.result c.take_audited.ensures.faithful)
+    in_range g.V.Numbers.GeometryName.geometry (parts_of (held_cells g.F.HoldsFile.shown c.args.self.now c.args.files.now.items)) c.take_audited.result (returns-clause-faithful g c)
 
 pub returns-clause-trees : goal.returns-clause-trees
 returns-clause-trees g c =
-    let geometry = g.V.Numbers.GeometryName.geometry in
-    let filed = g.F.HoldsFile.shown in
-    let files = c.args.files.now.items in
-    let inside : AreaView = record { segments = c.self.inside.segments.items; shards = c.self.inside.shards.items; logs = c.self.inside.logs.items } in
-    let shown : AreaView = record { segments = c.show_open.new.segments.items; shards = c.self.inside.shards.items; logs = c.show_apart.new.logs.items } in
-    let same : shown ≡ inside = (λ i. record { segments = c.show_open.ensures.segments i; shards = c.self.inside.shards.items; logs = (c.show_apart.ensures.same ∙ c.show_open.ensures.logs) i }) in
-    has_trees filed geometry c.args.self.now files c.take_audited.result
-    (parts_on filed c.args.geometry.now geometry shown c.args.self.now files c.requires.geometry (same ∙ c.self.view_is) c.take_audited.ensures.parts)
-    (image_on filed c.args.geometry.now geometry shown c.args.self.now files c.requires.geometry (same ∙ c.self.view_is) c.take_audited.result c.take_audited.ensures.image)
+    let parts = parts_on g.F.HoldsFile.shown c.args.geometry.now g.V.Numbers.GeometryName.geometry (shown g c) c.args.self.now c.args.files.now.items c.requires.geometry (same g c) c.take_audited.ensures.parts in
+    has_trees g.F.HoldsFile.shown g.V.Numbers.GeometryName.geometry c.args.self.now c.args.files.now.items c.take_audited.result parts (returns-clause-image g c)
