@@ -1,5 +1,5 @@
 use Rattle.std.proofs.Common.{◌≡◌, ◌+◌, ◌*◌, ◌∷◌, [], Option, None, length, get_or, refl, sym, ap, subst, ◌∙◌, arith}
-use Rattle.std.proofs.lemmas.List.{length-append, length-replicate}
+use Rattle.std.proofs.lemmas.List.{length-replicate}
 use Rattle.geometry.specs.declared.owner.Owner.{Owner}
 use Rattle.geometry.specs.Address.{address_of}
 use Rattle.geometry.specs.Area.{block_count}
