@@ -13,7 +13,7 @@ use Rattle.books.specs.Lists.{times, without}
 use Rattle.geometry.specs.Mark.{same_mark}
 use Rattle.geometry.proofs.MarkTests.{mark_eq, mark_self}
 use Rattle.books.specs.Sameness.{same_entry, same_content}
-use Rattle.books.specs.Weights.{mark_of, of_entry, stray_mark, stray_entry, marks_in, tickets_in, taken_in, tokens_in, shown, shown_in, segment_in, hand_in, file_in, shard_in, stray_in, pass_in, copies_in}
+use Rattle.books.specs.Weights.{mark_of, of_entry, stray_mark, stray_entry, marks_in, tickets_in, taken_in, tokens_in, shown, shown_in, segment_in, hand_in, file_in, shard_in, stray_in, pass_in, copies_in, copied_in}
 use Rattle.books.specs.Rules.{Lawful, moved_to, with_lodged, IsWhole, Settled}
 use Rattle.books.proofs.Sameness.{entry_eq, entry_self, content_eq, content_self}
 use Rattle.books.proofs.Lists.{is, is_self, weigh_none, weigh_plus, weigh-without, without_head, none_past, one_below, sum_below_suc, sum_below_ones, weigh_le}
@@ -71,6 +71,20 @@ shard_and_hand k es es' ks ks' ts ts' =
 file_and_hand : (i : ℕ) (f : Option Content) (fts fts' ts ts' : List Mark) (fks fks' ks ks' : List Entry) → AreSameHolders (File i fts fks f ∷ Hand ts ks ∷ []) (File i fts' fks' f ∷ Hand ts' ks' ∷ [])
 file_and_hand i f fts fts' ts ts' fks fks' ks ks' =
     record { segments = λ h. refl; files = λ h. refl; shards = λ h. refl; hands = refl; passes = λ h. refl; shown_same = λ h. refl; hand = omega arith; uncounted = λ h. refl }
+
+-- Claims come in the place of others that hold and count the same, and only the passes and what is shown are others.
+record AreSameButPasses (l : Layout) (old new : List Claim) : Type 0 where
+  marked : (h : Mark → ℕ) → weigh (marks_in h) new ≡ weigh (marks_in h) old
+  tickets : (h : Mark → ℕ) → weigh (tickets_in h) new ≡ weigh (tickets_in h) old
+  taken : (h : Entry → ℕ) → weigh (taken_in h) new ≡ weigh (taken_in h) old
+  tokens : (h : Entry → ℕ) → weigh (tokens_in h) new ≡ weigh (tokens_in h) old
+  segments : (h : ℕ → ℕ) → weigh (segment_in h) new ≡ weigh (segment_in h) old
+  files : (h : ℕ → ℕ) → weigh (file_in h) new ≡ weigh (file_in h) old
+  shards : (h : ℕ → ℕ) → weigh (shard_in h) new ≡ weigh (shard_in h) old
+  hands : weigh hand_in new ≡ weigh hand_in old
+  copies : (h : Copied → ℕ) → weigh (copies_in h) new ≡ weigh (copies_in h) old
+  copied : (h : Copied → ℕ) → weigh (copied_in h) new ≡ weigh (copied_in h) old
+  strays : weigh (stray_in l.blocks) new ≡ weigh (stray_in l.blocks) old
 
 module _ (l : Layout) where
   -- the rule stays if it does for the tickets, the tokens and the places
@@ -295,21 +309,35 @@ module _ (l : Layout) where
       let self = hit_self i f in
       let p = law.passes (hit i f) in hit_only i f o (omega arith)
 
+  -- the rule stays if it does for the passes
+  repasses : {old new : List Claim} (rest : List Claim) → AreSameButPasses l old new → Lawful l (together old rest)
+      → ((h : ℕ → Content → ℕ) → together new rest (pass_in h) ≡ together new rest (shown_in h)) → Lawful l (together new rest)
+  repasses rest same law passes = record {
+    tickets = λ h. let p = law.tickets h in let a = same.marked h in let b = same.tickets h in omega arith;
+    tokens = λ h. let p = law.tokens h in let a = same.taken h in let b = same.tokens h in omega arith;
+    passes = passes;
+    segments = λ h. let p = law.segments h in let a = same.segments h in omega arith;
+    files = λ h. let p = law.files h in let a = same.files h in omega arith;
+    shards = λ h. let p = law.shards h in let a = same.shards h in omega arith;
+    hands = let p = law.hands in let a = same.hands in omega arith;
+    copies = λ h. let p = law.copies h in let a = same.copies h in let b = same.copied h in omega arith;
+    home = let p = law.home in let a = same.strays in omega arith;
+  }
+
+  same_rest : {i : ℕ} {ts : List Mark} {ks : List Entry} {o o' : Option Content} {f f' : Content} → AreSameButPasses l (File i ts ks o ∷ Pass i f ∷ []) (File i ts ks o' ∷ Pass i f' ∷ [])
+  same_rest = record { marked = λ h. refl; tickets = λ h. refl; taken = λ h. refl; tokens = λ h. refl; segments = λ h. refl; files = λ h. refl; shards = λ h. refl; hands = refl; copies = λ h. refl; copied = λ h. refl; strays = refl }
+
+  pass_comes : {i : ℕ} {ts : List Mark} {ks : List Entry} {o o' : Option Content} {f : Content} → AreSameButPasses l (File i ts ks o ∷ []) (File i ts ks o' ∷ Pass i f ∷ [])
+  pass_comes = record { marked = λ h. refl; tickets = λ h. refl; taken = λ h. refl; tokens = λ h. refl; segments = λ h. refl; files = λ h. refl; shards = λ h. refl; hands = refl; copies = λ h. refl; copied = λ h. refl; strays = refl }
+
+  pass_goes : {i : ℕ} {ts : List Mark} {ks : List Entry} {o o' : Option Content} {f : Content} → AreSameButPasses l (File i ts ks o ∷ Pass i f ∷ []) (File i ts ks o' ∷ [])
+  pass_goes = record { marked = λ h. refl; tickets = λ h. refl; taken = λ h. refl; tokens = λ h. refl; segments = λ h. refl; files = λ h. refl; shards = λ h. refl; hands = refl; copies = λ h. refl; copied = λ h. refl; strays = refl }
+
   pub notes : (i : ℕ) (ts : List Mark) (ks : List Entry) (o : Option Content) (f g : Content)
       → Follows (Lawful l) (File i ts ks o ∷ Pass i f ∷ []) (File i ts ks (Some g) ∷ Pass i g ∷ []) (o ≡ Some f)
   notes i ts ks o f g rest law =
       let same = passed i ts ks o f rest law in (
-        record {
-          tickets = law.tickets;
-          tokens = law.tokens;
-          passes = λ h. let p = law.passes h in let q : shown h i o ≡ h i f = ap (λ (x : Option Content). shown h i x) same in omega arith;
-          segments = law.segments;
-          files = law.files;
-          shards = law.shards;
-          hands = law.hands;
-          copies = law.copies;
-          home = law.home;
-        },
+        repasses rest same_rest law (λ h. let p = law.passes h in let q : shown h i o ≡ h i f = ap (λ (x : Option Content). shown h i x) same in omega arith),
         same,
       )
 
@@ -319,17 +347,7 @@ module _ (l : Layout) where
   pub issues : (i : ℕ) (ts : List Mark) (ks : List Entry) (f : Content)
       → Follows (Lawful l) (File i ts ks None ∷ []) (File i ts ks (Some f) ∷ Pass i f ∷ []) (Unit {0})
   issues i ts ks f rest law = (
-    record {
-      tickets = law.tickets;
-      tokens = law.tokens;
-      passes = λ h. let p = law.passes h in omega arith;
-      segments = law.segments;
-      files = law.files;
-      shards = law.shards;
-      hands = law.hands;
-      copies = law.copies;
-      home = law.home;
-    },
+    repasses rest pass_comes law (λ h. let p = law.passes h in omega arith),
     tt,
   )
 
@@ -337,17 +355,7 @@ module _ (l : Layout) where
       → Follows (Lawful l) (File i ts ks o ∷ Pass i f ∷ []) (File i ts ks None ∷ []) (o ≡ Some f)
   spends i ts ks o f rest law =
       let same = passed i ts ks o f rest law in (
-        record {
-          tickets = law.tickets;
-          tokens = law.tokens;
-          passes = λ h. let p = law.passes h in let q : shown h i o ≡ h i f = ap (λ (x : Option Content). shown h i x) same in omega arith;
-          segments = law.segments;
-          files = law.files;
-          shards = law.shards;
-          hands = law.hands;
-          copies = law.copies;
-          home = law.home;
-        },
+        repasses rest pass_goes law (λ h. let p = law.passes h in let q : shown h i o ≡ h i f = ap (λ (x : Option Content). shown h i x) same in omega arith),
         same,
       )
 
