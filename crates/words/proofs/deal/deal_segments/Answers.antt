@@ -6,16 +6,16 @@ use Rattle.words.specs.Tokens.{Post, FreeSegment, fresh_post, fresh_slip}
 use Rattle.words.proofs.Dealing.{segments_less, posts_more, slips_more}
 use Rattle.words.proofs.deal.deal_segments.Goals as goal
 
+-- what the seat has before the next segment's claims are split off
+dealt_next : (version k n : ℕ) (rest had : List Claim) → had ≡ Checkpoint version ∷ (fresh_segments k (n - k) ++ rest) → k < n
+    → had ≡ Checkpoint version ∷ Stands (fresh_life k) ∷ Slip k ∷ (fresh_segments (k + 1) (n - (k + 1)) ++ rest)
+dealt_next version k n rest had is low = is ∙ ap (λ r. Checkpoint version ∷ (r ++ rest)) (segments_less k n low)
+
 pub invariant_of-push : goal.invariant_of-push
 invariant_of-push c =
     let k : ℕ = c.loop-segment.segment in
     let n : ℕ = c.args.words.now.segments in
-    let rest : List Claim = replicate c.args.seats (Reads fresh_pins) in
-    let end = c.loop-segment.invariant.2 in
-    let test = c.loop-segment-test.true in
-    let lt : k < n = omega arith in
-    let is : c.loop-segment.seat.me.0 ≡ Checkpoint c.args.version ∷ Stands (fresh_life k) ∷ Slip k ∷ (fresh_segments (k + 1) (n - (k + 1)) ++ rest) =
-    c.loop-segment.invariant.3 ∙ ap (λ r. Checkpoint c.args.version ∷ (r ++ rest)) (segments_less k n lt) in
+    let is = dealt_next c.args.version k n (replicate c.args.seats (Reads fresh_pins)) c.loop-segment.seat.me.0 c.loop-segment.invariant.3 (let end = c.loop-segment.invariant.2 in let test = c.loop-segment-test.true in omega arith) in
     let own : c.split_seat-own.result.me.0 ≡ Stands (fresh_life k) ∷ [] = ap (λ m. m.0) c.split_seat-own.ensures.4 ∙ ap second is in
     let table = c.split_seat-own.ensures.3 ∙ (c.loop-segment.invariant.0 ∙ (c.requires.table ∙ sym (ap (λ w. w.table) c.words.view_is))) in
     let wide = ap (λ t. t.words) table in
@@ -31,12 +31,7 @@ pub invariant_of-push-in-loop-segment : goal.invariant_of-push-in-loop-segment
 invariant_of-push-in-loop-segment c =
     let k : ℕ = c.loop-segment.segment in
     let n : ℕ = c.args.words.now.segments in
-    let rest : List Claim = replicate c.args.seats (Reads fresh_pins) in
-    let end = c.loop-segment.invariant.2 in
-    let test = c.loop-segment-test.true in
-    let lt : k < n = omega arith in
-    let is : c.loop-segment.seat.me.0 ≡ Checkpoint c.args.version ∷ Stands (fresh_life k) ∷ Slip k ∷ (fresh_segments (k + 1) (n - (k + 1)) ++ rest) =
-    c.loop-segment.invariant.3 ∙ ap (λ r. Checkpoint c.args.version ∷ (r ++ rest)) (segments_less k n lt) in
+    let is = dealt_next c.args.version k n (replicate c.args.seats (Reads fresh_pins)) c.loop-segment.seat.me.0 c.loop-segment.invariant.3 (let end = c.loop-segment.invariant.2 in let test = c.loop-segment-test.true in omega arith) in
     let table = c.split_seat-slip.ensures.3 ∙ (c.split_seat-own.ensures.0 ∙ (c.loop-segment.invariant.0 ∙ (c.requires.table ∙ sym (ap (λ w. w.table) c.words.view_is)))) in
     let wide = ap (λ t. t.words) table in
     let long = c.words.invariant.1 in (
@@ -49,14 +44,9 @@ pub loop-segment-preserved : goal.loop-segment-preserved
 loop-segment-preserved c =
     let k : ℕ = c.loop-segment.segment in
     let n : ℕ = c.args.words.now.segments in
-    let rest : List Claim = replicate c.args.seats (Reads fresh_pins) in
-    let end = c.loop-segment.invariant.2 in
-    let test = c.loop-segment-test.true in
-    let lt : k < n = omega arith in
-    let is : c.loop-segment.seat.me.0 ≡ Checkpoint c.args.version ∷ Stands (fresh_life k) ∷ Slip k ∷ (fresh_segments (k + 1) (n - (k + 1)) ++ rest) =
-    c.loop-segment.invariant.3 ∙ ap (λ r. Checkpoint c.args.version ∷ (r ++ rest)) (segments_less k n lt) in
+    let is = dealt_next c.args.version k n (replicate c.args.seats (Reads fresh_pins)) c.loop-segment.seat.me.0 c.loop-segment.invariant.3 (let end = c.loop-segment.invariant.2 in let test = c.loop-segment-test.true in omega arith) in
     let own : c.split_seat-own.result.me.0 ≡ Stands (fresh_life k) ∷ [] = ap (λ m. m.0) c.split_seat-own.ensures.4 ∙ ap second is in
-    let after : c.split_seat-own.new.seat.me.0 ≡ Checkpoint c.args.version ∷ Slip k ∷ (fresh_segments (k + 1) (n - (k + 1)) ++ rest) = ap (λ m. m.0) c.split_seat-own.ensures.2 ∙ ap without_second is in
+    let after : c.split_seat-own.new.seat.me.0 ≡ Checkpoint c.args.version ∷ Slip k ∷ (fresh_segments (k + 1) (n - (k + 1)) ++ replicate c.args.seats (Reads fresh_pins)) = ap (λ m. m.0) c.split_seat-own.ensures.2 ∙ ap without_second is in
     let old = c.loop-segment.invariant.0 ∙ c.requires.table in
     let p : Post = record { table = c.split_seat-own.result.table_id; life = life_of c.split_seat-own.result.me.0 } in
     let post : p ≡ fresh_post c.args.words.now.table k = λ i. record { table = (c.split_seat-own.ensures.3 ∙ old) i; life = life_of (own i) } in
