@@ -96,10 +96,8 @@ pub returns-clause-accounts : goal.returns-clause-accounts
 returns-clause-accounts g c =
     λ k other low. (let one = c.lodge_tickets.ensures.lodged in
     let two = c.lodge_tokens.ensures.lodged in
-    let first = one.count in
-    let second = two.count in
-    let here : k < length c.args.memory.accounts.items = omega arith in
-    let next : k < length c.lodge_tickets.new.accounts.items = omega arith in
+    let here : k < length c.args.memory.accounts.items = let first = one.count in let second = two.count in omega arith in
+    let next : k < length c.lodge_tickets.new.accounts.items = let second = two.count in omega arith in
     let was = c.requires.accounts k other here in
     let a = get_or c.lodge_tokens.new.accounts.items k other in
     let book : a.book ≡ c.args.books.now.book = two.book k other next ∙ (one.book k other here ∙ ap (λ (v : FileView). v.book) was) in
@@ -113,10 +111,8 @@ returns-clause-lodged_tickets g c =
     let shelves : c.load_files.new.stock.all ≡ record { tickets = c.load_nodes.new.tickets.items; tokens = c.load_nodes.new.tokens.items } = c.load_files.ensures.all ∙ (c.of-stock.ensures.all ∙ (λ i. record { tickets = c.lodge_tickets.ensures.same i; tokens = c.load_nodes.new.tokens.items })) in
     λ k other low h. (let one = c.lodge_tickets.ensures.lodged in
     let two = c.lodge_tokens.ensures.lodged in
-    let first = one.count in
-    let second = two.count in
-    let here : k < length c.args.memory.accounts.items = omega arith in
-    let next : k < length c.lodge_tickets.new.accounts.items = omega arith in
+    let here : k < length c.args.memory.accounts.items = let first = one.count in let second = two.count in omega arith in
+    let next : k < length c.lodge_tickets.new.accounts.items = let second = two.count in omega arith in
     let was = c.requires.accounts k other here in
     let none = ap (λ (v : FileView). weigh h v.tickets) was in
     let x = one.tickets_more k other here h in
@@ -129,10 +125,8 @@ returns-clause-lodged_tokens g c =
     let shelves : c.load_files.new.stock.all ≡ record { tickets = c.load_nodes.new.tickets.items; tokens = c.load_nodes.new.tokens.items } = c.load_files.ensures.all ∙ (c.of-stock.ensures.all ∙ (λ i. record { tickets = c.lodge_tickets.ensures.same i; tokens = c.load_nodes.new.tokens.items })) in
     λ k other low h. (let one = c.lodge_tickets.ensures.lodged in
     let two = c.lodge_tokens.ensures.lodged in
-    let first = one.count in
-    let second = two.count in
-    let here : k < length c.args.memory.accounts.items = omega arith in
-    let next : k < length c.lodge_tickets.new.accounts.items = omega arith in
+    let here : k < length c.args.memory.accounts.items = let first = one.count in let second = two.count in omega arith in
+    let next : k < length c.lodge_tickets.new.accounts.items = let second = two.count in omega arith in
     let was = c.requires.accounts k other here in
     let none = ap (λ (v : FileView). weigh h v.tokens) was in
     let x = one.tokens_more k other here h in
