@@ -2,32 +2,37 @@ use Rattle.std.proofs.Common.{◌≡◌, inl, inr, ℕ, ◌-◌, ◌≤◌, List
 use Rattle.device.specs.Disk.{Torn}
 use Rattle.device.proofs.Moments.{torn_leaves, torn_moments, quiet_moments}
 use Rattle.packs.specs.Pack.{IsSettled, MayClear}
-use Rattle.packs.specs.Area.{reading_of}
-use Rattle.packs.specs.Device.{IsSameArea, KeepsArea}
+use Rattle.packs.specs.Area.{footer_at, reading_of}
+use Rattle.packs.specs.Device.{IsSameArea, KeepsArea, IsFound}
+use Rattle.packs.specs.declared.choice.Found.{Found}
 use Rattle.packs.proofs.Fronts.{kept_alone}
 use Rattle.packs.proofs.Picking.{picked_settled}
 use Rattle.packs.proofs.Slots.{torn_area, torn_footer}
 use Rattle.packs.proofs.Steps.{footer_behind, footer_zero}
 use Rattle.packs.proofs.open.lower_other.Goals as goal
 
+-- what a torn write of the other footer leaves, where that footer is not below the picked version
+torn_other : (len : ℕ) (found : Found) (area : List ℕ) (at : ℕ) → IsFound (reading_of len) area found → found.version ≤ found.other → at ≡ footer_at len (1 - found.slot)
+    → (d e : List ℕ) → d ≡ area → Torn at 4 d e → KeepsArea area (MayClear (reading_of len) found.slot area) e
+torn_other len found area at f high at_is d e is torn =
+    let here : Torn at 4 area e = subst (λ (l : List ℕ). Torn at 4 l e) is torn in
+    record {
+      packs = inr (
+        omega (arith, f.version, f.other, high),
+        torn_footer len found.slot area e f.slot.within (subst (λ (a : ℕ). Torn a 4 area e) at_is here),
+      );
+      same = torn_area at 4 area e (omega (arith, footer_behind len (1 - found.slot), at_is)) here;
+    }
+
+-- before the write the area is as it was
+still : (len : ℕ) (found : Found) (area d : List ℕ) → d ≡ area → KeepsArea area (MayClear (reading_of len) found.slot area) d
+still len found area d is = kept_alone (MayClear (reading_of len) found.slot area) area d is (inl is)
+
 pub returns-in_err-write-clause-any_moment : goal.returns-in_err-write-clause-any_moment
 returns-in_err-write-clause-any_moment g c =
     let area = g.M.Meta.seen c.args.meta.now in
-    let f = c.requires.found in
-    let P : List ℕ → Type 0 = λ d. d ≡ area in
-    let Q = KeepsArea area (MayClear (reading_of c.args.len) c.args.found.slot area) in
-    let behind : 64 ≤ c.footer_at.result = omega (arith, footer_behind c.args.len (1 - c.args.found.slot), c.footer_at.ensures) in
-    let weak : (d : List ℕ) → P d → Q d = λ d is. kept_alone (MayClear (reading_of c.args.len) c.args.found.slot area) area d is (inl is) in
-    let step : (d e : List ℕ) → P d → Torn c.footer_at.result 4 d e → Q e = λ d e is torn.
-    let here : Torn c.footer_at.result 4 area e = subst (λ (l : List ℕ). Torn c.footer_at.result 4 l e) is torn in
-    record {
-      packs = inr (
-        omega (arith, f.version, f.other, c.if-found.false),
-        torn_footer c.args.len c.args.found.slot area e f.slot.within (subst (λ (a : ℕ). Torn a 4 area e) c.footer_at.ensures here),
-      );
-      same = torn_area c.footer_at.result 4 area e behind here;
-    } in
-    torn_moments g.M.Meta.moment g.M.Meta.left_since g.M.Meta.may_leave g.met.M.Meta.only_now _ _ _ _ P Q c.requires.durable c.write.ensures.crash c.write.ensures.time weak step
+    torn_moments g.M.Meta.moment g.M.Meta.left_since g.M.Meta.may_leave g.met.M.Meta.only_now _ _ _ _ (λ d. d ≡ area) (KeepsArea area (MayClear (reading_of c.args.len) c.args.found.slot area))
+    c.requires.durable c.write.ensures.crash c.write.ensures.time (still c.args.len c.args.found area) (torn_other c.args.len c.args.found area c.footer_at.result c.requires.found (omega (arith, c.if-found.false)) c.footer_at.ensures)
 
 pub returns-in_err-write-clause-same : goal.returns-in_err-write-clause-same
 returns-in_err-write-clause-same g c =
@@ -36,44 +41,20 @@ returns-in_err-write-clause-same g c =
 pub returns-in_err-sync-clause-any_moment : goal.returns-in_err-sync-clause-any_moment
 returns-in_err-sync-clause-any_moment g c =
     let area = g.M.Meta.seen c.args.meta.now in
-    let f = c.requires.found in
-    let P : List ℕ → Type 0 = λ d. d ≡ area in
     let Q = KeepsArea area (MayClear (reading_of c.args.len) c.args.found.slot area) in
-    let behind : 64 ≤ c.footer_at.result = omega (arith, footer_behind c.args.len (1 - c.args.found.slot), c.footer_at.ensures) in
-    let weak : (d : List ℕ) → P d → Q d = λ d is. kept_alone (MayClear (reading_of c.args.len) c.args.found.slot area) area d is (inl is) in
-    let step : (d e : List ℕ) → P d → Torn c.footer_at.result 4 d e → Q e = λ d e is torn.
-    let here : Torn c.footer_at.result 4 area e = subst (λ (l : List ℕ). Torn c.footer_at.result 4 l e) is torn in
-    record {
-      packs = inr (
-        omega (arith, f.version, f.other, c.if-found.false),
-        torn_footer c.args.len c.args.found.slot area e f.slot.within (subst (λ (a : ℕ). Torn a 4 area e) c.footer_at.ensures here),
-      );
-      same = torn_area c.footer_at.result 4 area e behind here;
-    } in
-    let wrote = torn_moments g.M.Meta.moment g.M.Meta.left_since g.M.Meta.may_leave g.met.M.Meta.only_now _ _ _ _ P Q c.requires.durable c.write.ensures.crash c.write.ensures.time weak step in
-    let left = torn_leaves g.M.Meta.moment g.M.Meta.left_since g.M.Meta.may_leave _ _ _ _ P Q c.requires.durable c.write.ensures.crash step in
-    quiet_moments g.M.Meta.moment g.M.Meta.left_since g.M.Meta.seen g.M.Meta.may_leave _ _ _ Q wrote left c.sync.ensures.quiet
+    let step = torn_other c.args.len c.args.found area c.footer_at.result c.requires.found (omega (arith, c.if-found.false)) c.footer_at.ensures in
+    quiet_moments g.M.Meta.moment g.M.Meta.left_since g.M.Meta.seen g.M.Meta.may_leave _ _ _ Q
+    (torn_moments g.M.Meta.moment g.M.Meta.left_since g.M.Meta.may_leave g.met.M.Meta.only_now _ _ _ _ (λ d. d ≡ area) Q c.requires.durable c.write.ensures.crash c.write.ensures.time (still c.args.len c.args.found area) step)
+    (torn_leaves g.M.Meta.moment g.M.Meta.left_since g.M.Meta.may_leave _ _ _ _ (λ d. d ≡ area) Q c.requires.durable c.write.ensures.crash step) c.sync.ensures.quiet
 
 pub returns-clause-any_moment : goal.returns-clause-any_moment
 returns-clause-any_moment g c =
     let area = g.M.Meta.seen c.args.meta.now in
-    let f = c.requires.found in
-    let P : List ℕ → Type 0 = λ d. d ≡ area in
     let Q = KeepsArea area (MayClear (reading_of c.args.len) c.args.found.slot area) in
-    let behind : 64 ≤ c.footer_at.result = omega (arith, footer_behind c.args.len (1 - c.args.found.slot), c.footer_at.ensures) in
-    let weak : (d : List ℕ) → P d → Q d = λ d is. kept_alone (MayClear (reading_of c.args.len) c.args.found.slot area) area d is (inl is) in
-    let step : (d e : List ℕ) → P d → Torn c.footer_at.result 4 d e → Q e = λ d e is torn.
-    let here : Torn c.footer_at.result 4 area e = subst (λ (l : List ℕ). Torn c.footer_at.result 4 l e) is torn in
-    record {
-      packs = inr (
-        omega (arith, f.version, f.other, c.if-found.false),
-        torn_footer c.args.len c.args.found.slot area e f.slot.within (subst (λ (a : ℕ). Torn a 4 area e) c.footer_at.ensures here),
-      );
-      same = torn_area c.footer_at.result 4 area e behind here;
-    } in
-    let wrote = torn_moments g.M.Meta.moment g.M.Meta.left_since g.M.Meta.may_leave g.met.M.Meta.only_now _ _ _ _ P Q c.requires.durable c.write.ensures.crash c.write.ensures.time weak step in
-    let left = torn_leaves g.M.Meta.moment g.M.Meta.left_since g.M.Meta.may_leave _ _ _ _ P Q c.requires.durable c.write.ensures.crash step in
-    quiet_moments g.M.Meta.moment g.M.Meta.left_since g.M.Meta.seen g.M.Meta.may_leave _ _ _ Q wrote left c.sync.ensures.quiet
+    let step = torn_other c.args.len c.args.found area c.footer_at.result c.requires.found (omega (arith, c.if-found.false)) c.footer_at.ensures in
+    quiet_moments g.M.Meta.moment g.M.Meta.left_since g.M.Meta.seen g.M.Meta.may_leave _ _ _ Q
+    (torn_moments g.M.Meta.moment g.M.Meta.left_since g.M.Meta.may_leave g.met.M.Meta.only_now _ _ _ _ (λ d. d ≡ area) Q c.requires.durable c.write.ensures.crash c.write.ensures.time (still c.args.len c.args.found area) step)
+    (torn_leaves g.M.Meta.moment g.M.Meta.left_since g.M.Meta.may_leave _ _ _ _ (λ d. d ≡ area) Q c.requires.durable c.write.ensures.crash step) c.sync.ensures.quiet
 
 pub returns-in_err-sync-clause-same : goal.returns-in_err-sync-clause-same
 returns-in_err-sync-clause-same g c =
