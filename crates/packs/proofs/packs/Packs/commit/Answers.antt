@@ -1,8 +1,9 @@
 use Rattle.std.proofs.Common.{◌≡◌, ◌+◌, ◌-◌, ◌≤◌, List, ℕ, length, sym, ◌∙◌, ap, subst, arith}
+use Rattle.device.specs.Disk.{Torn}
 use Rattle.device.proofs.Moments.{torn_leaves, torn_moments, quiet_moments}
 use Rattle.image.specs.Slots.{version_of, slot_of}
 use Rattle.packs.specs.Pack.{IsSettled, IsStaged, Between}
-use Rattle.packs.specs.Area.{reading_of}
+use Rattle.packs.specs.Area.{footer_at, reading_of}
 use Rattle.packs.specs.Device.{IsSameArea, KeepsArea, body_of, staged_in}
 use Rattle.packs.proofs.Crash.{settled_between}
 use Rattle.packs.proofs.Footer.{footer_reads, footer_long}
@@ -11,21 +12,26 @@ use Rattle.packs.proofs.Slots.{torn_area}
 use Rattle.packs.proofs.Steps.{footer_between, footer_settled, footer_behind, area_stays}
 use Rattle.packs.proofs.packs.Packs.commit.Goals as goal
 
+-- before the footer is written the area lies between the packs, and so it does after a torn write of it
+module _ (len version : ℕ) (old new area : List ℕ) (is : version ≡ version_of old) (next : version_of new ≡ version_of old + 1) where
+  staged_between : (d : List ℕ) → KeepsArea area (IsStaged (reading_of len) old new) d → KeepsArea area (Between (reading_of len) old new) d
+  staged_between d = kept_weaker (IsStaged (reading_of len) old new) (Between (reading_of len) old new) area d (λ staged. settled_between (reading_of len) old new d next staged.settled)
+
+  torn_between : (at n : ℕ) → at ≡ footer_at len (1 - slot_of version) → n ≡ 4 → (d e : List ℕ)
+      → KeepsArea area (IsStaged (reading_of len) old new) d → Torn at n d e → KeepsArea area (Between (reading_of len) old new) e
+  torn_between at n at_is n_is d e =
+      kept_torn (IsStaged (reading_of len) old new) (Between (reading_of len) old new) area d e at n (omega (arith, footer_behind len (1 - slot_of version), at_is))
+      (footer_between len version at n old new d e at_is n_is is next)
+
 pub returns-in_err-write-clause-any_moment : goal.returns-in_err-write-clause-any_moment
 returns-in_err-write-clause-any_moment g c =
-    let s = c.requires.staged in
-    let old = body_of (reading_of c.args.self.now.len) g.M.Meta.seen c.args.self.now in
-    let new = staged_in (reading_of c.args.self.now.len) g.M.Meta.seen c.args.self.now in
-    let next : version_of new ≡ version_of old + 1 = omega (arith, s.version, c.requires.version, c.requires.next) in
+    let len = c.args.self.now.len in
+    let old = body_of (reading_of len) g.M.Meta.seen c.args.self.now in
+    let new = staged_in (reading_of len) g.M.Meta.seen c.args.self.now in
     let area = g.M.Meta.seen c.args.self.now.meta in
-    let S = IsStaged (reading_of c.args.self.now.len) old new in
-    let B = Between (reading_of c.args.self.now.len) old new in
-    let P = KeepsArea area S in
-    let Q = KeepsArea area B in
-    let behind : 64 ≤ c.footer_at-at.result = omega (arith, footer_behind c.args.self.now.len (1 - slot_of c.args.self.now.version), c.footer_at-at.ensures) in
-    let weak = λ (d : List ℕ). kept_weaker S B area d (λ is. settled_between (reading_of c.args.self.now.len) old new d next is.settled) in
-    let step = λ (d e : List ℕ). kept_torn S B area d e c.footer_at-at.result (length c.write_u32.new.buf) behind (footer_between c.args.self.now.len c.args.self.now.version c.footer_at-at.result (length c.write_u32.new.buf) old new d e c.footer_at-at.ensures (footer_long _ _ c.write_u32.ensures) s.version next) in
-    torn_moments g.M.Meta.moment g.M.Meta.left_since g.M.Meta.may_leave g.met.M.Meta.only_now _ _ _ _ P Q s.left c.write.ensures.crash c.write.ensures.time weak step
+    let next : version_of new ≡ version_of old + 1 = omega (arith, c.requires.staged.version, c.requires.version, c.requires.next) in
+    torn_moments g.M.Meta.moment g.M.Meta.left_since g.M.Meta.may_leave g.met.M.Meta.only_now _ _ _ _ (KeepsArea area (IsStaged (reading_of len) old new)) (KeepsArea area (Between (reading_of len) old new))
+    c.requires.staged.left c.write.ensures.crash c.write.ensures.time (staged_between len c.args.self.now.version old new area c.requires.staged.version next) (torn_between len c.args.self.now.version old new area c.requires.staged.version next c.footer_at-at.result (length c.write_u32.new.buf) c.footer_at-at.ensures (footer_long _ _ c.write_u32.ensures))
 
 pub returns-in_err-write-clause-same : goal.returns-in_err-write-clause-same
 returns-in_err-write-clause-same g c =
@@ -33,39 +39,27 @@ returns-in_err-write-clause-same g c =
 
 pub returns-in_err-sync-clause-any_moment : goal.returns-in_err-sync-clause-any_moment
 returns-in_err-sync-clause-any_moment g c =
-    let s = c.requires.staged in
-    let old = body_of (reading_of c.args.self.now.len) g.M.Meta.seen c.args.self.now in
-    let new = staged_in (reading_of c.args.self.now.len) g.M.Meta.seen c.args.self.now in
-    let next : version_of new ≡ version_of old + 1 = omega (arith, s.version, c.requires.version, c.requires.next) in
+    let len = c.args.self.now.len in
+    let old = body_of (reading_of len) g.M.Meta.seen c.args.self.now in
+    let new = staged_in (reading_of len) g.M.Meta.seen c.args.self.now in
     let area = g.M.Meta.seen c.args.self.now.meta in
-    let S = IsStaged (reading_of c.args.self.now.len) old new in
-    let B = Between (reading_of c.args.self.now.len) old new in
-    let P = KeepsArea area S in
-    let Q = KeepsArea area B in
-    let behind : 64 ≤ c.footer_at-at.result = omega (arith, footer_behind c.args.self.now.len (1 - slot_of c.args.self.now.version), c.footer_at-at.ensures) in
-    let weak = λ (d : List ℕ). kept_weaker S B area d (λ is. settled_between (reading_of c.args.self.now.len) old new d next is.settled) in
-    let step = λ (d e : List ℕ). kept_torn S B area d e c.footer_at-at.result (length c.write_u32.new.buf) behind (footer_between c.args.self.now.len c.args.self.now.version c.footer_at-at.result (length c.write_u32.new.buf) old new d e c.footer_at-at.ensures (footer_long _ _ c.write_u32.ensures) s.version next) in
-    let wrote = torn_moments g.M.Meta.moment g.M.Meta.left_since g.M.Meta.may_leave g.met.M.Meta.only_now _ _ _ _ P Q s.left c.write.ensures.crash c.write.ensures.time weak step in
-    let left = torn_leaves g.M.Meta.moment g.M.Meta.left_since g.M.Meta.may_leave _ _ _ _ P Q s.left c.write.ensures.crash step in
-    quiet_moments g.M.Meta.moment g.M.Meta.left_since g.M.Meta.seen g.M.Meta.may_leave _ _ _ Q wrote left c.sync.ensures.quiet
+    let next : version_of new ≡ version_of old + 1 = omega (arith, c.requires.staged.version, c.requires.version, c.requires.next) in
+    let step = (torn_between len c.args.self.now.version old new area c.requires.staged.version next c.footer_at-at.result (length c.write_u32.new.buf) c.footer_at-at.ensures (footer_long _ _ c.write_u32.ensures)) in
+    quiet_moments g.M.Meta.moment g.M.Meta.left_since g.M.Meta.seen g.M.Meta.may_leave _ _ _ (KeepsArea area (Between (reading_of len) old new))
+    (torn_moments g.M.Meta.moment g.M.Meta.left_since g.M.Meta.may_leave g.met.M.Meta.only_now _ _ _ _ (KeepsArea area (IsStaged (reading_of len) old new)) (KeepsArea area (Between (reading_of len) old new)) c.requires.staged.left c.write.ensures.crash c.write.ensures.time (staged_between len c.args.self.now.version old new area c.requires.staged.version next) step)
+    (torn_leaves g.M.Meta.moment g.M.Meta.left_since g.M.Meta.may_leave _ _ _ _ (KeepsArea area (IsStaged (reading_of len) old new)) (KeepsArea area (Between (reading_of len) old new)) c.requires.staged.left c.write.ensures.crash step) c.sync.ensures.quiet
 
 pub returns-clause-any_moment : goal.returns-clause-any_moment
 returns-clause-any_moment g c =
-    let s = c.requires.staged in
-    let old = body_of (reading_of c.args.self.now.len) g.M.Meta.seen c.args.self.now in
-    let new = staged_in (reading_of c.args.self.now.len) g.M.Meta.seen c.args.self.now in
-    let next : version_of new ≡ version_of old + 1 = omega (arith, s.version, c.requires.version, c.requires.next) in
+    let len = c.args.self.now.len in
+    let old = body_of (reading_of len) g.M.Meta.seen c.args.self.now in
+    let new = staged_in (reading_of len) g.M.Meta.seen c.args.self.now in
     let area = g.M.Meta.seen c.args.self.now.meta in
-    let S = IsStaged (reading_of c.args.self.now.len) old new in
-    let B = Between (reading_of c.args.self.now.len) old new in
-    let P = KeepsArea area S in
-    let Q = KeepsArea area B in
-    let behind : 64 ≤ c.footer_at-at.result = omega (arith, footer_behind c.args.self.now.len (1 - slot_of c.args.self.now.version), c.footer_at-at.ensures) in
-    let weak = λ (d : List ℕ). kept_weaker S B area d (λ is. settled_between (reading_of c.args.self.now.len) old new d next is.settled) in
-    let step = λ (d e : List ℕ). kept_torn S B area d e c.footer_at-at.result (length c.write_u32.new.buf) behind (footer_between c.args.self.now.len c.args.self.now.version c.footer_at-at.result (length c.write_u32.new.buf) old new d e c.footer_at-at.ensures (footer_long _ _ c.write_u32.ensures) s.version next) in
-    let wrote = torn_moments g.M.Meta.moment g.M.Meta.left_since g.M.Meta.may_leave g.met.M.Meta.only_now _ _ _ _ P Q s.left c.write.ensures.crash c.write.ensures.time weak step in
-    let left = torn_leaves g.M.Meta.moment g.M.Meta.left_since g.M.Meta.may_leave _ _ _ _ P Q s.left c.write.ensures.crash step in
-    quiet_moments g.M.Meta.moment g.M.Meta.left_since g.M.Meta.seen g.M.Meta.may_leave _ _ _ Q wrote left c.sync.ensures.quiet
+    let next : version_of new ≡ version_of old + 1 = omega (arith, c.requires.staged.version, c.requires.version, c.requires.next) in
+    let step = (torn_between len c.args.self.now.version old new area c.requires.staged.version next c.footer_at-at.result (length c.write_u32.new.buf) c.footer_at-at.ensures (footer_long _ _ c.write_u32.ensures)) in
+    quiet_moments g.M.Meta.moment g.M.Meta.left_since g.M.Meta.seen g.M.Meta.may_leave _ _ _ (KeepsArea area (Between (reading_of len) old new))
+    (torn_moments g.M.Meta.moment g.M.Meta.left_since g.M.Meta.may_leave g.met.M.Meta.only_now _ _ _ _ (KeepsArea area (IsStaged (reading_of len) old new)) (KeepsArea area (Between (reading_of len) old new)) c.requires.staged.left c.write.ensures.crash c.write.ensures.time (staged_between len c.args.self.now.version old new area c.requires.staged.version next) step)
+    (torn_leaves g.M.Meta.moment g.M.Meta.left_since g.M.Meta.may_leave _ _ _ _ (KeepsArea area (IsStaged (reading_of len) old new)) (KeepsArea area (Between (reading_of len) old new)) c.requires.staged.left c.write.ensures.crash step) c.sync.ensures.quiet
 
 pub returns-in_err-sync-clause-same : goal.returns-in_err-sync-clause-same
 returns-in_err-sync-clause-same g c =
