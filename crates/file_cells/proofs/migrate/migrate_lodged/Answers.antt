@@ -5,9 +5,10 @@ use Rattle.books.specs.declared.claim.Layout.{Layout}
 use Rattle.books.specs.Accounts.{FileView, HandView}
 use Rattle.tree.proofs.Results.{if_ok, on_err}
 use Rattle.nodes.specs.File.{weight_of}
-use Rattle.nodes.specs.Held.{no_others}
+use Rattle.nodes.specs.Held.{AreHeld, no_others}
 use Rattle.file_cells.proofs.Lodging.{taken, in_hand, home_again, account_kept, lodged, lodged_again}
 use Rattle.file_cells.proofs.Moves.{moved_lodged, keeps_lodged}
+use Rattle.file_cells.proofs.migrate.migrate_lodged.Given as given
 use Rattle.file_cells.proofs.migrate.migrate_lodged.Goals as goal
 
 pub migrate-done-requires-clause-book : goal.migrate-done-requires-clause-book
@@ -51,35 +52,27 @@ returns-clause-hand g c =
 pub migrate-done-requires-clause-bytes : goal.migrate-done-requires-clause-bytes
 migrate-done-requires-clause-bytes g c = c.requires.bytes ∙ ap block_bytes (sym c.requires.lodged.shape_is)
 
+-- what the file holds after the move is lodged
+held_again : (g : given.Over) (c : goal.After-lodge_all g) → AreHeld c.migrate-done.new.file c.lodge_all.new.file.tickets c.lodge_all.new.file.tokens
+held_again g c =
+    let book = g.V.Books.BooksName.books.book in
+    let a = c.args.account.now in
+    let h = c.args.hand.now in
+    lodged book a c.unlodge_all.new.file c.lodge_all.new.file h c.unlodge_all.new.permit c.migrate-done.new.hand h c.requires.hand
+    c.migrate-done.new.file c.unlodge_all.ensures.file c.lodge_all.ensures.file
+    (c.migrate-done.ensures.serves.others no_others (in_hand book a a a h c.unlodge_all.new.permit h h c.requires.hand c.args.file.now c.unlodge_all.ensures.permit c.requires.lodged.lodged))
+
 pub returns-clause-moved : goal.returns-clause-moved
 returns-clause-moved g c =
-    let h = c.args.hand.now in
-    let book = g.V.Books.BooksName.books.book in
-    let serves = c.migrate-done.ensures.serves in
-    let now = lodged book c.args.account.now c.unlodge_all.new.file c.lodge_all.new.file h c.unlodge_all.new.permit c.migrate-done.new.hand h c.requires.hand
-    c.migrate-done.new.file c.unlodge_all.ensures.file c.lodge_all.ensures.file
-    (serves.others no_others (in_hand book c.args.account.now c.args.account.now c.args.account.now h c.unlodge_all.new.permit h h c.requires.hand c.args.file.now c.unlodge_all.ensures.permit c.requires.lodged.lodged)) in
     if_ok c.migrate-done.result c.migrate-done.ensures.moved (λ fate moves is.
-    moved_lodged c.args.file.now c.migrate-done.new.file c.args.account.now c.lodge_all.new.file c.requires.lodged.lodged now c.args.address c.args.owner (moves is))
+    moved_lodged c.args.file.now c.migrate-done.new.file c.args.account.now c.lodge_all.new.file c.requires.lodged.lodged (held_again g c) c.args.address c.args.owner (moves is))
 
 pub returns-clause-gone : goal.returns-clause-gone
 returns-clause-gone g c =
-    let h = c.args.hand.now in
-    let book = g.V.Books.BooksName.books.book in
-    let serves = c.migrate-done.ensures.serves in
-    let now = lodged book c.args.account.now c.unlodge_all.new.file c.lodge_all.new.file h c.unlodge_all.new.permit c.migrate-done.new.hand h c.requires.hand
-    c.migrate-done.new.file c.unlodge_all.ensures.file c.lodge_all.ensures.file
-    (serves.others no_others (in_hand book c.args.account.now c.args.account.now c.args.account.now h c.unlodge_all.new.permit h h c.requires.hand c.args.file.now c.unlodge_all.ensures.permit c.requires.lodged.lodged)) in
     if_ok c.migrate-done.result c.migrate-done.ensures.gone (λ fate gone is.
-    keeps_lodged c.args.file.now c.migrate-done.new.file c.args.account.now c.lodge_all.new.file c.requires.lodged.lodged now (gone is).1)
+    keeps_lodged c.args.file.now c.migrate-done.new.file c.args.account.now c.lodge_all.new.file c.requires.lodged.lodged (held_again g c) (gone is).1)
 
 pub returns-clause-err : goal.returns-clause-err
 returns-clause-err g c =
-    let h = c.args.hand.now in
-    let book = g.V.Books.BooksName.books.book in
-    let serves = c.migrate-done.ensures.serves in
-    let now = lodged book c.args.account.now c.unlodge_all.new.file c.lodge_all.new.file h c.unlodge_all.new.permit c.migrate-done.new.hand h c.requires.hand
-    c.migrate-done.new.file c.unlodge_all.ensures.file c.lodge_all.ensures.file
-    (serves.others no_others (in_hand book c.args.account.now c.args.account.now c.args.account.now h c.unlodge_all.new.permit h h c.requires.hand c.args.file.now c.unlodge_all.ensures.permit c.requires.lodged.lodged)) in
     on_err c.migrate-done.result c.migrate-done.ensures.err (λ same.
-    keeps_lodged c.args.file.now c.migrate-done.new.file c.args.account.now c.lodge_all.new.file c.requires.lodged.lodged now (λ w. ap (λ f. weight_of f w) same.0))
+    keeps_lodged c.args.file.now c.migrate-done.new.file c.args.account.now c.lodge_all.new.file c.requires.lodged.lodged (held_again g c) (λ w. ap (λ f. weight_of f w) same.0))
