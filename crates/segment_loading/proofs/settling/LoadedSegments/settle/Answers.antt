@@ -42,9 +42,7 @@ pub returns-in-Some-clause-segments : goal.returns-in-Some-clause-segments
 returns-in-Some-clause-segments g c =
     let geometry = c.args.geometry.now in
     let image = image_view c.args.image.now in
-    let book = c.args.books.now.book in
     let table = c.args.words.now.table in
-    let number = c.args.number in
     let self = c.args.self.now in
     let r = c.into_open-state.result.0 in
     let place = c.in-Some.place in
@@ -52,48 +50,44 @@ returns-in-Some-clause-segments g c =
     let slip = c.store.result in
     let is = c.into_open-state.ensures.segment in
     let table_is : r.table ≡ table = c.into_open-state.ensures.life.3 ∙ ap (λ (p : Post). p.table) c.requires.standing in
-    let in_state = state_open geometry image c.requires.lawful number log place c.in-Some.ensures.0 c.in-Some.ensures.1 in
-    let here = segment_in geometry image book table c.args.loading r number Open place.next c.numbers_of-valid.result.1 c.requires.number c.requires.whose.0 c.requires.whose.1 c.requires.owners is c.numbers_of-valid.ensures.mtime in_state
+    let in_state = state_open geometry image c.requires.lawful c.args.number log place c.in-Some.ensures.0 c.in-Some.ensures.1 in
+    let here = segment_in geometry image c.args.books.now.book table c.args.loading r c.args.number Open place.next c.numbers_of-valid.result.1 c.requires.number c.requires.whose.0 c.requires.whose.1 c.requires.owners is c.numbers_of-valid.ensures.mtime in_state
     (c.into_open-state.ensures.book ∙ c.requires.whose.2) table_is in
-    let slip_is : slip ≡ record { table = table; segment = number } = c.store.ensures ∙ (c.into_open-state.ensures.slip ∙ (λ k. record { table = table_is k; segment = here.number_is k })) in
-    let next = goes_on_open geometry image book table number self.states.items self.free.items self.logs.items c.requires.before r here c.requires.lawful log place slip c.in-Some.ensures.0 c.in-Some.ensures.1
+    let slip_is : slip ≡ record { table = table; segment = c.args.number } = c.store.ensures ∙ (c.into_open-state.ensures.slip ∙ (λ k. record { table = table_is k; segment = here.number_is k })) in
+    let next = goes_on_open geometry image c.args.books.now.book table c.args.number self.states.items self.free.items self.logs.items c.requires.before r here c.requires.lawful log place slip c.in-Some.ensures.0 c.in-Some.ensures.1
     (ap (λ (s : Segment). s.state) is) slip_is in
-    subst (λ xs. AreSegmentsFrom geometry image book table number xs self.free.items (set self.logs.items log (Some slip))) (sym c.push_reserved.ensures.items) next
+    subst (λ xs. AreSegmentsFrom geometry image c.args.books.now.book table c.args.number xs self.free.items (set self.logs.items log (Some slip))) (sym c.push_reserved.ensures.items) next
 
 pub returns-then-valid-eq0-clause-segments : goal.returns-then-valid-eq0-clause-segments
 returns-then-valid-eq0-clause-segments g c =
     let geometry = c.args.geometry.now in
     let image = image_view c.args.image.now in
-    let book = c.args.books.now.book in
     let table = c.args.words.now.table in
-    let number = c.args.number in
     let self = c.args.self.now in
     let r = c.into_free.result in
     let is = c.into_free.ensures.segment in
     let table_is : r.table ≡ table = ap (λ (p : Post). p.table) (c.into_free.ensures.standing ∙ c.requires.standing) in
     let valid = c.numbers_of-valid.ensures.count in
-    let in_state = state_free image number c.in-None.ensures (sym valid ∙ omega arith) in
-    let here = segment_in geometry image book table c.args.loading r number Free 0 c.numbers_of-valid.result.1 c.requires.number c.requires.whose.0 c.requires.whose.1 c.requires.owners is c.numbers_of-valid.ensures.mtime in_state
+    let in_state = state_free image c.args.number c.in-None.ensures (sym valid ∙ omega arith) in
+    let here = segment_in geometry image c.args.books.now.book table c.args.loading r c.args.number Free 0 c.numbers_of-valid.result.1 c.requires.number c.requires.whose.0 c.requires.whose.1 c.requires.owners is c.numbers_of-valid.ensures.mtime in_state
     (c.into_free.ensures.book ∙ c.requires.whose.2) table_is in
-    let next = goes_on_free geometry image book table number self.states.items self.free.items self.logs.items c.requires.before r here c.in-None.ensures (ap (λ (s : Segment). s.state) is) in
+    let next = goes_on_free geometry image c.args.books.now.book table c.args.number self.states.items self.free.items self.logs.items c.requires.before r here c.in-None.ensures (ap (λ (s : Segment). s.state) is) in
     let slips = c.push_reserved-then-valid-eq0.ensures.items ∙ ap (λ s. self.free.items ++ s ∷ []) c.requires.slip in
-    subst (λ xs. AreSegmentsFrom geometry image book table number xs c.push_reserved-then-valid-eq0.new.self.items self.logs.items) (sym c.push_reserved-then-valid-eq0-2.ensures.items)
-    (subst (λ fs. AreSegmentsFrom geometry image book table number (self.states.items ++ r ∷ []) fs self.logs.items) (sym slips) next)
+    subst (λ xs. AreSegmentsFrom geometry image c.args.books.now.book table c.args.number xs c.push_reserved-then-valid-eq0.new.self.items self.logs.items) (sym c.push_reserved-then-valid-eq0-2.ensures.items)
+    (subst (λ fs. AreSegmentsFrom geometry image c.args.books.now.book table c.args.number (self.states.items ++ r ∷ []) fs self.logs.items) (sym slips) next)
 
 pub returns-else-valid-eq0-clause-segments : goal.returns-else-valid-eq0-clause-segments
 returns-else-valid-eq0-clause-segments g c =
     let geometry = c.args.geometry.now in
     let image = image_view c.args.image.now in
-    let book = c.args.books.now.book in
     let table = c.args.words.now.table in
-    let number = c.args.number in
     let self = c.args.self.now in
     let r = c.into_sealed-state.result in
     let is = c.into_sealed-state.ensures.segment in
     let table_is : r.table ≡ table = sealed_table c.args.standing (record { table = r.table; life = r.life }) c.into_sealed-state.ensures.life ∙ ap (λ (p : Post). p.table) c.requires.standing in
     let valid = c.numbers_of-valid.ensures.count in
-    let in_state = state_sealed image number c.in-None.ensures (λ e. absurd (omega arith)) in
-    let here = segment_in geometry image book table c.args.loading r number Sealed 0 c.numbers_of-valid.result.1 c.requires.number c.requires.whose.0 c.requires.whose.1 c.requires.owners is c.numbers_of-valid.ensures.mtime in_state
+    let in_state = state_sealed image c.args.number c.in-None.ensures (λ e. absurd (omega arith)) in
+    let here = segment_in geometry image c.args.books.now.book table c.args.loading r c.args.number Sealed 0 c.numbers_of-valid.result.1 c.requires.number c.requires.whose.0 c.requires.whose.1 c.requires.owners is c.numbers_of-valid.ensures.mtime in_state
     (c.into_sealed-state.ensures.book ∙ c.requires.whose.2) table_is in
-    let next = goes_on_sealed geometry image book table number self.states.items self.free.items self.logs.items c.requires.before r here c.in-None.ensures (ap (λ (s : Segment). s.state) is) in
-    subst (λ xs. AreSegmentsFrom geometry image book table number xs self.free.items self.logs.items) (sym c.push_reserved-else-valid-eq0.ensures.items) next
+    let next = goes_on_sealed geometry image c.args.books.now.book table c.args.number self.states.items self.free.items self.logs.items c.requires.before r here c.in-None.ensures (ap (λ (s : Segment). s.state) is) in
+    subst (λ xs. AreSegmentsFrom geometry image c.args.books.now.book table c.args.number xs self.free.items self.logs.items) (sym c.push_reserved-else-valid-eq0.ensures.items) next
