@@ -2,7 +2,7 @@
 use Rattle.std.proofs.Common.{◌≡◌, ℕ, zero, suc, ◌+◌, ◌<◌, ◌≤◌, ◌==◌, Bool, true, false, List, [], ◌∷◌, if◌then◌else◌, refl, ◌∙◌, arith, eq-eqb, ne_eqb, Option}
 use Rattle.sums.specs.Weights.{weigh}
 use Rattle.sums.proofs.Weighing.{weigh-same}
-use Rattle.claims.specs.Rules.{Follows}
+use Rattle.claims.specs.Rules.{together, Follows}
 use Rattle.geometry.specs.declared.owner.Mark.{Mark}
 use Rattle.books.specs.declared.claim.Entry.{Entry}
 use Rattle.books.specs.declared.claim.Content.{Content}
@@ -105,36 +105,63 @@ but_shard_le k h (Shard j es) = unless_le k j (h (ShardCopy j es))
 but_shard_le k h (Pass i f) = omega arith
 but_shard_le k h (Census cs) = omega arith
 
+-- Claims that hold nothing and show nothing: a census, and hands with nothing in them.
+record AreEmpty (l : Layout) (cs : List Claim) : Type 0 where
+  marks : (h : Mark → ℕ) → weigh (marks_in h) cs ≡ 0
+  tickets : (h : Mark → ℕ) → weigh (tickets_in h) cs ≡ 0
+  taken : (h : Entry → ℕ) → weigh (taken_in h) cs ≡ 0
+  tokens : (h : Entry → ℕ) → weigh (tokens_in h) cs ≡ 0
+  passes : (h : ℕ → Content → ℕ) → weigh (pass_in h) cs ≡ 0
+  shown_none : (h : ℕ → Content → ℕ) → weigh (shown_in h) cs ≡ 0
+  segments : (h : ℕ → ℕ) → weigh (segment_in h) cs ≡ 0
+  files : (h : ℕ → ℕ) → weigh (file_in h) cs ≡ 0
+  shards : (h : ℕ → ℕ) → weigh (shard_in h) cs ≡ 0
+  strays : weigh (stray_in l.blocks) cs ≡ 0
+
 module _ (l : Layout) where
+  hands_empty : AreEmpty l (empty_hands 64)
+  hands_empty = record {
+    marks = λ h. hands_none (marks_in h) refl 64;
+    tickets = λ h. hands_none (tickets_in h) refl 64;
+    taken = λ h. hands_none (taken_in h) refl 64;
+    tokens = λ h. hands_none (tokens_in h) refl 64;
+    passes = λ h. hands_none (pass_in h) refl 64;
+    shown_none = λ h. hands_none (shown_in h) refl 64;
+    segments = λ h. hands_none (segment_in h) refl 64;
+    files = λ h. hands_none (file_in h) refl 64;
+    shards = λ h. hands_none (shard_in h) refl 64;
+    strays = hands_none (stray_in l.blocks) refl 64;
+  }
+
+  census_empty : (cs : List Copied) → AreEmpty l (Census cs ∷ [])
+  census_empty cs = record { marks = λ h. refl; tickets = λ h. refl; taken = λ h. refl; tokens = λ h. refl; passes = λ h. refl; shown_none = λ h. refl; segments = λ h. refl; files = λ h. refl; shards = λ h. refl; strays = refl }
+
+  -- the rule stays where claims that hold nothing come in the place of others that hold nothing, if it does for the hands and the copies
+  keeps_empty : {old new : List Claim} (rest : List Claim) → AreEmpty l old → AreEmpty l new → Lawful l (together old rest)
+      → weigh hand_in new ≡ weigh hand_in old → ((h : Copied → ℕ) → together new rest (copies_in h) ≤ together new rest (copied_in h)) → Lawful l (together new rest)
+  keeps_empty rest before after law same copies = record {
+    tickets = λ h. let p = law.tickets h in let a = before.marks h in let b = before.tickets h in let d = after.marks h in let e = after.tickets h in omega arith;
+    tokens = λ h. let p = law.tokens h in let a = before.taken h in let b = before.tokens h in let d = after.taken h in let e = after.tokens h in omega arith;
+    passes = λ h. let p = law.passes h in let a = before.passes h in let b = before.shown_none h in let d = after.passes h in let e = after.shown_none h in omega arith;
+    segments = λ h. let p = law.segments h in let a = before.segments h in let b = after.segments h in omega arith;
+    files = λ h. let p = law.files h in let a = before.files h in let b = after.files h in omega arith;
+    shards = λ h. let p = law.shards h in let a = before.shards h in let b = after.shards h in omega arith;
+    hands = let p = law.hands in omega arith;
+    copies = copies;
+    home = let p = law.home in let a = before.strays in let b = after.strays in omega arith;
+  }
+
   pub gathers : Follows (Lawful l) (empty_hands 64) (Census [] ∷ []) (Unit {0})
   gathers rest law = (
-    record {
-      tickets = λ h. let p = law.tickets h in let a = hands_none (marks_in h) refl 64 in let b = hands_none (tickets_in h) refl 64 in omega arith;
-      tokens = λ h. let p = law.tokens h in let a = hands_none (taken_in h) refl 64 in let b = hands_none (tokens_in h) refl 64 in omega arith;
-      passes = λ h. let p = law.passes h in let a = hands_none (pass_in h) refl 64 in let b = hands_none (shown_in h) refl 64 in omega arith;
-      segments = λ h. let p = law.segments h in let a = hands_none (segment_in h) refl 64 in omega arith;
-      files = λ h. let p = law.files h in let a = hands_none (file_in h) refl 64 in omega arith;
-      shards = λ h. let p = law.shards h in let a = hands_none (shard_in h) refl 64 in omega arith;
-      hands = let p = law.hands in let a = hands_count 64 in omega arith;
-      copies = λ h. let p = law.hands in let a = hands_count 64 in let q = no_census h rest (omega arith) in omega arith;
-      home = let p = law.home in let a = hands_none (stray_in l.blocks) refl 64 in omega arith;
-    },
+    keeps_empty rest hands_empty (census_empty []) law (let a = hands_count 64 in omega arith)
+        (λ h. let p = law.hands in let a = hands_count 64 in let q = no_census h rest (omega arith) in omega arith),
     tt,
   )
 
   pub scatters : (cs : List Copied) → Follows (Lawful l) (Census cs ∷ []) (empty_hands 64) (Unit {0})
   scatters cs rest law = (
-    record {
-      tickets = λ h. let p = law.tickets h in let a = hands_none (marks_in h) refl 64 in let b = hands_none (tickets_in h) refl 64 in omega arith;
-      tokens = λ h. let p = law.tokens h in let a = hands_none (taken_in h) refl 64 in let b = hands_none (tokens_in h) refl 64 in omega arith;
-      passes = λ h. let p = law.passes h in let a = hands_none (pass_in h) refl 64 in let b = hands_none (shown_in h) refl 64 in omega arith;
-      segments = λ h. let p = law.segments h in let a = hands_none (segment_in h) refl 64 in omega arith;
-      files = λ h. let p = law.files h in let a = hands_none (file_in h) refl 64 in omega arith;
-      shards = λ h. let p = law.shards h in let a = hands_none (shard_in h) refl 64 in omega arith;
-      hands = let p = law.hands in let a = hands_count 64 in omega arith;
-      copies = λ h. let p = law.hands in let a = hands_none (copies_in h) refl 64 in let q = no_census h rest (omega arith) in omega arith;
-      home = let p = law.home in let a = hands_none (stray_in l.blocks) refl 64 in omega arith;
-    },
+    keeps_empty rest (census_empty cs) hands_empty law (let a = hands_count 64 in omega arith)
+        (λ h. let p = law.hands in let a = hands_none (copies_in h) refl 64 in let q = no_census h rest (omega arith) in omega arith),
     tt,
   )
 

@@ -2,6 +2,7 @@
 use Rattle.std.proofs.Common.{◌≡◌, ℕ, zero, suc, ◌+◌, ◌-◌, ◌<◌, ◌≤◌, ◌⊎◌, List, [], ◌∷◌, ◌++◌, length, slice_get, Some, drop, refl, sym, ap, ◌∙◌, arith, inl, inr, ⊎_elim, append-nil}
 use Rattle.books.specs.declared.claim.Claim.{Claim}
 use Rattle.books.specs.Rules.{each_from}
+use Rattle.books.specs.Accounts.{first_of, number_of}
 
 some_same : {A : Type 0} (x y : A) → Some x ≡ Some y → x ≡ y
 some_same x y e = cc
@@ -18,6 +19,18 @@ each_next f s n i lt =
     let a : n - i ≡ suc (n - (i + 1)) = omega arith in
     let b : suc (i + s) ≡ i + 1 + s = omega arith in
     ap (λ (k : ℕ). each_from (i + s) k f) a ∙ ap (λ (k : ℕ). f (i + s) ∷ each_from k (n - (i + 1)) f) b
+
+-- what a dealer has before it gives the next claim
+pub next_dealt : (f : ℕ → Claim) (s n i : ℕ) (cs rest : List Claim) → cs ≡ each_from (i + s) (n - i) f ++ rest → i < n
+    → cs ≡ f (i + s) ∷ (each_from (i + 1 + s) (n - (i + 1)) f ++ rest)
+next_dealt f s n i cs rest is low = is ∙ ap (λ (ds : List Claim). ds ++ rest) (each_next f s n i low)
+
+-- the next claim is of the number that it says
+pub next_numbered : (f : ℕ → Claim) → ((k : ℕ) → number_of (f k) ≡ k) → (s n i : ℕ) (cs rest : List Claim) → cs ≡ each_from (i + s) (n - i) f ++ rest → i < n
+    → cs ≡ f (number_of (first_of cs)) ∷ drop 1 cs
+next_numbered f numbered s n i cs rest is low =
+    let e = next_dealt f s n i cs rest is low in
+    e ∙ sym (ap (λ (ds : List Claim). f (number_of (first_of ds)) ∷ drop 1 ds) e ∙ ap (λ (k : ℕ). f k ∷ (each_from (i + 1 + s) (n - (i + 1)) f ++ rest)) (numbered (i + s)))
 
 pub each_done : (f : ℕ → Claim) (s n i : ℕ) → n ≤ i → each_from (i + s) (n - i) f ≡ []
 each_done f s n i le = let a : n - i ≡ 0 = omega arith in ap (λ (k : ℕ). each_from (i + s) k f) a

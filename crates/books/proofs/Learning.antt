@@ -1,5 +1,6 @@
 -- For the loops in which an audit learns what each account of a list has.
-use Rattle.std.proofs.Common.{◌≡◌, ℕ, ◌+◌, ◌<◌, Bool, true, false, List, [], ◌∷◌, ◌++◌, take, get_or, length, nat_lt, if◌then◌else◌, refl, ap, ◌∙◌, arith, add-one, take-suc, ltb-true, lt-ltb}
+use Rattle.std.proofs.Common.{◌≡◌, ℕ, ◌+◌, ◌<◌, Bool, true, false, List, [], ◌∷◌, ◌++◌, take, get_or, slice_get, Some, length, nat_lt, if◌then◌else◌, refl, ap, ◌∙◌, arith, add-one, take-suc, ltb-true, lt-ltb}
+use Rattle.std.proofs.lemmas.Option.{slice_get_read}
 use Rattle.sums.specs.Weights.{weigh}
 use Rattle.sums.proofs.Weighing.{weigh-append}
 use Rattle.books.specs.declared.claim.Copied.{Copied}
@@ -12,6 +13,11 @@ weigh_take_more f xs i x within is =
     let a : weigh f (take (i + 1) xs) ≡ weigh f (take i xs ++ get_or xs i x ∷ []) = ap (λ (k : ℕ). weigh f (take k xs)) (add-one i) ∙ ap (weigh f) (take-suc xs i x within) in
     let b = weigh-append f (take i xs) (get_or xs i x ∷ []) in
     let c = ap f is in omega arith
+
+-- what was borrowed of a list that is as before is the item at that place
+pub borrowed_at : {A : Type 0} (xs ys : List A) (i : ℕ) (x : A) → ys ≡ xs → x ≡ get_or ys i x → i < length xs → (x ≡ get_or xs i x) × (slice_get xs i ≡ Some x)
+borrowed_at xs ys i x same value within =
+    let is : x ≡ get_or xs i x = value ∙ ap (λ (l : List _). get_or l i x) same in (is, slice_get_read xs (length xs) i x refl within is)
 
 pub past_here : (n j : ℕ) → j ≡ n → past (n + 1) j ≡ 0
 past_here n j e = rw (lt-ltb j (n + 1) (omega arith)) refl

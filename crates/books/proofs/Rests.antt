@@ -192,36 +192,23 @@ taken_of_copied h (Shard k es) = refl
 taken_of_copied h (Pass i f) = refl
 taken_of_copied h (Census cs) = refl
 
-abbrev in_hand : (Mark → ℕ) → Claim → ℕ
+-- what a hand has, by a weight of its tickets and its tokens
+abbrev in_hand : (List Mark → List Entry → ℕ) → Claim → ℕ
 in_hand h (Segment s ms) = 0
-in_hand h (Hand ts ks) = weigh h ts
+in_hand h (Hand ts ks) = h ts ks
 in_hand h (File i ts ks f) = 0
 in_hand h (Shard k es) = 0
 in_hand h (Pass i f) = 0
 in_hand h (Census cs) = 0
 
-abbrev token_in_hand : (Entry → ℕ) → Claim → ℕ
-token_in_hand h (Segment s ms) = 0
-token_in_hand h (Hand ts ks) = weigh h ks
-token_in_hand h (File i ts ks f) = 0
-token_in_hand h (Shard k es) = 0
-token_in_hand h (Pass i f) = 0
-token_in_hand h (Census cs) = 0
-
-pub tickets_of_copied : (h : Mark → ℕ) (rest : List Claim) → weigh hand_in rest ≡ 0 → weigh (tickets_in h) rest ≡ weigh (copied_in (tickets_copied h)) rest
-tickets_of_copied h rest none =
-    let a = weigh-same (tickets_in h) (λ c. copied_in (tickets_copied h) c + in_hand h c) rest each in
-    let b = weigh_plus (copied_in (tickets_copied h)) (in_hand h) rest in
+-- with no hand out, a weight that the accounts and the hands have is the accounts' alone
+of_copied : (f : Claim → ℕ) (g : Copied → ℕ) (h : List Mark → List Entry → ℕ) → ((c : Claim) → f c ≡ copied_in g c + in_hand h c)
+    → (rest : List Claim) → weigh hand_in rest ≡ 0 → weigh f rest ≡ weigh (copied_in g) rest
+of_copied f g h each rest none =
+    let a = weigh-same f (λ c. copied_in g c + in_hand h c) rest each in
+    let b = weigh_plus (copied_in g) (in_hand h) rest in
     let c = weigh_none hand_in (in_hand h) empty rest none in omega arith
   where
-    each : (c : Claim) → tickets_in h c ≡ copied_in (tickets_copied h) c + in_hand h c
-    each (Segment s ms) = refl
-    each (Hand ts ks) = omega arith
-    each (File i ts ks f) = omega arith
-    each (Shard k es) = omega arith
-    each (Pass i f) = refl
-    each (Census cs) = refl
-
     empty : (c : Claim) → hand_in c ≡ 0 → in_hand h c ≡ 0
     empty (Segment s ms) z = refl
     empty (Hand ts ks) z = one_not_zero z
@@ -230,24 +217,24 @@ tickets_of_copied h rest none =
     empty (Pass i f) z = refl
     empty (Census cs) z = refl
 
-pub tokens_of_copied : (h : Entry → ℕ) (rest : List Claim) → weigh hand_in rest ≡ 0 → weigh (tokens_in h) rest ≡ weigh (copied_in (tokens_copied h)) rest
-tokens_of_copied h rest none =
-    let a = weigh-same (tokens_in h) (λ c. copied_in (tokens_copied h) c + token_in_hand h c) rest each in
-    let b = weigh_plus (copied_in (tokens_copied h)) (token_in_hand h) rest in
-    let c = weigh_none hand_in (token_in_hand h) empty rest none in omega arith
+pub tickets_of_copied : (h : Mark → ℕ) (rest : List Claim) → weigh hand_in rest ≡ 0 → weigh (tickets_in h) rest ≡ weigh (copied_in (tickets_copied h)) rest
+tickets_of_copied h = of_copied (tickets_in h) (tickets_copied h) (λ ts ks. weigh h ts) each
   where
-    each : (c : Claim) → tokens_in h c ≡ copied_in (tokens_copied h) c + token_in_hand h c
+    each : (c : Claim) → tickets_in h c ≡ copied_in (tickets_copied h) c + in_hand (λ ts ks. weigh h ts) c
+    each (Segment s ms) = refl
+    each (Hand ts ks) = omega arith
+    each (File i ts ks f) = omega arith
+    each (Shard k es) = omega arith
+    each (Pass i f) = refl
+    each (Census cs) = refl
+
+pub tokens_of_copied : (h : Entry → ℕ) (rest : List Claim) → weigh hand_in rest ≡ 0 → weigh (tokens_in h) rest ≡ weigh (copied_in (tokens_copied h)) rest
+tokens_of_copied h = of_copied (tokens_in h) (tokens_copied h) (λ ts ks. weigh h ks) each
+  where
+    each : (c : Claim) → tokens_in h c ≡ copied_in (tokens_copied h) c + in_hand (λ ts ks. weigh h ks) c
     each (Segment s ms) = refl
     each (Hand ts ks) = omega arith
     each (File i ts ks f) = omega arith
     each (Shard k es) = refl
     each (Pass i f) = refl
     each (Census cs) = refl
-
-    empty : (c : Claim) → hand_in c ≡ 0 → token_in_hand h c ≡ 0
-    empty (Segment s ms) z = refl
-    empty (Hand ts ks) z = one_not_zero z
-    empty (File i ts ks f) z = refl
-    empty (Shard k es) z = refl
-    empty (Pass i f) z = refl
-    empty (Census cs) z = refl

@@ -42,7 +42,8 @@ entry_self e =
     (and_from (e.inode == e.inode) ((e.address == e.address) && bytes) (eq-eqb e.inode e.inode refl)
     (and_from (e.address == e.address) bytes (eq-eqb e.address e.address refl) (list_self (λ x y. x == y) (λ x. eq-eqb x x refl) e.bytes)))
 
-kind_eq : (k l : Kind) → (kind_number k == kind_number l) ≡ true → k ≡ l
+-- kinds of one number are one
+pub kind_eq : (k l : Kind) → (kind_number k == kind_number l) ≡ true → k ≡ l
 kind_eq File File e = refl
 kind_eq File Dir e = no e
 kind_eq File Media e = no e

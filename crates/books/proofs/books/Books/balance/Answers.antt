@@ -1,8 +1,9 @@
-use Rattle.std.proofs.Common.{◌≡◌, ℕ, ap, arith}
+use Rattle.std.proofs.Common.{◌≡◌, ℕ, ◌+◌, ap, arith}
 use Rattle.sums.specs.Weights.{weigh}
 use Rattle.books.specs.Weights.{segment_copy, file_copy, shard_copy, marks_copied, tickets_copied, taken_copied, tokens_copied}
 use Rattle.books.specs.Accounts.{CensusView}
 use Rattle.books.specs.declared.claim.Copied.{Copied}
+use Rattle.books.specs.declared.claim.Copied.TheVariants.{SegmentCopy, FileCopy, ShardCopy}
 use Rattle.books.proofs.Learning.{weigh_nothing, weigh_ones}
 use Rattle.books.proofs.books.Books.balance.Goals as goal
 
@@ -61,42 +62,35 @@ settle-requires-clause-complete c =
           let e = empty (shard_copy (λ n. 1)) in omega arith;
     }
 
+-- where the audit knows the same of two weights in the end, the segments, the files and the shards together have the same of them
+same_of : (c : goal.After-end_audit) (h k : Copied → ℕ) → weigh h c.learn_shards.new.audit.copies ≡ weigh k c.learn_shards.new.audit.copies
+    → weigh (λ v. h (SegmentCopy v.segment v.marks)) c.args.segments.now.items
+    + (weigh (λ v. h (FileCopy v.inode v.tickets v.tokens)) c.args.files.now.items + weigh (λ v. h (ShardCopy v.shard v.taken)) c.args.shards.now.items)
+    ≡ weigh (λ v. k (SegmentCopy v.segment v.marks)) c.args.segments.now.items
+    + (weigh (λ v. k (FileCopy v.inode v.tickets v.tokens)) c.args.files.now.items + weigh (λ v. k (ShardCopy v.shard v.taken)) c.args.shards.now.items)
+same_of c h k same =
+    let empty : (f : Copied → ℕ) → weigh f c.audit-audit.result.copies ≡ 0 = λ f. ap (λ (v : CensusView). weigh f v.copies) c.audit-audit.ensures in
+    let a = c.learn_segments.ensures.copies h in
+    let b = c.learn_files.ensures.copies h in
+    let d = c.learn_shards.ensures.copies h in
+    let e = empty h in
+    let a' = c.learn_segments.ensures.copies k in
+    let b' = c.learn_files.ensures.copies k in
+    let d' = c.learn_shards.ensures.copies k in
+    let e' = empty k in omega arith
+
 pub returns-clause-tickets : goal.returns-clause-tickets
 returns-clause-tickets c =
-    let segments = c.args.segments.now.items in
-    let files = c.args.files.now.items in
-    let shards = c.args.shards.now.items in
-    let empty : (h : Copied → ℕ) → weigh h c.audit-audit.result.copies ≡ 0 = λ h. ap (λ (v : CensusView). weigh h v.copies) c.audit-audit.ensures in
     λ h.
-    let s = weigh_nothing segments in
-    let f = weigh_nothing files in
-    let k = weigh_nothing shards in
-    let p = c.settle.ensures.balanced.tickets h in
-    let a = c.learn_segments.ensures.copies (marks_copied h) in
-    let b = c.learn_files.ensures.copies (marks_copied h) in
-    let d = c.learn_shards.ensures.copies (marks_copied h) in
-    let e = empty (marks_copied h) in
-    let a' = c.learn_segments.ensures.copies (tickets_copied h) in
-    let b' = c.learn_files.ensures.copies (tickets_copied h) in
-    let d' = c.learn_shards.ensures.copies (tickets_copied h) in
-    let e' = empty (tickets_copied h) in omega arith
+    let s = weigh_nothing c.args.segments.now.items in
+    let f = weigh_nothing c.args.files.now.items in
+    let k = weigh_nothing c.args.shards.now.items in
+    let same = same_of c (marks_copied h) (tickets_copied h) (c.settle.ensures.balanced.tickets h) in omega arith
 
 pub returns-clause-tokens : goal.returns-clause-tokens
 returns-clause-tokens c =
-    let segments = c.args.segments.now.items in
-    let files = c.args.files.now.items in
-    let shards = c.args.shards.now.items in
-    let empty : (h : Copied → ℕ) → weigh h c.audit-audit.result.copies ≡ 0 = λ h. ap (λ (v : CensusView). weigh h v.copies) c.audit-audit.ensures in
     λ h.
-    let s = weigh_nothing segments in
-    let f = weigh_nothing files in
-    let k = weigh_nothing shards in
-    let p = c.settle.ensures.balanced.tokens h in
-    let a = c.learn_segments.ensures.copies (taken_copied h) in
-    let b = c.learn_files.ensures.copies (taken_copied h) in
-    let d = c.learn_shards.ensures.copies (taken_copied h) in
-    let e = empty (taken_copied h) in
-    let a' = c.learn_segments.ensures.copies (tokens_copied h) in
-    let b' = c.learn_files.ensures.copies (tokens_copied h) in
-    let d' = c.learn_shards.ensures.copies (tokens_copied h) in
-    let e' = empty (tokens_copied h) in omega arith
+    let s = weigh_nothing c.args.segments.now.items in
+    let f = weigh_nothing c.args.files.now.items in
+    let k = weigh_nothing c.args.shards.now.items in
+    let same = same_of c (taken_copied h) (tokens_copied h) (c.settle.ensures.balanced.tokens h) in omega arith

@@ -1,10 +1,10 @@
-use Rattle.std.proofs.Common.{◌≡◌, ℕ, ◌+◌, ◌-◌, List, [], ◌∷◌, ◌++◌, length, slice_get, drop, Some, None, sym, ap, ◌∙◌, subst, arith, ⊎_elim, length-append}
+use Rattle.std.proofs.Common.{◌≡◌, ℕ, ◌+◌, List, [], ◌∷◌, ◌++◌, length, slice_get, drop, Some, None, refl, sym, ap, ◌∙◌, subst, arith, ⊎_elim, length-append}
 use Rattle.books.specs.declared.claim.Claim.{Claim}
 use Rattle.books.specs.declared.claim.Claim.TheVariants.{File}
 use Rattle.books.specs.Rules.{each_from}
 use Rattle.books.specs.Accounts.{FileView, first_of, number_of}
 use Rattle.claims.specs.Rules.{Held}
-use Rattle.books.proofs.Dealing.{slice_get_push, each_next, each_begins}
+use Rattle.books.proofs.Dealing.{slice_get_push, next_dealt, next_numbered, each_begins}
 use Rattle.books.proofs.books.Books.deal_files.Goals as goal
 
 pub loop-init : goal.loop-init
@@ -23,20 +23,12 @@ loop-init c =
 
 pub deal_file-file-requires-clause-first : goal.deal_file-file-requires-clause-first
 deal_file-file-requires-clause-first c =
-    let f : ℕ → Claim = λ n. File n [] [] None in
-    let i = c.loop.counter in
-    let more = each_from (i + 1 + 1) (c.args.count - (i + 1)) f ++ drop c.args.count (c.dealer.inside.holder).claims in
-    let e : c.loop.dealer.claims ≡ f (i + 1) ∷ more =
-    c.loop.invariant.claims ∙ ap (λ (cs : List Claim). cs ++ drop c.args.count (c.dealer.inside.holder).claims) (each_next f 1 c.args.count i c.loop-test.true) in
-    e ∙ sym (ap (λ (cs : List Claim). f (number_of (first_of cs)) ∷ drop 1 cs) e)
+    next_numbered (λ n. File n [] [] None) (λ k. refl) 1 c.args.count c.loop.counter c.loop.dealer.claims (drop c.args.count (c.dealer.inside.holder).claims) c.loop.invariant.claims c.loop-test.true
 
 pub loop-preserved : goal.loop-preserved
 loop-preserved c =
-    let f : ℕ → Claim = λ n. File n [] [] None in
     let i = c.loop.counter in
-    let more = each_from (i + 1 + 1) (c.args.count - (i + 1)) f ++ drop c.args.count (c.dealer.inside.holder).claims in
-    let e : c.loop.dealer.claims ≡ f (i + 1) ∷ more =
-    c.loop.invariant.claims ∙ ap (λ (cs : List Claim). cs ++ drop c.args.count (c.dealer.inside.holder).claims) (each_next f 1 c.args.count i c.loop-test.true) in
+    let e = next_dealt (λ n. File n [] [] None) 1 c.args.count i c.loop.dealer.claims (drop c.args.count (c.dealer.inside.holder).claims) c.loop.invariant.claims c.loop-test.true in
     let given = c.deal_file-file.ensures in
     let x = c.deal_file-file.result.0 in
     let items = c.loop.files.items in

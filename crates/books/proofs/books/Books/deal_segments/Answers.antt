@@ -1,10 +1,10 @@
-use Rattle.std.proofs.Common.{◌≡◌, ℕ, ◌+◌, ◌-◌, List, [], ◌∷◌, ◌++◌, length, slice_get, drop, Some, sym, ap, ◌∙◌, subst, arith, ⊎_elim, length-append}
+use Rattle.std.proofs.Common.{◌≡◌, ℕ, ◌+◌, List, [], ◌∷◌, ◌++◌, length, slice_get, drop, Some, refl, sym, ap, ◌∙◌, subst, arith, ⊎_elim, length-append}
 use Rattle.books.specs.declared.claim.Claim.{Claim}
 use Rattle.books.specs.declared.claim.Claim.TheVariants.{Segment}
 use Rattle.books.specs.Rules.{each_from}
 use Rattle.books.specs.Accounts.{SegmentView, first_of, number_of}
 use Rattle.claims.specs.Rules.{Held}
-use Rattle.books.proofs.Dealing.{slice_get_push, each_next, each_begins}
+use Rattle.books.proofs.Dealing.{slice_get_push, next_dealt, next_numbered, each_begins}
 use Rattle.books.proofs.books.Books.deal_segments.Goals as goal
 
 pub loop-init : goal.loop-init
@@ -23,20 +23,12 @@ loop-init c =
 
 pub deal_segment-segment-requires-clause-first : goal.deal_segment-segment-requires-clause-first
 deal_segment-segment-requires-clause-first c =
-    let f : ℕ → Claim = λ n. Segment n [] in
-    let i = c.loop.counter in
-    let more = each_from (i + 1 + 0) (c.args.count - (i + 1)) f ++ drop c.args.count (c.dealer.inside.holder).claims in
-    let e : c.loop.dealer.claims ≡ f (i + 0) ∷ more =
-    c.loop.invariant.claims ∙ ap (λ (cs : List Claim). cs ++ drop c.args.count (c.dealer.inside.holder).claims) (each_next f 0 c.args.count i c.loop-test.true) in
-    e ∙ sym (ap (λ (cs : List Claim). f (number_of (first_of cs)) ∷ drop 1 cs) e)
+    next_numbered (λ n. Segment n []) (λ k. refl) 0 c.args.count c.loop.counter c.loop.dealer.claims (drop c.args.count (c.dealer.inside.holder).claims) c.loop.invariant.claims c.loop-test.true
 
 pub loop-preserved : goal.loop-preserved
 loop-preserved c =
-    let f : ℕ → Claim = λ n. Segment n [] in
     let i = c.loop.counter in
-    let more = each_from (i + 1 + 0) (c.args.count - (i + 1)) f ++ drop c.args.count (c.dealer.inside.holder).claims in
-    let e : c.loop.dealer.claims ≡ f (i + 0) ∷ more =
-    c.loop.invariant.claims ∙ ap (λ (cs : List Claim). cs ++ drop c.args.count (c.dealer.inside.holder).claims) (each_next f 0 c.args.count i c.loop-test.true) in
+    let e = next_dealt (λ n. Segment n []) 0 c.args.count i c.loop.dealer.claims (drop c.args.count (c.dealer.inside.holder).claims) c.loop.invariant.claims c.loop-test.true in
     let given = c.deal_segment-segment.ensures in
     let x = c.deal_segment-segment.result.0 in
     let items = c.loop.segments.items in

@@ -1,11 +1,10 @@
-use Rattle.std.proofs.Common.{rules, ◌≡◌, ℕ, ◌+◌, ◌<◌, List, ◌∷◌, slice_set, get_or, length, refl, sym, ap, ◌∙◌, subst, arith}
-use Rattle.std.proofs.lemmas.Option.{slice_get_read}
+use Rattle.std.proofs.Common.{rules, ◌≡◌, ℕ, ◌+◌, ◌<◌, ◌∷◌, slice_set, length, refl, sym, ap, ◌∙◌, subst, arith}
 use Rattle.std.proofs.lemmas.List.{set-get_or}
 use Rattle.sums.specs.Weights.{weigh}
 use Rattle.books.specs.Weights.{file_copy, past}
 use Rattle.books.specs.Accounts.{FileView, CensusView}
 use Rattle.books.specs.declared.claim.Copied.TheVariants.{FileCopy}
-use Rattle.books.proofs.Learning.{weigh_take_more, past_here, files_next, no_files}
+use Rattle.books.proofs.Learning.{borrowed_at, weigh_take_more, past_here, files_next, no_files}
 use Rattle.books.proofs.books.Books.learn_files.Goals as goal
 
 pub loop-i-init : goal.loop-i-init
@@ -18,12 +17,9 @@ loop-i-init c = record {
 
 pub learn_file-requires-clause-ascending : goal.learn_file-requires-clause-ascending
 learn_file-requires-clause-ascending c =
-    let i = c.loop-i.i in
     let x = c.index_mut.result.now in
-    let xs = c.args.files.now.items in
-    let value : x ≡ get_or xs i x = c.index_mut.ensures.value ∙ ap (λ (l : List FileView). get_or l i x) c.loop-i.invariant.same in
-    let within : i < length xs = search rules in
-    let numbered = c.requires.files i x (slice_get_read xs (length xs) i x refl within value) in
+    let here = borrowed_at c.args.files.now.items c.loop-i.files.items c.loop-i.i x c.loop-i.invariant.same c.index_mut.ensures.value (search rules) in
+    let numbered = c.requires.files c.loop-i.i x here.1 in
     subst (λ (n : ℕ). weigh (file_copy (past n)) c.loop-i.audit.copies ≡ 0) (sym numbered.0) c.loop-i.invariant.fresh
 
 pub loop-i-preserved : goal.loop-i-preserved
@@ -31,9 +27,9 @@ loop-i-preserved c =
     let i = c.loop-i.i in
     let x = c.index_mut.result.now in
     let xs = c.args.files.now.items in
-    let value : x ≡ get_or xs i x = c.index_mut.ensures.value ∙ ap (λ (l : List FileView). get_or l i x) c.loop-i.invariant.same in
     let within : i < length xs = search rules in
-    let numbered = c.requires.files i x (slice_get_read xs (length xs) i x refl within value) in
+    let here = borrowed_at xs c.loop-i.files.items i x c.loop-i.invariant.same c.index_mut.ensures.value within in
+    let numbered = c.requires.files i x here.1 in
     let copies : c.learn_file.new.audit.copies ≡ FileCopy x.inode x.tickets x.tokens ∷ c.loop-i.audit.copies = ap (λ (v : CensusView). v.copies) c.learn_file.ensures.audit in
     record {
       book = ap (λ (v : CensusView). v.book) c.learn_file.ensures.audit ∙ c.loop-i.invariant.book;
@@ -47,6 +43,6 @@ loop-i-preserved c =
       copies =
           λ h.
           let a = c.loop-i.invariant.copies h in
-          let b = weigh_take_more (λ v. h (FileCopy v.inode v.tickets v.tokens)) xs i x within value in
+          let b = weigh_take_more (λ v. h (FileCopy v.inode v.tickets v.tokens)) xs i x within here.0 in
           let d = ap (weigh h) copies in omega arith;
     }
