@@ -6,7 +6,7 @@ use Rattle.std.specs.Int.RustNames.{bit_or}
 use lib.Bits.{bit_and}
 use mathlib.Core.Logic.{dite}
 use native.Mathlib.Decide.{ℕ_discrete}
-use Rattle.std.proofs.lemmas.List.{get_or-set_same, get_or-set_other, get_or_past, length-set, same_lists, length-replicate}
+use Rattle.std.proofs.lemmas.List.{get_or_read_under, get_or-set_same, get_or-set_other, get_or_past, length-set, same_lists, length-replicate}
 use Rattle.std.proofs.lemmas.Bool.{cases_lt}
 use Rattle.std.proofs.lemmas.List.FromFn.{length-map-range_with_len, get_or-map-range_with_len}
 use Rattle.std.proofs.lemmas.Nat.Bits.{bit_at-zero, bit_at_set_same, bit_at_set_other, bit_at_clear_same, bit_at_clear_other, bit_at-trailing_zeros, bit_at_above}
@@ -175,3 +175,15 @@ inside_of words len offset bits is enough asked =
     let long = length-bits_of words len in
     let seen : length (bits_of words len) ≡ length bits = ap (λ (bs : List Bool). length bs) is in
     record { inside = omega arith; within = omega arith; word = omega arith }
+
+-- one bit of the list is turned: its word was read, and is written with that bit turned
+pub turned : (words : List ℕ) (len o seen : ℕ) (bits : List Bool) → bits_of words len ≡ bits → IsBits words len → o < length bits → seen ≡ get_or words (o / 64) seen
+    → (b new : ℕ) → (o % 64 < 64 → TurnsBit seen (o % 64) b new)
+    → IsBits (set words (o / 64) new) len × (bits_of (set words (o / 64) new) len ≡ set bits o (b == 1))
+turned words len o seen bits view is asked read b new turns =
+    let here = inside_of words len o bits view is.enough asked in
+    let word = get_or_read_under words (o / 64) (length words) seen 0 read here.word refl in
+    let by = turns (omega arith) in (
+      turned-IsBits words o b seen new here.within word by len here.inside is,
+      bits_of-turned words o b seen new here.within word by len here.inside ∙ ap (λ (bs : List Bool). set bs o (b == 1)) view,
+    )

@@ -1,7 +1,7 @@
 -- Lists of which one item is set.
-use Rattle.std.proofs.Common.{◌≡◌, ℕ, zero, suc, ◌+◌, ◌<◌, ◌≤◌, List, [], ◌∷◌, ◌++◌, Option, Some, None, true, map, length, get_or, set, replicate, refl, sym, ap, ◌∙◌, subst, arith}
+use Rattle.std.proofs.Common.{◌≡◌, ℕ, zero, suc, ◌+◌, ◌<◌, ◌≤◌, List, [], ◌∷◌, ◌++◌, Option, Some, None, Bool, true, map, length, get_or, set, replicate, refl, sym, ap, ◌∙◌, subst, arith}
 use Rattle.std.specs.Prelude.{is_some, unwrap_or}
-use Rattle.std.proofs.lemmas.List.{get_or-set_same, get_or-set_other}
+use Rattle.std.proofs.lemmas.List.{length-map, get_or-set_same, get_or-set_other}
 use mathlib.Core.Logic.{dite}
 use native.Mathlib.Decide.{ℕ_discrete}
 use Rattle.sums.proofs.Weighing.{weigh-set}
@@ -20,6 +20,15 @@ module _ {A : Type 0} where
   each-set P xs i x within each here o a e = dite (ℕ_discrete o i)
       (λ h. subst (λ z. P z a) (sym h) (here a (sym (get_or-set_same xs i x None within) ∙ (ap (λ z. get_or (set xs i x) z None) (sym h) ∙ e))))
       (λ h. each o a (sym (get_or-set_other xs i o x None h) ∙ e))
+
+-- what holds of each item stays so where one goes
+pub each-without : {A : Type 0} (P : ℕ → A → Type 0) (xs : List (Option A)) (i : ℕ) (x : Option A) → x ≡ None → i < length xs
+    → ((o : ℕ) (a : A) → get_or xs o None ≡ Some a → P o a) → (o : ℕ) (a : A) → get_or (set xs i x) o None ≡ Some a → P o a
+each-without P xs i x none within each = each-set P xs i x within each (λ a e. absurd (let no : Some a ≡ None = sym e ∙ none in cc))
+
+-- a place of a list is one of the list that tells which of its items are there
+pub within_present : {A : Type 0} (xs : List (Option A)) (present : List Bool) (i : ℕ) → map is_some xs ≡ present → i < length present → i < length xs
+within_present xs present i is within = let l = ap (λ (bs : List Bool). length bs) is in let m = length-map xs is_some in omega arith
 
 pub count-set : (ss : List (Option Owner)) (i : ℕ) (w : Owner) → i < length ss → get_or ss i None ≡ None → count_of (set ss i (Some w)) ≡ count_of ss + 1
 count-set ss i w within clear = let e = weigh-set one ss i (Some w) None within in let z = ap one clear in omega arith

@@ -1,7 +1,7 @@
-use Rattle.std.proofs.Common.{◌≡◌, ◌+◌, ◌<◌, [], Some, None, length, get_or, set, false, arith, ap, sym, ◌∙◌}
-use Rattle.std.proofs.lemmas.List.{length-map, length-set, get_or-map, get_or-set_same}
+use Rattle.std.proofs.Common.{◌≡◌, ◌+◌, [], Some, None, length, get_or, set, false, arith, ap, sym, ◌∙◌}
+use Rattle.std.proofs.lemmas.List.{length-set, get_or-map, get_or-set_same}
 use Rattle.std.specs.Prelude.{is_some}
-use Rattle.sit.proofs.Lists.{each-set, some-injective}
+use Rattle.sit.proofs.Lists.{each-set, within_present, some-injective}
 use Rattle.sit.specs.Home.{content_at, failures_of}
 use Rattle.sit.proofs.Homes.{home-set, failures-set, failed-away}
 use Rattle.sit.proofs.blocks.Blocks.put.Goals as goal
@@ -10,7 +10,7 @@ pub invariant_of-self : goal.invariant_of-self
 invariant_of-self g c =
     let s = c.self.inside in
     let xs = s.blocks.items in
-    let within : c.args.offset < length xs = let l = ap (λ h. length h.present) c.self.view_is in let m = length-map xs is_some in let r = c.requires.within in omega arith in
+    let within = within_present xs _ c.args.offset (ap (λ h. h.present) c.self.view_is) c.requires.within in
     record {
       addresses = each-set (λ o b. g.B.Block.address_of b ≡ s.first + o) xs c.args.offset (Some c.args.block) within c.self.invariant.addresses
           (λ b e. ap g.B.Block.address_of (sym (some-injective c.args.block b e)) ∙ (c.requires.address ∙ ap (λ h. h.first + c.args.offset) (sym c.self.view_is)));
@@ -28,7 +28,7 @@ pub returns-clause-failures : goal.returns-clause-failures
 returns-clause-failures g c away =
     let s = c.self.inside in
     let xs = s.blocks.items in
-    let within : c.args.offset < length xs = let l = ap (λ h. length h.present) c.self.view_is in let m = length-map xs is_some in let r = c.requires.within in omega arith in
+    let within = within_present xs _ c.args.offset (ap (λ h. h.present) c.self.view_is) c.requires.within in
     let none = failed-away g.B.Block.failed xs c.args.offset within (ap (λ h. get_or h.present c.args.offset false) c.self.view_is ∙ away) in
     let change = failures-set g.B.Block.failed xs c.args.offset (Some c.args.block) within in
     let before : failures_of g.B.Block.failed xs ≡ c.args.self.now.failed = ap (λ h. h.failed) c.self.view_is in
@@ -38,6 +38,6 @@ pub returns-clause-content : goal.returns-clause-content
 returns-clause-content g c =
     let s = c.self.inside in
     let xs = s.blocks.items in
-    let within : c.args.offset < length xs = let l = ap (λ h. length h.present) c.self.view_is in let m = length-map xs is_some in let r = c.requires.within in omega arith in
+    let within = within_present xs _ c.args.offset (ap (λ h. h.present) c.self.view_is) c.requires.within in
     get_or-map (content_at g.B.Block.content_of) (set xs c.args.offset (Some c.args.block)) c.args.offset None [] (let long = length-set xs c.args.offset (Some c.args.block) in omega arith)
     ∙ ap (content_at g.B.Block.content_of) (get_or-set_same xs c.args.offset (Some c.args.block) None within)

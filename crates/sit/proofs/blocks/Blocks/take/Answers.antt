@@ -1,21 +1,18 @@
-use Rattle.std.proofs.Common.{◌≡◌, ◌+◌, ◌<◌, [], Some, None, length, get_or, set, arith, ap, sym, ◌∙◌}
-use Rattle.std.proofs.lemmas.List.{length-map, get_or-map}
+use Rattle.std.proofs.Common.{◌≡◌, ◌+◌, [], Some, None, length, get_or, set, arith, ap, sym, ◌∙◌}
+use Rattle.std.proofs.lemmas.List.{get_or-map}
 use Rattle.std.specs.Prelude.{is_some}
-use Rattle.sit.proofs.Lists.{each-set, get_or-default, some-ne-none}
+use Rattle.sit.proofs.Lists.{each-without, within_present, get_or-default}
 use Rattle.sit.specs.Home.{content_at, failed_at, failures_of}
 use Rattle.sit.proofs.Homes.{home-set, failures-set}
 use Rattle.sit.proofs.blocks.Blocks.take.Goals as goal
 
 pub invariant_of-self : goal.invariant_of-self
 invariant_of-self g c =
-    let s = c.self.inside in
-    let xs = s.blocks.items in
-    let within : c.args.offset < length xs = let l = ap (λ h. length h.present) c.self.view_is in let m = length-map xs is_some in let r = c.requires.within in omega arith in
+    let xs = c.self.inside.blocks.items in
+    let within = within_present xs _ c.args.offset (ap (λ h. h.present) c.self.view_is) c.requires.within in
     record {
-      addresses = each-set (λ o b. g.B.Block.address_of b ≡ s.first + o) xs c.args.offset c.take.new.self within c.self.invariant.addresses
-          (λ b e. absurd (some-ne-none b (sym e ∙ c.take.ensures.after)));
-      lengths = each-set (λ o b. length (g.B.Block.content_of b) ≡ s.block_bytes) xs c.args.offset c.take.new.self within c.self.invariant.lengths
-          (λ b e. absurd (some-ne-none b (sym e ∙ c.take.ensures.after)));
+      addresses = each-without (λ o b. g.B.Block.address_of b ≡ c.self.inside.first + o) xs c.args.offset c.take.new.self c.take.ensures.after within c.self.invariant.addresses;
+      lengths = each-without (λ o b. length (g.B.Block.content_of b) ≡ c.self.inside.block_bytes) xs c.args.offset c.take.new.self c.take.ensures.after within c.self.invariant.lengths;
     }
 
 pub returns-clause-home : goal.returns-clause-home
@@ -28,7 +25,7 @@ returns-clause-home g c =
 pub returns-clause-failures : goal.returns-clause-failures
 returns-clause-failures g c =
     let s = c.self.inside in
-    let within : c.args.offset < length s.blocks.items = let l = ap (λ h. length h.present) c.self.view_is in let m = length-map s.blocks.items is_some in let r = c.requires.within in omega arith in
+    let within = within_present s.blocks.items _ c.args.offset (ap (λ h. h.present) c.self.view_is) c.requires.within in
     let is : get_or s.blocks.items c.args.offset None ≡ Some c.in-Some.block = get_or-default s.blocks.items c.args.offset None _ within ∙ (sym c.index_mut.ensures.value ∙ (sym c.take.ensures.value ∙ c.in-Some.is)) in
     let change = failures-set g.B.Block.failed s.blocks.items c.args.offset c.take.new.self within in
     let here = ap (failed_at g.B.Block.failed) is in
@@ -39,20 +36,20 @@ returns-clause-failures g c =
 pub returns-clause-address : goal.returns-clause-address
 returns-clause-address g c =
     let s = c.self.inside in
-    let within : c.args.offset < length s.blocks.items = let l = ap (λ h. length h.present) c.self.view_is in let m = length-map s.blocks.items is_some in let r = c.requires.within in omega arith in
+    let within = within_present s.blocks.items _ c.args.offset (ap (λ h. h.present) c.self.view_is) c.requires.within in
     let is : get_or s.blocks.items c.args.offset None ≡ Some c.in-Some.block = get_or-default s.blocks.items c.args.offset None _ within ∙ (sym c.index_mut.ensures.value ∙ (sym c.take.ensures.value ∙ c.in-Some.is)) in
     c.self.invariant.addresses c.args.offset c.in-Some.block is ∙ ap (λ h. h.first + c.args.offset) c.self.view_is
 
 pub returns-clause-length : goal.returns-clause-length
 returns-clause-length g c =
     let s = c.self.inside in
-    let within : c.args.offset < length s.blocks.items = let l = ap (λ h. length h.present) c.self.view_is in let m = length-map s.blocks.items is_some in let r = c.requires.within in omega arith in
+    let within = within_present s.blocks.items _ c.args.offset (ap (λ h. h.present) c.self.view_is) c.requires.within in
     let is : get_or s.blocks.items c.args.offset None ≡ Some c.in-Some.block = get_or-default s.blocks.items c.args.offset None _ within ∙ (sym c.index_mut.ensures.value ∙ (sym c.take.ensures.value ∙ c.in-Some.is)) in
     c.self.invariant.lengths c.args.offset c.in-Some.block is ∙ ap (λ h. h.block_bytes) c.self.view_is
 
 pub returns-clause-content : goal.returns-clause-content
 returns-clause-content g c =
     let s = c.self.inside in
-    let within : c.args.offset < length s.blocks.items = let l = ap (λ h. length h.present) c.self.view_is in let m = length-map s.blocks.items is_some in let r = c.requires.within in omega arith in
+    let within = within_present s.blocks.items _ c.args.offset (ap (λ h. h.present) c.self.view_is) c.requires.within in
     let is : get_or s.blocks.items c.args.offset None ≡ Some c.in-Some.block = get_or-default s.blocks.items c.args.offset None _ within ∙ (sym c.index_mut.ensures.value ∙ (sym c.take.ensures.value ∙ c.in-Some.is)) in
     sym (ap (λ h. get_or h.contents c.args.offset []) (sym c.self.view_is) ∙ get_or-map (content_at g.B.Block.content_of) s.blocks.items c.args.offset None [] within ∙ ap (content_at g.B.Block.content_of) is)
