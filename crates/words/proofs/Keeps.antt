@@ -18,6 +18,20 @@ pins_le n completed s (Appends k) h = omega arith
 pins_le n completed s (Reads r) h = h.0 s
 pins_le n completed s (Checkpoint k) h = omega arith
 
+-- Claims come in the place of others, and those who stand, write and read are counted as before.
+pub record IsAlike (v w : List Claim) : Type 0 where
+  pub standings : (s : ℕ) → weigh (stands s) w ≡ weigh (stands s) v
+  pub one_checkpoint : weigh checkpoints w ≡ weigh checkpoints v
+  pub free_slips : (s : ℕ) → weigh (slips s) w + weigh (frees s) v ≡ weigh (slips s) v + weigh (frees s) w
+  pub open_appenders : (s : ℕ) → weigh (appends s) w + weigh (opens s) v ≡ weigh (appends s) v + weigh (opens s) w
+  pub same_readers : weigh readers w ≡ weigh readers v
+
+-- They come to a seat, and there are no more pins than there is room for.
+pub record IsCounted (views : List (List Claim)) (id : ℕ) (v w : List Claim) : Type 0 where
+  pub alike : IsAlike v w
+  pub within : (s : ℕ) → total (pins s) (set views id w) ≤ total (room s) (set views id w)
+  pub same_life : (s i : ℕ) → total (pins_at s i) (set views id w) ≤ 64 * total (stands_at s i) (set views id w)
+
 module _ (n : ℕ) (words : List ℕ) (views : List (List Claim)) (law : Law n words views) where
   -- a rearrangement of the claims
   pub regrouped : (views' : List (List Claim)) → ((f : Claim → ℕ) → total f views' ≡ total f views) → ((P : Claim → Type 0) → Every (Every P) views → Every (Every P) views') → Law n words views'
@@ -45,28 +59,22 @@ module _ (n : ℕ) (words : List ℕ) (views : List (List Claim)) (law : Law n w
         → get_or words' n 0 + weigh version v ≡ get_or words n 0 + weigh version w
         → get_or words n 0 ≤ get_or words' n 0
         → get_or words' n 0 < 4294967296
-        → ((s : ℕ) → weigh (stands s) w ≡ weigh (stands s) v)
-        → weigh checkpoints w ≡ weigh checkpoints v
-        → ((s : ℕ) → weigh (slips s) w + weigh (frees s) v ≡ weigh (slips s) v + weigh (frees s) w)
-        → ((s : ℕ) → weigh (appends s) w + weigh (opens s) v ≡ weigh (appends s) v + weigh (opens s) w)
-        → weigh readers w ≡ weigh readers v
-        → ((s : ℕ) → total (pins s) (set views id w) ≤ total (room s) (set views id w))
-        → ((s i : ℕ) → total (pins_at s i) (set views id w) ≤ 64 * total (stands_at s i) (set views id w))
+        → IsCounted views id v w
         → Every (Sound n (get_or words' n 0)) w
         → ((c : Claim) → Sound n (get_or words n 0) c → Sound n (get_or words' n 0) c)
         → Law n words' (set views id w)
-    changed words' wide enc ver up bound st ck sl op rd wi sa snd later = record {
+    changed words' wide enc ver up bound counted snd later = record {
       wide = wide;
-      one_standing = λ s h. let a = moved (stands s) in let b = st s in let e = law.one_standing s h in omega arith;
-      one_checkpoint = let a = moved checkpoints in let e = law.one_checkpoint in omega arith;
+      one_standing = λ s h. let a = moved (stands s) in let b = counted.alike.standings s in let e = law.one_standing s h in omega arith;
+      one_checkpoint = let a = moved checkpoints in let d = counted.alike.one_checkpoint in let e = law.one_checkpoint in omega arith;
       encoded = λ s h. let a = moved (rank s) in let b = moved (pins s) in let e = law.encoded s h in let d = enc s h in omega arith;
       completed = let a = moved version in let e = law.completed in omega arith;
       bounded = bound;
-      one_slip = λ s. let a = moved (slips s) in let b = moved (frees s) in let e = law.one_slip s in let d = sl s in omega arith;
-      one_appender = λ s. let a = moved (appends s) in let b = moved (opens s) in let e = law.one_appender s in let d = op s in omega arith;
-      within = wi;
-      same_life = sa;
-      few_readers = let a = moved readers in let e = law.few_readers in omega arith;
+      one_slip = λ s. let a = moved (slips s) in let b = moved (frees s) in let e = law.one_slip s in let d = counted.alike.free_slips s in omega arith;
+      one_appender = λ s. let a = moved (appends s) in let b = moved (opens s) in let e = law.one_appender s in let d = counted.alike.open_appenders s in omega arith;
+      within = counted.within;
+      same_life = counted.same_life;
+      few_readers = let a = moved readers in let d = counted.alike.same_readers in let e = law.few_readers in omega arith;
       sound = every-set (Every (Sound n (get_or words' n 0))) views id w
           (every-map (Every (Sound n (get_or words n 0))) (Every (Sound n (get_or words' n 0))) views (λ u h. every-map (Sound n (get_or words n 0)) (Sound n (get_or words' n 0)) u later h) law.sound) snd;
     }
@@ -76,16 +84,10 @@ module _ (n : ℕ) (words : List ℕ) (views : List (List Claim)) (law : Law n w
         → x + (weigh (rank seg) v + weigh (pins seg) v) ≡ get_or words seg 0 + (weigh (rank seg) w + weigh (pins seg) w)
         → ((s : ℕ) → s ≢ seg → weigh (rank s) w + weigh (pins s) w ≡ weigh (rank s) v + weigh (pins s) v)
         → weigh version w ≡ weigh version v
-        → ((s : ℕ) → weigh (stands s) w ≡ weigh (stands s) v)
-        → weigh checkpoints w ≡ weigh checkpoints v
-        → ((s : ℕ) → weigh (slips s) w + weigh (frees s) v ≡ weigh (slips s) v + weigh (frees s) w)
-        → ((s : ℕ) → weigh (appends s) w + weigh (opens s) v ≡ weigh (appends s) v + weigh (opens s) w)
-        → weigh readers w ≡ weigh readers v
-        → ((s : ℕ) → total (pins s) (set views id w) ≤ total (room s) (set views id w))
-        → ((s i : ℕ) → total (pins_at s i) (set views id w) ≤ 64 * total (stands_at s i) (set views id w))
+        → IsCounted views id v w
         → Every (Sound n (get_or words n 0)) w
         → Law n (set words seg x) (set views id w)
-    word_changed seg x lt here else ver st ck sl op rd wi sa snd =
+    word_changed seg x lt here else ver counted snd =
         let long : length words ≡ n + 1 = law.wide in
         let other : n ≢ seg = omega arith in
         let last : get_or (set words seg x) n 0 ≡ get_or words n 0 = get_or-set_other words seg n x 0 other in
@@ -95,23 +97,17 @@ module _ (n : ℕ) (words : List ℕ) (views : List (List Claim)) (law : Law n w
         (λ e. let P : ℕ → Type 0 = λ z. get_or (set words seg x) z 0 + (weigh (rank z) v + weigh (pins z) v) ≡ get_or words z 0 + (weigh (rank z) w + weigh (pins z) w) in
         subst P (sym e) (let is : get_or (set words seg x) seg 0 ≡ x = get_or-set_same words seg x 0 (omega arith) in omega (arith, here)))
         (λ ne. let is : get_or (set words seg x) s 0 ≡ get_or words s 0 = get_or-set_other words seg s x 0 ne in let d = else s ne in omega arith))
-        (omega arith) (omega arith) (omega arith) st ck sl op rd wi sa (subst (λ z. Every (Sound n z) w) (sym last) snd) (λ c. subst (λ z. Sound n (get_or words n 0) c → Sound n z c) (sym last) (λ k. k))
+        (omega arith) (omega arith) (omega arith) counted (subst (λ z. Every (Sound n z) w) (sym last) snd) (λ c. subst (λ z. Sound n (get_or words n 0) c → Sound n z c) (sym last) (λ k. k))
 
     -- a load
     pub looked : ((s : ℕ) → weigh (rank s) w + weigh (pins s) w ≡ weigh (rank s) v + weigh (pins s) v)
         → weigh version w ≡ weigh version v
-        → ((s : ℕ) → weigh (stands s) w ≡ weigh (stands s) v)
-        → weigh checkpoints w ≡ weigh checkpoints v
-        → ((s : ℕ) → weigh (slips s) w + weigh (frees s) v ≡ weigh (slips s) v + weigh (frees s) w)
-        → ((s : ℕ) → weigh (appends s) w + weigh (opens s) v ≡ weigh (appends s) v + weigh (opens s) w)
-        → weigh readers w ≡ weigh readers v
-        → ((s : ℕ) → total (pins s) (set views id w) ≤ total (room s) (set views id w))
-        → ((s i : ℕ) → total (pins_at s i) (set views id w) ≤ 64 * total (stands_at s i) (set views id w))
+        → IsCounted views id v w
         → Every (Sound n (get_or words n 0)) w
         → Law n words (set views id w)
-    looked enc ver st ck sl op rd wi sa snd =
+    looked enc ver counted snd =
         let bound = law.bounded in
-        changed words law.wide (λ s h. let d = enc s in omega arith) (omega arith) (omega arith) bound st ck sl op rd wi sa snd (λ c k. k)
+        changed words law.wide (λ s h. let d = enc s in omega arith) (omega arith) (omega arith) bound counted snd (λ c k. k)
 
   -- no segment has more pins than there are readers
   pub few_pins : (s : ℕ) → total (pins s) views ≤ 64

@@ -82,9 +82,11 @@ module _ (n slots id : ℕ) (c : List (ℕ × Unit {0})) (p : Pins) where
     reader_looked seen load loads old =
         let w : List Claim = Reads (record { held = p.held; seen = seen; load = load; loads = loads }) ∷ [] in
         let mv = moved n s.words s.views law id (Reads p ∷ []) w at_id in
-        looked n s.words s.views law id (Reads p ∷ []) w at_id (λ z. refl) refl (λ z. refl) refl (λ z. refl) (λ z. refl) refl
-        (λ z. let a = mv (pins z) in let b = mv (room z) in let e = law.within z in omega arith)
-        (λ z i. let a = mv (pins_at z i) in let b = mv (stands_at z i) in let e = law.same_life z i in omega arith)
+        looked n s.words s.views law id (Reads p ∷ []) w at_id (λ z. refl) refl (record {
+          alike = record { standings = λ z. refl; one_checkpoint = refl; free_slips = λ z. refl; open_appenders = λ z. refl; same_readers = refl };
+          within = λ z. let a = mv (pins z) in let b = mv (room z) in let e = law.within z in omega arith;
+          same_life = λ z i. let a = mv (pins_at z i) in let b = mv (stands_at z i) in let e = law.same_life z i in omega arith;
+        })
         ((sound_here.0, old), tt)
 
   pub sees : Allows (Holds n) slots id me n (λ x. x) (version_seen (step slots n 0 0 none) me)
@@ -135,9 +137,11 @@ module _ (n slots id : ℕ) (c : List (ℕ × Unit {0})) (p : Pins) where
         word_changed n s.words s.views law id (Reads p ∷ []) w at_id z ((x + (2 ^ 64 - 1)) % 2 ^ 64) lt
             (let a = without_times z z p.held has in let b = at_here z 1 in omega arith)
             (λ y ne. let a = without_times y z p.held has in let b = at_other z y 1 ne in omega arith)
-            refl (λ y. refl) refl (λ y. refl) (λ y. refl) refl
-            (λ y. let a = mv (pins y) in let b = mv (room y) in let d = without_times y z p.held has in let e = law.within y in omega arith)
-            (λ y i. let a = mv (pins_at y i) in let b = mv (stands_at y i) in let d = without_times_at y i z p.held in let e = law.same_life y i in omega arith)
+            refl (record {
+              alike = record { standings = λ y. refl; one_checkpoint = refl; free_slips = λ y. refl; open_appenders = λ y. refl; same_readers = refl };
+              within = λ y. let a = mv (pins y) in let b = mv (room y) in let d = without_times y z p.held has in let e = law.within y in omega arith;
+              same_life = λ y i. let a = mv (pins_at y i) in let b = mv (stands_at y i) in let d = without_times_at y i z p.held in let e = law.same_life y i in omega arith;
+            })
             (((λ y. let a = without_times y z p.held has in let b = h.0 y in omega arith), h.1), tt),
         (refl, refl),
       )
@@ -176,17 +180,19 @@ module _ (n slots id : ℕ) (c : List (ℕ × Unit {0})) (l : Life) (p : Pins) w
         word_changed n s.words s.views law id v w at_id g ((x + 1) % 2 ^ 64) f.lt
             (omega arith)
             (λ y ne. let d = at_other g y 1 ne in omega arith)
-            refl (λ y. refl) refl (λ y. refl) (λ y. refl) refl
-            (λ y. dite (ℕ_discrete y g)
-            (λ h. subst (λ k. total (pins k) (set s.views id w) ≤ total (room k) (set s.views id w)) (sym h)
-            (let i = mv (pins g) in let j = mv (room g) in let d = at_here g (room_of l.state l.pins) in let e = at_here g (room_of l.state (x % 256)) in
-            let r1 = wide_room l.pins in let r2 = wide_room (x % 256) in let ro = f.roomy in omega arith))
-            (λ ne. let i = mv (pins y) in let j = mv (room y) in let d = at_other g y (room_of l.state l.pins) ne in let e = at_other g y (room_of l.state (x % 256)) ne in let k = at_other g y 1 ne in let u = law.within y in omega arith))
-            (λ y i. dite (ℕ_discrete y g)
-            (λ h. subst (λ k. total (pins_at k i) (set s.views id w) ≤ 64 * total (stands_at k i) (set s.views id w)) (sym h)
-            (let a1 = mv (pins_at g i) in let b = mv (stands_at g i) in let d = at_here g (at l.incarnation i 1) in let e = f.lives i in let q = part_of_pins g i s.views in let u = law.same_life g i in let k = at_le l.incarnation i 1 in
-            dite (ℕ_discrete (at l.incarnation i 1) 0) (λ z. omega arith) (λ nz. omega arith)))
-            (λ ne. let a1 = mv (pins_at y i) in let b = mv (stands_at y i) in let d = at_other g y (at l.incarnation i 1) ne in let u = law.same_life y i in omega arith)) (
+            refl (record {
+              alike = record { standings = λ y. refl; one_checkpoint = refl; free_slips = λ y. refl; open_appenders = λ y. refl; same_readers = refl };
+              within = λ y. dite (ℕ_discrete y g)
+                  (λ h. subst (λ k. total (pins k) (set s.views id w) ≤ total (room k) (set s.views id w)) (sym h)
+                  (let i = mv (pins g) in let j = mv (room g) in let d = at_here g (room_of l.state l.pins) in let e = at_here g (room_of l.state (x % 256)) in
+                  let r1 = wide_room l.pins in let r2 = wide_room (x % 256) in let ro = f.roomy in omega arith))
+                  (λ ne. let i = mv (pins y) in let j = mv (room y) in let d = at_other g y (room_of l.state l.pins) ne in let e = at_other g y (room_of l.state (x % 256)) ne in let k = at_other g y 1 ne in let u = law.within y in omega arith);
+              same_life = λ y i. dite (ℕ_discrete y g)
+                  (λ h. subst (λ k. total (pins_at k i) (set s.views id w) ≤ 64 * total (stands_at k i) (set s.views id w)) (sym h)
+                  (let a1 = mv (pins_at g i) in let b = mv (stands_at g i) in let d = at_here g (at l.incarnation i 1) in let e = f.lives i in let q = part_of_pins g i s.views in let u = law.same_life g i in let k = at_le l.incarnation i 1 in
+                  dite (ℕ_discrete (at l.incarnation i 1) 0) (λ z. omega arith) (λ nz. omega arith)))
+                  (λ ne. let a1 = mv (pins_at y i) in let b = mv (stands_at y i) in let d = at_other g y (at l.incarnation i 1) ne in let u = law.same_life y i in omega arith);
+            }) (
               (f.lt, f.seen, f.dated),
               (
                 (

@@ -58,9 +58,11 @@ advances n slots id c v small s law _ at_id _ =
       tt,
       changed n s.words s.views law id (Checkpoint v ∷ []) w at_id (set s.words n y) (length-set s.words n y ∙ law.wide)
           (λ z lt. let ne : z ≢ n = omega arith in let e : get_or (set s.words n y) z 0 ≡ get_or s.words z 0 = get_or-set_other s.words n z y 0 ne in omega arith)
-          (omega arith) (omega arith) (omega arith) (λ z. refl) refl (λ z. refl) (λ z. refl) refl
-          (λ z. let a = mv (pins z) in let b = mv (room z) in let e = law.within z in omega arith)
-          (λ z i. let a = mv (pins_at z i) in let b = mv (stands_at z i) in let e = law.same_life z i in omega arith)
+          (omega arith) (omega arith) (omega arith) (record {
+            alike = record { standings = λ z. refl; one_checkpoint = refl; free_slips = λ z. refl; open_appenders = λ z. refl; same_readers = refl };
+            within = λ z. let a = mv (pins z) in let b = mv (room z) in let e = law.within z in omega arith;
+            same_life = λ z i. let a = mv (pins_at z i) in let b = mv (stands_at z i) in let e = law.same_life z i in omega arith;
+          })
           (tt, tt)
           (sound_later n x (get_or (set s.words n y) n 0) (omega arith)),
       (refl, refl, is),

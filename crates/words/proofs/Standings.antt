@@ -126,15 +126,20 @@ module _ (n : ℕ) (words : List ℕ) (views : List (List Claim)) (law : Law n w
         word_changed n words views law id (Stands l ∷ []) (Stands l' ∷ []) at_id s x f.lt
         (omega arith)
         (λ z ne. let c = at_other s z (rank_of l) ne in let d = at_other s z (rank_of l') ne in omega arith)
-        refl (λ z. refl) refl
-        (λ z. let e : at s z (is_free l.state) ≡ at s z (is_free st) = ap (at s z) (sym same) in omega arith)
-        (λ z. let e : at s z (is_open l.state) ≡ at s z (is_open st) = ap (at s z) (sym same') in omega arith)
-        refl
-        (λ z. dite (ℕ_discrete z s)
-        (λ e. subst (λ y. total (pins y) (set views id (Stands l' ∷ [])) ≤ total (room y) (set views id (Stands l' ∷ []))) (sym e)
-        (let p = m (pins s) in let q = m (room s) in let c = at_here s (room_of l.state l.pins) in let d = at_here s (room_of st held) in let ro = f.roomy in omega arith))
-        (λ ne. let p = m (pins z) in let q = m (room z) in let c = at_other s z (room_of l.state l.pins) ne in let d = at_other s z (room_of st held) ne in let w = law.within z in omega arith))
-        (λ z i. let p = m (pins_at z i) in let q = m (stands_at z i) in let w = law.same_life z i in omega arith)
+        refl (record {
+          alike = record {
+            standings = λ z. refl;
+            one_checkpoint = refl;
+            free_slips = λ z. let e : at s z (is_free l.state) ≡ at s z (is_free st) = ap (at s z) (sym same) in omega arith;
+            open_appenders = λ z. let e : at s z (is_open l.state) ≡ at s z (is_open st) = ap (at s z) (sym same') in omega arith;
+            same_readers = refl;
+          };
+          within = λ z. dite (ℕ_discrete z s)
+              (λ e. subst (λ y. total (pins y) (set views id (Stands l' ∷ [])) ≤ total (room y) (set views id (Stands l' ∷ []))) (sym e)
+              (let p = m (pins s) in let q = m (room s) in let c = at_here s (room_of l.state l.pins) in let d = at_here s (room_of st held) in let ro = f.roomy in omega arith))
+              (λ ne. let p = m (pins z) in let q = m (room z) in let c = at_other s z (room_of l.state l.pins) ne in let d = at_other s z (room_of st held) ne in let w = law.within z in omega arith);
+          same_life = λ z i. let p = m (pins_at z i) in let q = m (stands_at z i) in let w = law.same_life z i in omega arith;
+        })
         ((f.lt, old, dated), tt)
 
 abbrev pub Holds : ℕ → Table (Unit {0}) (List Claim) → Type 0
@@ -230,14 +235,19 @@ module _ (n slots id : ℕ) (c : List (ℕ × Unit {0})) (l : Life) where
         word_changed n s.words s.views law id (Stands l ∷ []) w at_id g ((x + (2 ^ 64 - 768)) % 2 ^ 64) f.lt
             (omega arith)
             (λ z ne. let c1 = at_other g z (rank_of l) ne in let d = at_other g z (rank_of (life_freed l)) ne in omega arith)
-            refl (λ z. omega arith) refl
-            (λ z. let q : at g z (is_free l.state) ≡ 0 = ap (λ st. at g z (is_free st)) is ∙ at_zero g z in omega arith)
-            (λ z. let q : at g z (is_open l.state) ≡ 0 = ap (λ st. at g z (is_open st)) is ∙ at_zero g z in let r = at_zero g z in omega arith)
-            refl
-            (λ z. dite (ℕ_discrete z g)
-            (λ h. subst (λ y. total (pins y) (set s.views id w) ≤ total (room y) (set s.views id w)) (sym h) (let i = mv (pins g) in omega arith))
-            (λ ne. let i = mv (pins z) in let j = mv (room z) in let c1 = at_other g z (room_of l.state l.pins) ne in let d = at_other g z 0 ne in let v = law.within z in omega arith))
-            (λ z i. let u = mv (pins_at z i) in let q = mv (stands_at z i) in let v = law.same_life z i in omega arith)
+            refl (record {
+              alike = record {
+                standings = λ z. omega arith;
+                one_checkpoint = refl;
+                free_slips = λ z. let q : at g z (is_free l.state) ≡ 0 = ap (λ st. at g z (is_free st)) is ∙ at_zero g z in omega arith;
+                open_appenders = λ z. let q : at g z (is_open l.state) ≡ 0 = ap (λ st. at g z (is_open st)) is ∙ at_zero g z in let r = at_zero g z in omega arith;
+                same_readers = refl;
+              };
+              within = λ z. dite (ℕ_discrete z g)
+                  (λ h. subst (λ y. total (pins y) (set s.views id w) ≤ total (room y) (set s.views id w)) (sym h) (let i = mv (pins g) in omega arith))
+                  (λ ne. let i = mv (pins z) in let j = mv (room z) in let c1 = at_other g z (room_of l.state l.pins) ne in let d = at_other g z 0 ne in let v = law.within z in omega arith);
+              same_life = λ z i. let u = mv (pins_at z i) in let q = mv (stands_at z i) in let v = law.same_life z i in omega arith;
+            })
             ((f.lt, seen, omega arith), (tt, tt)),
         (refl, refl),
       )
@@ -275,17 +285,22 @@ module _ (n slots id : ℕ) (c : List (ℕ × Unit {0})) (l : Life) where
         word_changed n s.words s.views law id v w at_id g ((x + 65792) % 2 ^ 64) f.lt
             (omega arith)
             (λ z ne. let c1 = at_other g z (rank_of l) ne in let d = at_other g z (rank_of (life_opened l)) ne in omega arith)
-            refl (λ z. omega arith) refl
-            (λ z. let q : at g z (is_free l.state) ≡ at g z 1 = ap (at g z) one in let r = at_zero g z in omega arith)
-            (λ z. let q : at g z (is_open l.state) ≡ 0 = ap (λ st. at g z (is_open st)) is ∙ at_zero g z in omega arith)
-            refl
-            (λ z. dite (ℕ_discrete z g)
-            (λ h. subst (λ y. total (pins y) (set s.views id w) ≤ total (room y) (set s.views id w)) (sym h) (let i = mv (pins g) in omega arith))
-            (λ ne. let i = mv (pins z) in let j = mv (room z) in let c1 = at_other g z (room_of l.state l.pins) ne in let d = at_other g z 64 ne in let y = law.within z in omega arith))
-            (λ z i. dite (ℕ_discrete z g)
-            (λ h. subst (λ y. total (pins_at y i) (set s.views id w) ≤ 64 * total (stands_at y i) (set s.views id w)) (sym h)
-            (let u = mv (pins_at g i) in let q = part_of_pins g i s.views in omega arith))
-            (λ ne. let u = mv (pins_at z i) in let q = mv (stands_at z i) in let c1 = at_other g z (at l.incarnation i 1) ne in let d = at_other g z (at (l.incarnation + 1) i 1) ne in let y = law.same_life z i in omega arith))
+            refl (record {
+              alike = record {
+                standings = λ z. omega arith;
+                one_checkpoint = refl;
+                free_slips = λ z. let q : at g z (is_free l.state) ≡ at g z 1 = ap (at g z) one in let r = at_zero g z in omega arith;
+                open_appenders = λ z. let q : at g z (is_open l.state) ≡ 0 = ap (λ st. at g z (is_open st)) is ∙ at_zero g z in omega arith;
+                same_readers = refl;
+              };
+              within = λ z. dite (ℕ_discrete z g)
+                  (λ h. subst (λ y. total (pins y) (set s.views id w) ≤ total (room y) (set s.views id w)) (sym h) (let i = mv (pins g) in omega arith))
+                  (λ ne. let i = mv (pins z) in let j = mv (room z) in let c1 = at_other g z (room_of l.state l.pins) ne in let d = at_other g z 64 ne in let y = law.within z in omega arith);
+              same_life = λ z i. dite (ℕ_discrete z g)
+                  (λ h. subst (λ y. total (pins_at y i) (set s.views id w) ≤ 64 * total (stands_at y i) (set s.views id w)) (sym h)
+                  (let u = mv (pins_at g i) in let q = part_of_pins g i s.views in omega arith))
+                  (λ ne. let u = mv (pins_at z i) in let q = mv (stands_at z i) in let c1 = at_other g z (at l.incarnation i 1) ne in let d = at_other g z (at (l.incarnation + 1) i 1) ne in let y = law.same_life z i in omega arith);
+            })
             ((f.lt, seen, omega arith), (tt, tt)),
         (refl, refl, is),
       )
@@ -350,15 +365,20 @@ module _ (n slots id : ℕ) (c : List (ℕ × Unit {0})) (l : Life) where
         word_changed n s.words s.views law id v w at_id g ((x + 256) % 2 ^ 64) f.lt
             (omega arith)
             (λ z ne. let c1 = at_other g z (rank_of l) ne in let d = at_other g z (rank_of l') ne in omega arith)
-            refl (λ z. omega arith) refl
-            (λ z. let q : at g z (is_free l.state) ≡ 0 = ap (λ st. at g z (is_free st)) is ∙ at_zero g z in let r = at_zero g z in omega arith)
-            (λ z. let q : at g z (is_open l.state) ≡ at g z 1 = ap (at g z) one in let r = at_zero g z in omega arith)
-            refl
-            (λ z. dite (ℕ_discrete z g)
-            (λ h. subst (λ y. total (pins y) (set s.views id w) ≤ total (room y) (set s.views id w)) (sym h)
-            (let i = mv (pins g) in let j = mv (room g) in let c1 = at_here g (room_of l.state l.pins) in let d = at_here g 64 in let ro = f.roomy in omega arith))
-            (λ ne. let i = mv (pins z) in let j = mv (room z) in let c1 = at_other g z (room_of l.state l.pins) ne in let d = at_other g z 64 ne in let y = law.within z in omega arith))
-            (λ z i. let u = mv (pins_at z i) in let q = mv (stands_at z i) in let y = law.same_life z i in omega arith)
+            refl (record {
+              alike = record {
+                standings = λ z. omega arith;
+                one_checkpoint = refl;
+                free_slips = λ z. let q : at g z (is_free l.state) ≡ 0 = ap (λ st. at g z (is_free st)) is ∙ at_zero g z in let r = at_zero g z in omega arith;
+                open_appenders = λ z. let q : at g z (is_open l.state) ≡ at g z 1 = ap (at g z) one in let r = at_zero g z in omega arith;
+                same_readers = refl;
+              };
+              within = λ z. dite (ℕ_discrete z g)
+                  (λ h. subst (λ y. total (pins y) (set s.views id w) ≤ total (room y) (set s.views id w)) (sym h)
+                  (let i = mv (pins g) in let j = mv (room g) in let c1 = at_here g (room_of l.state l.pins) in let d = at_here g 64 in let ro = f.roomy in omega arith))
+                  (λ ne. let i = mv (pins z) in let j = mv (room z) in let c1 = at_other g z (room_of l.state l.pins) ne in let d = at_other g z 64 ne in let y = law.within z in omega arith);
+              same_life = λ z i. let u = mv (pins_at z i) in let q = mv (stands_at z i) in let y = law.same_life z i in omega arith;
+            })
             ((f.lt, f.seen, low), tt),
         (refl, refl, omega arith, is),
       )
