@@ -1,5 +1,5 @@
 -- Each step keeps the law.
-use Rattle.std.proofs.Common.{◌≡◌, ℕ, zero, suc, ◌+◌, ◌-◌, ◌<◌, ◌≤◌, [], ◌∷◌, ◌++◌, set, sym, refl, ap, arith}
+use Rattle.std.proofs.Common.{◌≡◌, ℕ, zero, suc, ◌+◌, ◌-◌, ◌<◌, ◌≤◌, List, [], ◌∷◌, ◌++◌, set, sym, refl, ap, arith}
 use mathlib.Core.Option.{some, some-injective, some-ne-none}
 use lib.ListN.{get_elem?}
 use Rattle.crossbeam_queue.specs.Fifo.{Pushes, Pops, Forks, Merges, Learns}
@@ -21,37 +21,33 @@ begins = record {
   rest_idle = λ j u at none. let e = only j (tally all_parts [] []) u at in (ap (λ (y : Tally). y.put) (sym e), ap (λ (y : Tally). y.taken) (sym e));
 }
 
+-- the law stays where a port with a part puts or takes: what it has put more is what the queue holds more and it has taken more
+counts : (port : ℕ) (v w : Tally) (items items' : List ℕ) (views : List Tally) → 0 < v.parts → w.parts ≡ v.parts
+    → ((h : ℕ → ℕ) → weigh h items' + weigh h w.taken + weigh h v.put ≡ weigh h items + weigh h v.taken + weigh h w.put)
+    → SlipLaw items views → get_elem? views port ≡ some v → SlipLaw items' (set views port w)
+counts port v w items items' views some_part same more b at = record {
+  whole = let s = sum-set (λ u. u.parts) views port v w at in let p = b.whole in omega (arith, s, p, same);
+  balance = λ h.
+      (let s = sum-set (λ u. weigh h u.put) views port v w at in
+      let t = sum-set (λ u. weigh h u.taken) views port v w at in
+      let p = b.balance h in
+      let m = more h in omega (arith, s, t, p, m));
+  rest_idle = idle_set views port w (λ none. absurd (omega (arith, none, some_part, same))) b.rest_idle;
+}
+
 pub puts : (n port : ℕ) (v : Tally) (x : ℕ) → 0 < v.parts → Pushes SlipLaw n port v x (λ w. w ≡ with_put v x)
-puts n port v x some_part items views room b at =
-    let w = with_put v x in (
-      w,
-      record {
-        whole = let s = sum-set (λ u. u.parts) views port v w at in let p = b.whole in omega (arith, s, p);
-        balance = λ h.
-            (let s = sum-set (λ u. weigh h u.put) views port v w at in
-            let t = sum-set (λ u. weigh h u.taken) views port v w at in
-            let p = b.balance h in
-            omega (arith, s, t, p, weigh-append h v.put (x ∷ []), weigh-append h items (x ∷ [])));
-        rest_idle = idle_set views port w (λ none. absurd (omega (arith, none, some_part))) b.rest_idle;
-      },
-      refl,
-    )
+puts n port v x some_part items views room b at = (
+  with_put v x,
+  counts port v (with_put v x) items (items ++ x ∷ []) views some_part refl (λ h. omega (arith, weigh-append h v.put (x ∷ []), weigh-append h items (x ∷ []))) b at,
+  refl,
+)
 
 pub takes : (port : ℕ) (v : Tally) → 0 < v.parts → Pops SlipLaw port v (λ x w. w ≡ with_taken v x)
-takes port v some_part x items views b at =
-    let w = with_taken v x in (
-      w,
-      record {
-        whole = let s = sum-set (λ u. u.parts) views port v w at in let p = b.whole in omega (arith, s, p);
-        balance = λ h.
-            (let s = sum-set (λ u. weigh h u.put) views port v w at in
-            let t = sum-set (λ u. weigh h u.taken) views port v w at in
-            let p = b.balance h in
-            omega (arith, s, t, p, weigh-append h v.taken (x ∷ [])));
-        rest_idle = idle_set views port w (λ none. absurd (omega (arith, none, some_part))) b.rest_idle;
-      },
-      refl,
-    )
+takes port v some_part x items views b at = (
+  with_taken v x,
+  counts port v (with_taken v x) (x ∷ items) items views some_part refl (λ h. omega (arith, weigh-append h v.taken (x ∷ []))) b at,
+  refl,
+)
 
 pub forks : (port : ℕ) (v : Tally) → 1 < v.parts → Forks SlipLaw port v (tally (v.parts - 1) v.put v.taken) (tally 1 [] [])
 forks port v more items views b at =
