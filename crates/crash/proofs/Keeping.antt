@@ -217,40 +217,52 @@ other_back version = omega arith
 one_more : (written : List Written) (new w : Written) → Contains written w → Contains (new ∷ written) w
 one_more written new w (k, below, is) = (suc k, omega arith, is)
 
+-- the other slot is written, and the slot that counts is as it was
+module _ (geometry : Geometry) (m : Core) (slot : Slot) (phase : Phase) (written : List Written) where
+  abbrev other_written : Core
+  other_written = record m { slots = changed m.slots (other (current m.version)) slot; phase = phase; written = written }
+
+  other_there : other_written.slots (other (current m.version)) ≡ slot
+  other_there = changed_there m.slots (other (current m.version)) slot (other (current m.version)) refl
+
+  other_keeps : ((w : Written) → Contains m.written w → Contains written w) → Invariant geometry m → Pending geometry other_written phase → Invariant geometry other_written
+  other_keeps more inv pending =
+      let elsewhere = changed_elsewhere m.slots (other (current m.version)) slot (current m.version) (current_not_other m.version) in
+      record {
+        now = inv.now;
+        stored = record {
+          was_written = more inv.now inv.stored.was_written;
+          lawful = inv.stored.lawful;
+          header = inv.stored.header;
+          body = ap (λ (s : Slot). s.body) elsewhere ∙ inv.stored.body;
+        };
+        positive = inv.positive;
+        footer = ap (λ (s : Slot). s.footer) elsewhere ∙ inv.footer;
+        same = inv.same;
+        settled = inv.settled;
+        safe = inv.safe;
+        pending = pending;
+        live = inv.live;
+      }
+
 pub write_keeps : (geometry : Geometry) (m : Core) (body : List ℕ) → MayWrite geometry m body
     → Invariant geometry m → Invariant geometry (with_body m body)
 write_keeps geometry m body may inv =
-    let there = changed_there m.slots (other (current m.version)) (record { body = body; footer = (m.slots (other (current m.version))).footer })
-    (other (current m.version)) refl in
-    let elsewhere = changed_elsewhere m.slots (other (current m.version)) (record { body = body; footer = (m.slots (other (current m.version))).footer })
-    (current m.version) (current_not_other m.version) in
+    let slot : Slot = record { body = body; footer = (m.slots (other (current m.version))).footer } in
+    let new : Written = record { body = body; blocks = m.blocks } in
+    let there = other_there geometry m slot body_written (new ∷ m.written) in
     let below : (m.slots (other (current m.version))).footer < m.version = subst (Pending geometry m) may.phase inv.pending in
-    record {
-      now = inv.now;
-      stored = record {
-        was_written = one_more m.written _ inv.now inv.stored.was_written;
-        lawful = inv.stored.lawful;
-        header = inv.stored.header;
-        body = ap (λ (s : Slot). s.body) elsewhere ∙ inv.stored.body;
-      };
-      positive = inv.positive;
-      footer = ap (λ (s : Slot). s.footer) elsewhere ∙ inv.footer;
-      same = inv.same;
-      settled = inv.settled;
-      safe = inv.safe;
-      pending = (
-        let e : ((with_body m body).slots (other (current m.version))).footer ≡ (m.slots (other (current m.version))).footer = ap (λ (s : Slot). s.footer) there in omega arith,
-        (
-          record { body = body; blocks = m.blocks },
-          record {
-            stored = record { was_written = (0, omega arith, refl); lawful = may.lawful; header = may.version; body = ap (λ (s : Slot). s.body) there };
-            same = λ a h. refl;
-          },
-          λ a h. may.marks a (marks_are geometry _ a h),
-        ),
-      );
-      live = inv.live;
-    }
+    other_keeps geometry m slot body_written (new ∷ m.written) (λ w. one_more m.written new w) inv (
+      let e : ((with_body m body).slots (other (current m.version))).footer ≡ (m.slots (other (current m.version))).footer = ap (λ (s : Slot). s.footer) there in omega arith,
+      (
+        new,
+        record {
+          stored = record { was_written = (0, omega arith, refl); lawful = may.lawful; header = may.version; body = ap (λ (s : Slot). s.body) there };
+          same = λ a h. refl;
+        },
+        λ a h. may.marks a (marks_are geometry _ a h),
+      ),
+    )
 
 next_synced : (geometry : Geometry) (m : Core) (w : Written) → IsNext geometry m w → IsNext geometry (synced m) w
 next_synced geometry m w next = record { stored = next.stored; same = next.same }
@@ -278,43 +290,26 @@ sync_keeps geometry m inv = record {
 
 pub footer_keeps : (geometry : Geometry) (m : Core) → m.phase ≡ body_synced → Invariant geometry m → Invariant geometry (with_footer m)
 footer_keeps geometry m phase inv =
-    let there = changed_there m.slots (other (current m.version)) (record { body = (m.slots (other (current m.version))).body; footer = m.version + 1 })
-    (other (current m.version)) refl in
-    let elsewhere = changed_elsewhere m.slots (other (current m.version)) (record { body = (m.slots (other (current m.version))).body; footer = m.version + 1 })
-    (current m.version) (current_not_other m.version) in
+    let slot : Slot = record { body = (m.slots (other (current m.version))).body; footer = m.version + 1 } in
+    let there = other_there geometry m slot footer_written m.written in
     let p : Pending geometry m body_synced = subst (Pending geometry m) phase inv.pending in
-    record {
-      now = inv.now;
-      stored = record {
-        was_written = inv.stored.was_written;
-        lawful = inv.stored.lawful;
-        header = inv.stored.header;
-        body = ap (λ (s : Slot). s.body) elsewhere ∙ inv.stored.body;
-      };
-      positive = inv.positive;
-      footer = ap (λ (s : Slot). s.footer) elsewhere ∙ inv.footer;
-      same = inv.same;
-      settled = inv.settled;
-      safe = inv.safe;
-      pending = (
-        ap (λ (s : Slot). s.footer) there,
-        (
-          p.1.0,
-          record {
-            stored = record {
-              was_written = p.1.1.stored.was_written;
-              lawful = p.1.1.stored.lawful;
-              header = p.1.1.stored.header;
-              body = ap (λ (s : Slot). s.body) there ∙ p.1.1.stored.body;
-            };
-            same = p.1.1.same;
-          },
-          p.1.2,
-          p.1.3,
-        ),
-      );
-      live = inv.live;
-    }
+    other_keeps geometry m slot footer_written m.written (λ w had. had) inv (
+      ap (λ (s : Slot). s.footer) there,
+      (
+        p.1.0,
+        record {
+          stored = record {
+            was_written = p.1.1.stored.was_written;
+            lawful = p.1.1.stored.lawful;
+            header = p.1.1.stored.header;
+            body = ap (λ (s : Slot). s.body) there ∙ p.1.1.stored.body;
+          };
+          same = p.1.1.same;
+        },
+        p.1.2,
+        p.1.3,
+      ),
+    )
 
 pub advance_keeps : (geometry : Geometry) (m : Core) → m.phase ≡ footer_synced → Invariant geometry m → Invariant geometry (advanced m)
 advance_keeps geometry m phase inv =
