@@ -120,6 +120,9 @@ module _ (book : TableId) (files nodes : ℕ) (ss : List ShardNodes) (law : IsTa
     pub shard_home : n % 16 ≡ s.shard
     shard_home = sym one.number
 
+    pub home_of : (key : ℕ) → n ≡ key → key % 16 ≡ s.shard
+    home_of key is_key = let h = shard_home in omega arith
+
     pub shard_nodes : s.nodes ≡ v.nodes
     shard_nodes = one.nodes_are ∙ ap (λ x. x.nodes) is
 
@@ -193,6 +196,11 @@ AreRest book number accounts = (i : ℕ) (v : ShardView) → slice_get accounts 
 pub first_rest : (book : TableId) (number : ℕ) (accounts later : List ShardView) (v : ShardView) → accounts ≡ v ∷ later → AreRest book number accounts → v ≡ record { book = book; shard = number; taken = [] }
 first_rest book number accounts later v is rest =
     rest 0 v (ap (λ l. slice_get l 0) is) ∙ (let n : number + 0 ≡ number = omega arith in ap (λ k. (let a : ShardView = record { book = book; shard = k; taken = [] } in a)) n)
+
+-- so the first account that is left has nothing taken
+pub first_empty : (book : TableId) (number : ℕ) (accounts later : List ShardView) (v : ShardView) → accounts ≡ v ∷ later → AreRest book number accounts → v ≡ record { book = v.book; shard = number; taken = [] }
+first_empty book number accounts later v is rest =
+    let e = first_rest book number accounts later v is rest in e ∙ sym (ap (λ b. (let a : ShardView = record { book = b; shard = number; taken = [] } in a)) (ap (λ x. x.book) e))
 
 pub next_rest : (book : TableId) (number : ℕ) (accounts later : List ShardView) (v : ShardView) → accounts ≡ v ∷ later → AreRest book number accounts → AreRest book (number + 1) later
 next_rest book number accounts later v is rest = λ i u at.

@@ -1,7 +1,7 @@
-use Rattle.std.proofs.Common.{◌∙◌, arith}
+use Rattle.std.proofs.Common.{◌∙◌}
 use Rattle.books.specs.Lists.{without}
 use Rattle.books.specs.Sameness.{same_entry}
-use Rattle.nat.proofs.Tables.{shard_book, shard_home, set_table, gave, still}
+use Rattle.nat.proofs.Tables.{shard_book, home_of, set_table, gave, still}
 use Rattle.nat.proofs.table.NodeTable.give.Goals as goal
 
 pub give-requires-clause-books : goal.give-requires-clause-books
@@ -12,8 +12,7 @@ give-requires-clause-books g c =
 pub give-requires-clause-home : goal.give-requires-clause-home
 give-requires-clause-home g c =
     let t = c.self.inside in
-    let h = shard_home t.books.value.book t.files t.nodes t.shards.items c.self.invariant c.args.self.now c.self.view_is c.number.result c.index_mut.result.now c.index_mut.ensures.value in
-    let n = c.number.ensures in omega arith
+    home_of t.books.value.book t.files t.nodes t.shards.items c.self.invariant c.args.self.now c.self.view_is c.number.result c.index_mut.result.now c.index_mut.ensures.value c.args.token.number c.number.ensures
 
 pub invariant_of-self : goal.invariant_of-self
 invariant_of-self g c =

@@ -1,17 +1,14 @@
 use Rattle.std.proofs.Common.{◌≡◌, [], length, ap, sym, ◌∙◌, subst, arith}
 use Rattle.std.specs.Vec.Iter.{into_iter_items}
-use Rattle.books.specs.Accounts.{ShardView}
 use Rattle.nat.specs.Shard.{ShardNodes}
 use Rattle.nat.specs.Table.{IsTable}
-use Rattle.nat.proofs.Tables.{first_rest, next_rest, push_fresh, fresh_table, fresh_none}
+use Rattle.nat.proofs.Tables.{first_empty, first_rest, next_rest, push_fresh, fresh_table, fresh_none}
 use Rattle.nat.proofs.table.NodeTable.new.Goals as goal
 
 pub new-requires-clause-empty : goal.new-requires-clause-empty
 new-requires-clause-empty g c =
     let at = c.loop-account in
-    let x = c.in-Some.account in
-    let e = first_rest c.args.books.now.book at.number (into_iter_items at.account-iterator) (into_iter_items c.next.new.self) x c.in-Some.ensures.steps.0 at.invariant.2 in
-    e ∙ sym (ap (λ b. (let a : ShardView = record { book = b; shard = at.number; taken = [] } in a)) (ap (λ v. v.book) e))
+    first_empty c.args.books.now.book at.number (into_iter_items at.account-iterator) (into_iter_items c.next.new.self) c.in-Some.account c.in-Some.ensures.steps.0 at.invariant.2
 
 pub loop-account-preserved : goal.loop-account-preserved
 loop-account-preserved g c =

@@ -1,8 +1,8 @@
-use Rattle.std.proofs.Common.{◌∙◌, arith}
+use Rattle.std.proofs.Common.{◌∙◌}
 use Rattle.std.proofs.Common.{◌∷◌}
 use Rattle.books.specs.Lists.{without}
 use Rattle.books.specs.Sameness.{same_entry}
-use Rattle.nat.proofs.Tables.{shard_book, shard_home, set_table, swapped, still}
+use Rattle.nat.proofs.Tables.{shard_book, home_of, set_table, swapped, still}
 use Rattle.nat.proofs.table.NodeTable.swap_ticket.Goals as goal
 
 pub swap-requires-clause-books : goal.swap-requires-clause-books
@@ -13,8 +13,7 @@ swap-requires-clause-books g c =
 pub swap-requires-clause-home : goal.swap-requires-clause-home
 swap-requires-clause-home g c =
     let t = c.self.inside in
-    let h = shard_home t.books.value.book t.files t.nodes t.shards.items c.self.invariant c.args.self.now c.self.view_is c.number.result c.index_mut.result.now c.index_mut.ensures.value in
-    let n = c.number.ensures in omega arith
+    home_of t.books.value.book t.files t.nodes t.shards.items c.self.invariant c.args.self.now c.self.view_is c.number.result c.index_mut.result.now c.index_mut.ensures.value c.args.token.now.number c.number.ensures
 
 pub invariant_of-self : goal.invariant_of-self
 invariant_of-self g c =
