@@ -1,7 +1,7 @@
 -- What a reader of an image finds in a block is what a decoder answers.
 use Rattle.std.proofs.Common.{◌≡◌, refl, sym, ◌∙◌, ap, ℕ, zero, suc, ◌+◌, ◌-◌, ◌*◌, ◌^◌, ◌<◌, ◌≤◌, inl, inr, Bool, true, false, cond, ◌&&◌, List, [], ◌∷◌, length, arith}
 use Rattle.std.specs.Prelude.{All, ◌==◌, nat_lt, Option, Some, None, IfSome, IfNone}
-use Rattle.std.proofs.lemmas.Bool.{eqb-true, ltb-true}
+use Rattle.std.proofs.lemmas.Bool.{eqb-true, ltb-true, and_parts}
 use Rattle.std.proofs.lemmas.List.Elements.{All-cons, All-nil}
 use Rattle.byteorder.specs.Numbers.{little_from-lt}
 use Rattle.geometry.specs.declared.shape.Shape.{Shape}
@@ -16,21 +16,14 @@ use Rattle.image.proofs.NodeRoundTrip.{read_node-spelled}
 use Rattle.codec.specs.Parts.{SpellsNone, IsDecoded}
 use Rattle.codec.proofs.NumberLemmas.{AreBytes}
 
-and_left : (a b : Bool) → (a && b) ≡ true → a ≡ true
-and_left true b h = refl
-and_left false b h = absurd cc
-
-and_right : (a b : Bool) → (a && b) ≡ true → b ≡ true
-and_right true b h = h
-and_right false b h = absurd cc
-
 same_bytes-true : (xs ys : List ℕ) → same_bytes xs ys ≡ true → xs ≡ ys
 same_bytes-true [] [] h = refl
 same_bytes-true [] (y ∷ ys) h = absurd cc
 same_bytes-true (x ∷ xs) [] h = absurd cc
 same_bytes-true (x ∷ xs) (y ∷ ys) h =
-    let first : x ≡ y = eqb-true x y (and_left (x == y) (same_bytes xs ys) h) in
-    let rest = same_bytes-true xs ys (and_right (x == y) (same_bytes xs ys) h) in
+    let both = and_parts (x == y) (same_bytes xs ys) h in
+    let first : x ≡ y = eqb-true x y both.0 in
+    let rest = same_bytes-true xs ys both.1 in
     cc
 
 number_fits : (bytes : List ℕ) (p : ℕ) → AreBytes bytes → number_at bytes p < 2 ^ 32
@@ -53,13 +46,14 @@ record Tells (shape : Shape) (block : List ℕ) (n : Node) : Type 0 where
 
 tells : (shape : Shape) (block : List ℕ) (n : Node) → is_spelled shape block n ≡ true → Tells shape block n
 tells shape block n h =
-    let first = and_left (same_bytes block (node_bytes shape n) && nat_lt n.class 3 && nat_lt 0 n.nid) (nat_lt 0 n.inode) h in
-    let second = and_left (same_bytes block (node_bytes shape n) && nat_lt n.class 3) (nat_lt 0 n.nid) first in
+    let first = and_parts (same_bytes block (node_bytes shape n) && nat_lt n.class 3 && nat_lt 0 n.nid) (nat_lt 0 n.inode) h in
+    let second = and_parts (same_bytes block (node_bytes shape n) && nat_lt n.class 3) (nat_lt 0 n.nid) first.0 in
+    let third = and_parts (same_bytes block (node_bytes shape n)) (nat_lt n.class 3) second.0 in
     record {
-      same = same_bytes-true block (node_bytes shape n) (and_left (same_bytes block (node_bytes shape n)) (nat_lt n.class 3) second);
-      class = ltb-true n.class 3 (and_right (same_bytes block (node_bytes shape n)) (nat_lt n.class 3) second);
-      nid = ltb-true 0 n.nid (and_right (same_bytes block (node_bytes shape n) && nat_lt n.class 3) (nat_lt 0 n.nid) first);
-      inode = ltb-true 0 n.inode (and_right (same_bytes block (node_bytes shape n) && nat_lt n.class 3 && nat_lt 0 n.nid) (nat_lt 0 n.inode) h);
+      same = same_bytes-true block (node_bytes shape n) third.0;
+      class = ltb-true n.class 3 third.1;
+      nid = ltb-true 0 n.nid second.1;
+      inode = ltb-true 0 n.inode first.1;
     }
 
 -- the fields of a block that pass the test are those of a node that it spells

@@ -123,24 +123,24 @@ spelled_by : (shape : Shape) (front : List ℕ) (n : Node) → IsNode shape n �
 spelled_by shape front n node e =
     (node, ap (λ (f : List ℕ). f ++ tail_of n.nid n.inode n.class) e ∙ sym (node_bytes-parts shape n))
 
+-- a node that is no inode
+abbrev lower_node : (nid inode class : ℕ) (addresses children : List ℕ) → Node
+lower_node nid inode class addresses children = record { nid = nid; inode = inode; class = class; length = 0; kind = File; addresses = addresses; children = children }
+
+lower_spelled : (shape : Shape) (front : List ℕ) (nid inode class : ℕ) (addresses children : List ℕ) → 1 ≤ nid → nid < 2 ^ 32 → 1 ≤ inode → inode < 2 ^ 32 → class < 3
+    → HasEntries shape (lower_node nid inode class addresses children) class → All (λ x. x < 2 ^ 32) addresses → All (λ x. x < 2 ^ 32) children
+    → front ≡ front_of shape (lower_node nid inode class addresses children) → Spells shape (front ++ tail_of nid inode class) (lower_node nid inode class addresses children)
+lower_spelled shape front nid inode class addresses children p q r s low entries all below is =
+    spelled_by shape front (lower_node nid inode class addresses children)
+    (record { nid = (p, q); inode = (r, s); class = low; length = omega arith; entries = entries; addresses = all; children = below; plain = inr (refl, refl) }) is
+
 pub direct_spelled : (shape : Shape) (front xs : List ℕ) (nid inode : ℕ) → 1 ≤ nid → nid < 2 ^ 32 → 1 ≤ inode → inode < 2 ^ 32
     → length front + 24 ≡ block_bytes shape → All (λ x. x < 2 ^ 32) xs → numbers xs ≡ front
     → Spells shape (front ++ tail_of nid inode 1)
     (record { nid = nid; inode = inode; class = 1; length = 0; kind = File; addresses = xs; children = [] })
 direct_spelled shape front xs nid inode p q r s long all is =
     let shaped = is_shape shape in let four = length-numbers xs in let same = ap length is in let size = shaped.node in
-    spelled_by shape front _
-    (record {
-      nid = (p, q);
-      inode = (r, s);
-      class = omega arith;
-      length = omega arith;
-      entries = (omega arith, refl);
-      addresses = all;
-      children = All-nil (λ x. x < 2 ^ 32);
-      plain = inr (refl, refl);
-    })
-    (sym is ∙ sym (append-nil (numbers xs)))
+    lower_spelled shape front nid inode 1 xs [] p q r s (omega arith) (omega arith, refl) all (All-nil (λ x. x < 2 ^ 32)) (sym is ∙ sym (append-nil (numbers xs)))
 
 pub indirect_spelled : (shape : Shape) (front xs : List ℕ) (nid inode : ℕ) → 1 ≤ nid → nid < 2 ^ 32 → 1 ≤ inode → inode < 2 ^ 32
     → length front + 24 ≡ block_bytes shape → All (λ x. x < 2 ^ 32) xs → numbers xs ≡ front
@@ -148,18 +148,7 @@ pub indirect_spelled : (shape : Shape) (front xs : List ℕ) (nid inode : ℕ) �
     (record { nid = nid; inode = inode; class = 2; length = 0; kind = File; addresses = []; children = xs })
 indirect_spelled shape front xs nid inode p q r s long all is =
     let shaped = is_shape shape in let four = length-numbers xs in let same = ap length is in let size = shaped.node in
-    spelled_by shape front _
-    (record {
-      nid = (p, q);
-      inode = (r, s);
-      class = omega arith;
-      length = omega arith;
-      entries = (refl, omega arith);
-      addresses = All-nil (λ x. x < 2 ^ 32);
-      children = all;
-      plain = inr (refl, refl);
-    })
-    (sym is)
+    lower_spelled shape front nid inode 2 [] xs p q r s (omega arith) (refl, omega arith) (All-nil (λ x. x < 2 ^ 32)) all (sym is)
 
 pub inode_spelled : (shape : Shape) (front head : List ℕ) (size : ℕ) (kind : Kind) (addresses children : List ℕ) (nid inode : ℕ)
     → 1 ≤ nid → nid < 2 ^ 32 → 1 ≤ inode → inode < 2 ^ 32 → size < 2 ^ 32
