@@ -70,6 +70,18 @@ module _ (book : TableId) (a a1 a2 : FileView) (h h1 h2 h3 : HandView) (home : h
       lodged = lodged g empty full (serves.others no_others (in_hand f is was.lodged));
     }
 
+-- the hand that a lodged account came into is of its books, and holds the file
+module _ (book : TableId) (a : FileView) (h h1 : HandView) (home : h ≡ at_home book) (is : h1 ≡ holding a h) where
+  pub lent_book : h1.book ≡ book
+  lent_book = ap (λ (v : HandView). v.book) (taken book a a a h h1 h h home is)
+
+  pub lent_all : {B L : Type 0} (f : FileState B L) → AreHeld f a.tickets a.tokens → InHand no_others f h1
+  lent_all f held = in_hand book a a a h h1 h h home f is held
+
+  -- what is lodged again is of the books that it was of
+  pub books_again : (a1 : FileView) (h2 : HandView) (other : TableId) → a1 ≡ emptied a → a.book ≡ book → other ≡ book → h2.book ≡ h1.book → (a1.book ≡ other) × (h2.book ≡ other)
+  books_again a1 h2 other empty its same kept = (ap (λ (v : FileView). v.book) empty ∙ its ∙ sym same, kept ∙ lent_book ∙ sym same)
+
 -- ---- the file that a pass shows
 
 abbrev some_content : Option Content → Content → Content
@@ -111,6 +123,14 @@ module _ {B L : Type 0} (book : TableId) (geometry : Geometry) (number : ℕ) (a
   -- the pass shows the file of the state
   pub pass_shows : (c : Content) → a.content ≡ Some c → as_file c ≡ file_of f
   pass_shows c same = shown_file f a.content c was.keeps.2 same
+
+-- a cell that is known to have a file
+module _ {B L : Type 0} (book : TableId) (geometry : Geometry) (number : ℕ) (a : FileView) (o : Option (FileState B L)) (f : FileState B L) (was : IsCell book geometry number a o) (is : o ≡ Some f) where
+  pub cell_has : IsCell book geometry number a (Some f)
+  cell_has = subst (IsCell book geometry number a) is was
+
+  pub cell_shows : (c : Content) → a.content ≡ Some c → as_file c ≡ file_of f
+  cell_shows = pass_shows book geometry number a f cell_has
 
 -- no pass shows a file that is not there
 pub no_cell : {B L : Type 0} (book : TableId) (geometry : Geometry) (number : ℕ) (a : FileView) → IsCell {B = B} {L = L} book geometry number a None → (c : Content) → a.content ≡ Some c → ⊥

@@ -1,30 +1,19 @@
-use Rattle.std.proofs.Common.{ap, sym, ◌∙◌}
+use Rattle.std.proofs.Common.{ap}
 use Rattle.claims.specs.Rules.{Ruled}
 use Rattle.books.specs.declared.claim.Layout.{Layout}
-use Rattle.books.specs.Accounts.{FileView, HandView}
 use Rattle.nodes.specs.Held.{no_others}
-use Rattle.file_cells.proofs.Lodging.{taken, in_hand, home_again, account_kept, lodged_again}
+use Rattle.file_cells.proofs.Lodging.{lent_book, lent_all, books_again, home_again, account_kept, lodged_again}
 use Rattle.file_cells.proofs.lodged.cut_lodged.Goals as goal
 
 pub cut_blocks-requires-clause-book : goal.cut_blocks-requires-clause-book
-cut_blocks-requires-clause-book g c =
-    let a = c.args.account.now in
-    let h = c.args.hand.now in
-    ap (λ (v : HandView). v.book) (taken g.V.Books.BooksName.books.book a a a h c.unlodge_all.new.permit h h c.requires.hand c.unlodge_all.ensures.permit)
+cut_blocks-requires-clause-book g c = lent_book g.V.Books.BooksName.books.book c.args.account.now c.args.hand.now c.unlodge_all.new.permit c.requires.hand c.unlodge_all.ensures.permit
 
 pub cut_blocks-requires-clause-held : goal.cut_blocks-requires-clause-held
-cut_blocks-requires-clause-held g c =
-    let a = c.args.account.now in
-    let h = c.args.hand.now in
-    (no_others, in_hand g.V.Books.BooksName.books.book a a a h c.unlodge_all.new.permit h h c.requires.hand c.args.file.now c.unlodge_all.ensures.permit c.requires.lodged.lodged)
+cut_blocks-requires-clause-held g c = (no_others, lent_all g.V.Books.BooksName.books.book c.args.account.now c.args.hand.now c.unlodge_all.new.permit c.requires.hand c.unlodge_all.ensures.permit c.args.file.now c.requires.lodged.lodged)
 
 pub lodge_all-requires : goal.lodge_all-requires
 lodge_all-requires g c =
-    let a = c.args.account.now in
-    let h = c.args.hand.now in
-    let here = ap (λ (v : HandView). v.book) (taken g.V.Books.BooksName.books.book a a a h c.unlodge_all.new.permit h h c.requires.hand c.unlodge_all.ensures.permit) in
-    let books = sym (ap (λ (b : Ruled Layout). b.book) c.books-2.ensures.books) in
-    record { books = (ap (λ (v : FileView). v.book) c.unlodge_all.ensures.file ∙ c.requires.book ∙ books, c.cut_blocks.ensures.serves.book ∙ here ∙ books) }
+    record { books = books_again g.V.Books.BooksName.books.book c.args.account.now c.args.hand.now c.unlodge_all.new.permit c.requires.hand c.unlodge_all.ensures.permit c.unlodge_all.new.file c.cut_blocks.new.hand _ c.unlodge_all.ensures.file c.requires.book (ap (λ (b : Ruled Layout). b.book) c.books-2.ensures.books) c.cut_blocks.ensures.serves.book }
 
 pub returns-clause-lodged : goal.returns-clause-lodged
 returns-clause-lodged g c =

@@ -2,34 +2,23 @@ use Rattle.std.proofs.Common.{ap, sym, ◌∙◌}
 use Rattle.geometry.specs.Shape.{block_bytes}
 use Rattle.claims.specs.Rules.{Ruled}
 use Rattle.books.specs.declared.claim.Layout.{Layout}
-use Rattle.books.specs.Accounts.{FileView, HandView}
 use Rattle.tree.proofs.Results.{if_ok, on_err}
 use Rattle.nodes.specs.File.{weight_of}
 use Rattle.nodes.specs.Held.{AreHeld, no_others}
-use Rattle.file_cells.proofs.Lodging.{taken, in_hand, home_again, account_kept, lodged, lodged_again}
+use Rattle.file_cells.proofs.Lodging.{lent_book, lent_all, books_again, home_again, account_kept, lodged, lodged_again}
 use Rattle.file_cells.proofs.Moves.{moved_lodged, keeps_lodged}
 use Rattle.file_cells.proofs.migrate.migrate_lodged.Given as given
 use Rattle.file_cells.proofs.migrate.migrate_lodged.Goals as goal
 
 pub migrate-done-requires-clause-book : goal.migrate-done-requires-clause-book
-migrate-done-requires-clause-book g c =
-    let a = c.args.account.now in
-    let h = c.args.hand.now in
-    ap (λ (v : HandView). v.book) (taken g.V.Books.BooksName.books.book a a a h c.unlodge_all.new.permit h h c.requires.hand c.unlodge_all.ensures.permit)
+migrate-done-requires-clause-book g c = lent_book g.V.Books.BooksName.books.book c.args.account.now c.args.hand.now c.unlodge_all.new.permit c.requires.hand c.unlodge_all.ensures.permit
 
 pub migrate-done-requires-clause-held : goal.migrate-done-requires-clause-held
-migrate-done-requires-clause-held g c =
-    let a = c.args.account.now in
-    let h = c.args.hand.now in
-    (no_others, in_hand g.V.Books.BooksName.books.book a a a h c.unlodge_all.new.permit h h c.requires.hand c.args.file.now c.unlodge_all.ensures.permit c.requires.lodged.lodged)
+migrate-done-requires-clause-held g c = (no_others, lent_all g.V.Books.BooksName.books.book c.args.account.now c.args.hand.now c.unlodge_all.new.permit c.requires.hand c.unlodge_all.ensures.permit c.args.file.now c.requires.lodged.lodged)
 
 pub lodge_all-requires : goal.lodge_all-requires
 lodge_all-requires g c =
-    let a = c.args.account.now in
-    let h = c.args.hand.now in
-    let here = ap (λ (v : HandView). v.book) (taken g.V.Books.BooksName.books.book a a a h c.unlodge_all.new.permit h h c.requires.hand c.unlodge_all.ensures.permit) in
-    let books = sym (ap (λ (b : Ruled Layout). b.book) c.books-2.ensures.books) in
-    record { books = (ap (λ (v : FileView). v.book) c.unlodge_all.ensures.file ∙ c.requires.book ∙ books, c.migrate-done.ensures.serves.book ∙ here ∙ books) }
+    record { books = books_again g.V.Books.BooksName.books.book c.args.account.now c.args.hand.now c.unlodge_all.new.permit c.requires.hand c.unlodge_all.ensures.permit c.unlodge_all.new.file c.migrate-done.new.hand _ c.unlodge_all.ensures.file c.requires.book (ap (λ (b : Ruled Layout). b.book) c.books-2.ensures.books) c.migrate-done.ensures.serves.book }
 
 pub returns-clause-lodged : goal.returns-clause-lodged
 returns-clause-lodged g c =
@@ -60,7 +49,7 @@ held_again g c =
     let h = c.args.hand.now in
     lodged book a c.unlodge_all.new.file c.lodge_all.new.file h c.unlodge_all.new.permit c.migrate-done.new.hand h c.requires.hand
     c.migrate-done.new.file c.unlodge_all.ensures.file c.lodge_all.ensures.file
-    (c.migrate-done.ensures.serves.others no_others (in_hand book a a a h c.unlodge_all.new.permit h h c.requires.hand c.args.file.now c.unlodge_all.ensures.permit c.requires.lodged.lodged))
+    (c.migrate-done.ensures.serves.others no_others (lent_all book a h c.unlodge_all.new.permit c.requires.hand c.unlodge_all.ensures.permit c.args.file.now c.requires.lodged.lodged))
 
 pub returns-clause-moved : goal.returns-clause-moved
 returns-clause-moved g c =
