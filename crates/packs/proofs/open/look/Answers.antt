@@ -1,4 +1,4 @@
-use Rattle.std.proofs.Common.{List, ℕ, sym, ◌∙◌, subst}
+use Rattle.std.proofs.Common.{List, ℕ, ◌∙◌, subst}
 use Rattle.device.proofs.Moments.{quiet_joined}
 use Rattle.packs.specs.Area.{reading_of}
 use Rattle.packs.specs.Device.{HoldEnds}

@@ -1,11 +1,11 @@
 use Rattle.std.proofs.Common.{◌≡◌, inl, inr, ℕ, ◌-◌, ◌≤◌, List, sym, ◌∙◌, subst, arith}
 use Rattle.device.specs.Disk.{Torn}
-use Rattle.device.proofs.Moments.{torn_leaves, torn_moments, quiet_moments}
+use Rattle.device.proofs.Moments.{torn_moments}
 use Rattle.packs.specs.Pack.{IsSettled, MayClear}
 use Rattle.packs.specs.Area.{footer_at, reading_of}
 use Rattle.packs.specs.Device.{IsSameArea, KeepsArea, IsFound}
 use Rattle.packs.specs.declared.choice.Found.{Found}
-use Rattle.packs.proofs.Fronts.{kept_alone}
+use Rattle.packs.proofs.Fronts.{kept_alone, written_moments}
 use Rattle.packs.proofs.Picking.{picked_settled}
 use Rattle.packs.proofs.Slots.{torn_area, torn_footer}
 use Rattle.packs.proofs.Steps.{footer_behind, footer_zero}
@@ -41,20 +41,14 @@ returns-in_err-write-clause-same g c =
 pub returns-in_err-sync-clause-any_moment : goal.returns-in_err-sync-clause-any_moment
 returns-in_err-sync-clause-any_moment g c =
     let area = g.M.Meta.seen c.args.meta.now in
-    let Q = KeepsArea area (MayClear (reading_of c.args.len) c.args.found.slot area) in
-    let step = torn_other c.args.len c.args.found area c.footer_at.result c.requires.found (omega (arith, c.if-found.false)) c.footer_at.ensures in
-    quiet_moments g.M.Meta.moment g.M.Meta.left_since g.M.Meta.seen g.M.Meta.may_leave _ _ _ Q
-    (torn_moments g.M.Meta.moment g.M.Meta.left_since g.M.Meta.may_leave g.met.M.Meta.only_now _ _ _ _ (λ d. d ≡ area) Q c.requires.durable c.write.ensures.crash c.write.ensures.time (still c.args.len c.args.found area) step)
-    (torn_leaves g.M.Meta.moment g.M.Meta.left_since g.M.Meta.may_leave _ _ _ _ (λ d. d ≡ area) Q c.requires.durable c.write.ensures.crash step) c.sync.ensures.quiet
+    written_moments g.M.Meta.moment g.M.Meta.left_since g.M.Meta.seen g.M.Meta.may_leave g.met.M.Meta.only_now _ _ _ _ _ (λ d. d ≡ area) (KeepsArea area (MayClear (reading_of c.args.len) c.args.found.slot area))
+    c.requires.durable c.write.ensures.crash c.write.ensures.time (still c.args.len c.args.found area) (torn_other c.args.len c.args.found area c.footer_at.result c.requires.found (omega (arith, c.if-found.false)) c.footer_at.ensures) c.sync.ensures.quiet
 
 pub returns-clause-any_moment : goal.returns-clause-any_moment
 returns-clause-any_moment g c =
     let area = g.M.Meta.seen c.args.meta.now in
-    let Q = KeepsArea area (MayClear (reading_of c.args.len) c.args.found.slot area) in
-    let step = torn_other c.args.len c.args.found area c.footer_at.result c.requires.found (omega (arith, c.if-found.false)) c.footer_at.ensures in
-    quiet_moments g.M.Meta.moment g.M.Meta.left_since g.M.Meta.seen g.M.Meta.may_leave _ _ _ Q
-    (torn_moments g.M.Meta.moment g.M.Meta.left_since g.M.Meta.may_leave g.met.M.Meta.only_now _ _ _ _ (λ d. d ≡ area) Q c.requires.durable c.write.ensures.crash c.write.ensures.time (still c.args.len c.args.found area) step)
-    (torn_leaves g.M.Meta.moment g.M.Meta.left_since g.M.Meta.may_leave _ _ _ _ (λ d. d ≡ area) Q c.requires.durable c.write.ensures.crash step) c.sync.ensures.quiet
+    written_moments g.M.Meta.moment g.M.Meta.left_since g.M.Meta.seen g.M.Meta.may_leave g.met.M.Meta.only_now _ _ _ _ _ (λ d. d ≡ area) (KeepsArea area (MayClear (reading_of c.args.len) c.args.found.slot area))
+    c.requires.durable c.write.ensures.crash c.write.ensures.time (still c.args.len c.args.found area) (torn_other c.args.len c.args.found area c.footer_at.result c.requires.found (omega (arith, c.if-found.false)) c.footer_at.ensures) c.sync.ensures.quiet
 
 pub returns-in_err-sync-clause-same : goal.returns-in_err-sync-clause-same
 returns-in_err-sync-clause-same g c =

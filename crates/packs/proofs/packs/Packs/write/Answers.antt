@@ -5,7 +5,8 @@ use Rattle.device.proofs.Moments.{joined, weaker}
 use Rattle.image.specs.Slots.{version_of}
 use Rattle.packs.specs.Pack.{IsSettled, Between}
 use Rattle.packs.specs.Area.{reading_of}
-use Rattle.packs.specs.Device.{KeepsArea, body_of}
+use Rattle.packs.specs.Device.{KeepsArea, IsSameArea, AreStaged, body_of, staged_in}
+use Rattle.packs.specs.declared.packs.Packs.{Packs}
 use Rattle.packs.proofs.Crash.{settled_between}
 use Rattle.packs.proofs.Fronts.{kept_weaker, kept_from}
 use Rattle.packs.proofs.Named.{old_named, new_named, settled_named, settled_self}
@@ -24,43 +25,36 @@ pub commit-requires-clause-next : goal.commit-requires-clause-next
 commit-requires-clause-next g c =
     read_version _ _ c.read_u32-version.ensures ∙ c.requires.next ∙ ap (λ (v : ℕ). v + 1) (sym c.stage.ensures.version)
 
+-- a body is staged and then made to count: a crash at any moment leaves the old pack or the new one
+both_moments : {D : Type 0} (moment : D → ℕ) (left_since : D → ℕ → List ℕ → Type 0) (seen : D → List ℕ) (may_leave : D → List ℕ → Type 0) → ((d : D) → may_leave d (seen d))
+    → (packs mid : Packs D) (after : D) (body : List ℕ) → packs.version ≡ version_of (body_of (reading_of packs.len) seen packs) → version_of body ≡ packs.version + 1
+    → AreStaged (reading_of mid.len) seen may_leave mid (body_of (reading_of packs.len) seen packs) body → mid.len ≡ packs.len → IsSameArea (seen packs.meta) (seen mid.meta)
+    → LeavesOnly moment left_since packs.meta mid.meta (KeepsArea (seen packs.meta) (IsSettled (reading_of packs.len) (body_of (reading_of packs.len) seen packs)))
+    → LeavesOnly moment left_since mid.meta after (KeepsArea (seen mid.meta) (Between (reading_of mid.len) (body_of (reading_of mid.len) seen mid) (staged_in (reading_of mid.len) seen mid)))
+    → LeavesOnly moment left_since packs.meta after (KeepsArea (seen packs.meta) (Between (reading_of packs.len) (body_of (reading_of packs.len) seen packs) body))
+both_moments moment left_since seen may_leave seen_is_left packs mid after body is is_next staged len same settling counting =
+    let old = body_of (reading_of packs.len) seen packs in
+    let next : version_of body ≡ version_of old + 1 = omega arith in
+    let area = seen packs.meta in
+    let B = Between (reading_of packs.len) old body in
+    let first = weaker moment left_since packs.meta mid.meta _ (KeepsArea area B)
+    (λ d. kept_weaker (IsSettled (reading_of packs.len) old) B area d (settled_between (reading_of packs.len) old body d next)) settling in
+    let second = subst (λ (n : ℕ). LeavesOnly moment left_since mid.meta after (KeepsArea (seen mid.meta) (Between (reading_of n) old body))) len
+    (subst (λ (l : List ℕ). LeavesOnly moment left_since mid.meta after (KeepsArea (seen mid.meta) (Between (reading_of mid.len) l body))) (old_named (reading_of mid.len) seen may_leave seen_is_left mid _ _ staged)
+    (subst (λ (l : List ℕ). LeavesOnly moment left_since mid.meta after (KeepsArea (seen mid.meta) (Between (reading_of mid.len) (body_of (reading_of mid.len) seen mid) l))) (new_named (reading_of mid.len) seen may_leave seen_is_left mid _ _ staged)
+    counting)) in
+    joined moment left_since packs.meta mid.meta after (KeepsArea area B) first
+    (weaker moment left_since mid.meta after (KeepsArea (seen mid.meta) B) (KeepsArea area B) (λ d. kept_from B area (seen mid.meta) d same) second)
+
 pub returns-in_err-commit-clause-any_moment : goal.returns-in_err-commit-clause-any_moment
 returns-in_err-commit-clause-any_moment g c =
-    let s = c.requires.settled in
-    let old = body_of (reading_of c.args.self.now.len) g.M.Meta.seen c.args.self.now in
-    let next : version_of c.args.body.now ≡ version_of old + 1 = omega (arith, s.version, c.requires.next) in
-    let staged = c.in_ok-stage.ensures.staged in
-    let area = g.M.Meta.seen c.args.self.now.meta in
-    let mid = g.M.Meta.seen c.stage.new.self.meta in
-    let B = Between (reading_of c.args.self.now.len) old c.args.body.now in
-    let P = KeepsArea area B in
-    let first = weaker g.M.Meta.moment g.M.Meta.left_since _ _ _ P
-    (λ d. kept_weaker (IsSettled (reading_of c.args.self.now.len) old) B area d (settled_between (reading_of c.args.self.now.len) old c.args.body.now d next)) c.stage.ensures.any_moment in
-    let second = subst (λ (n : ℕ). LeavesOnly g.M.Meta.moment g.M.Meta.left_since c.stage.new.self.meta c.commit.new.self.meta (KeepsArea mid (Between (reading_of n) old c.args.body.now))) c.stage.ensures.len
-    (subst (λ (l : List ℕ). LeavesOnly g.M.Meta.moment g.M.Meta.left_since c.stage.new.self.meta c.commit.new.self.meta (KeepsArea mid (Between (reading_of c.stage.new.self.len) l c.args.body.now))) (old_named (reading_of c.stage.new.self.len) g.M.Meta.seen g.M.Meta.may_leave g.met.M.Meta.seen_is_left c.stage.new.self _ _ staged)
-    (subst (λ (l : List ℕ). LeavesOnly g.M.Meta.moment g.M.Meta.left_since c.stage.new.self.meta c.commit.new.self.meta (KeepsArea mid (Between (reading_of c.stage.new.self.len) (body_of (reading_of c.stage.new.self.len) g.M.Meta.seen c.stage.new.self) l))) (new_named (reading_of c.stage.new.self.len) g.M.Meta.seen g.M.Meta.may_leave g.met.M.Meta.seen_is_left c.stage.new.self _ _ staged)
-    c.commit.ensures.any_moment)) in
-    joined g.M.Meta.moment g.M.Meta.left_since _ _ _ P first
-    (weaker g.M.Meta.moment g.M.Meta.left_since _ _ (KeepsArea mid B) P (λ d. kept_from B area mid d c.stage.ensures.same) second)
+    both_moments g.M.Meta.moment g.M.Meta.left_since g.M.Meta.seen g.M.Meta.may_leave g.met.M.Meta.seen_is_left c.args.self.now c.stage.new.self c.commit.new.self.meta c.args.body.now
+    c.requires.settled.version c.requires.next c.in_ok-stage.ensures.staged c.stage.ensures.len c.stage.ensures.same c.stage.ensures.any_moment c.commit.ensures.any_moment
 
 pub returns-clause-any_moment : goal.returns-clause-any_moment
 returns-clause-any_moment g c =
-    let s = c.requires.settled in
-    let old = body_of (reading_of c.args.self.now.len) g.M.Meta.seen c.args.self.now in
-    let next : version_of c.args.body.now ≡ version_of old + 1 = omega (arith, s.version, c.requires.next) in
-    let staged = c.in_ok-stage.ensures.staged in
-    let area = g.M.Meta.seen c.args.self.now.meta in
-    let mid = g.M.Meta.seen c.stage.new.self.meta in
-    let B = Between (reading_of c.args.self.now.len) old c.args.body.now in
-    let P = KeepsArea area B in
-    let first = weaker g.M.Meta.moment g.M.Meta.left_since _ _ _ P
-    (λ d. kept_weaker (IsSettled (reading_of c.args.self.now.len) old) B area d (settled_between (reading_of c.args.self.now.len) old c.args.body.now d next)) c.stage.ensures.any_moment in
-    let second = subst (λ (n : ℕ). LeavesOnly g.M.Meta.moment g.M.Meta.left_since c.stage.new.self.meta c.commit.new.self.meta (KeepsArea mid (Between (reading_of n) old c.args.body.now))) c.stage.ensures.len
-    (subst (λ (l : List ℕ). LeavesOnly g.M.Meta.moment g.M.Meta.left_since c.stage.new.self.meta c.commit.new.self.meta (KeepsArea mid (Between (reading_of c.stage.new.self.len) l c.args.body.now))) (old_named (reading_of c.stage.new.self.len) g.M.Meta.seen g.M.Meta.may_leave g.met.M.Meta.seen_is_left c.stage.new.self _ _ staged)
-    (subst (λ (l : List ℕ). LeavesOnly g.M.Meta.moment g.M.Meta.left_since c.stage.new.self.meta c.commit.new.self.meta (KeepsArea mid (Between (reading_of c.stage.new.self.len) (body_of (reading_of c.stage.new.self.len) g.M.Meta.seen c.stage.new.self) l))) (new_named (reading_of c.stage.new.self.len) g.M.Meta.seen g.M.Meta.may_leave g.met.M.Meta.seen_is_left c.stage.new.self _ _ staged)
-    c.commit.ensures.any_moment)) in
-    joined g.M.Meta.moment g.M.Meta.left_since _ _ _ P first
-    (weaker g.M.Meta.moment g.M.Meta.left_since _ _ (KeepsArea mid B) P (λ d. kept_from B area mid d c.stage.ensures.same) second)
+    both_moments g.M.Meta.moment g.M.Meta.left_since g.M.Meta.seen g.M.Meta.may_leave g.met.M.Meta.seen_is_left c.args.self.now c.stage.new.self c.commit.new.self.meta c.args.body.now
+    c.requires.settled.version c.requires.next c.in_ok-stage.ensures.staged c.stage.ensures.len c.stage.ensures.same c.stage.ensures.any_moment c.commit.ensures.any_moment
 
 pub of-requires : goal.of-requires
 of-requires g c = settled_self (reading_of c.commit.new.self.len) g.M.Meta.seen g.M.Meta.may_leave g.met.M.Meta.seen_is_left c.commit.new.self _ c.in_ok-commit.ensures.settled

@@ -1,10 +1,9 @@
-use Rattle.std.proofs.Common.{ℕ, List, [], ◌∷◌, length, sym, ◌∙◌, ap, subst, arith}
+use Rattle.std.proofs.Common.{ℕ, List, [], ◌∷◌, length, refl, sym, ◌∙◌, ap, subst, arith}
 use Rattle.device.specs.Disk.{Holds}
 use Rattle.packs.specs.Pack.{IsSettled}
 use Rattle.packs.specs.Area.{slot_at, footer_at, reading_of}
-use Rattle.packs.proofs.Fronts.{kept_alone}
+use Rattle.packs.proofs.Fronts.{kept_alone, same_area, written_same}
 use Rattle.packs.proofs.First.{first_settled}
-use Rattle.packs.specs.Device.{IsSameArea}
 use Rattle.packs.proofs.Slots.{torn_area, area_joined}
 use Rattle.packs.proofs.Steps.{area_stays, slot_behind, footer_behind}
 use Rattle.packs.proofs.packs.Packs.write_first.Goals as goal
@@ -27,55 +26,38 @@ returns-clause-settled g c =
 
 pub returns-in_err-write-clause-same : goal.returns-in_err-write-clause-same
 returns-in_err-write-clause-same g c =
-    let s1 = torn_area _ _ _ _ (omega (arith, footer_behind c.args.self.now.len 0, c.footer_at.ensures)) c.write.ensures.others in
-    s1
+    torn_area _ _ _ _ (omega (arith, footer_behind c.args.self.now.len 0, c.footer_at.ensures)) c.write.ensures.others
 
 pub returns-in_err-sync-clause-same : goal.returns-in_err-sync-clause-same
 returns-in_err-sync-clause-same g c =
-    let s1 = torn_area _ _ _ _ (omega (arith, footer_behind c.args.self.now.len 0, c.footer_at.ensures)) c.write.ensures.others in
-    let s2 = subst (λ (l : List ℕ). IsSameArea (g.M.Meta.seen c.args.self.now.meta) l) (sym c.sync.ensures.quiet.same) s1 in
-    s2
+    let cleared = written_same (g.M.Meta.seen c.args.self.now.meta) _ _ _ _ _ (same_area _ _ refl) (omega (arith, footer_behind c.args.self.now.len 0, c.footer_at.ensures)) c.write.ensures.others c.sync.ensures.quiet.same in
+    cleared
 
 pub returns-in_err-write-2-clause-same : goal.returns-in_err-write-2-clause-same
 returns-in_err-write-2-clause-same g c =
-    let s1 = torn_area _ _ _ _ (omega (arith, footer_behind c.args.self.now.len 0, c.footer_at.ensures)) c.write.ensures.others in
-    let s2 = subst (λ (l : List ℕ). IsSameArea (g.M.Meta.seen c.args.self.now.meta) l) (sym c.sync.ensures.quiet.same) s1 in
-    let s3 = area_joined _ _ _ s2 (torn_area _ _ _ _ (omega (arith, slot_behind c.args.self.now.len 1, c.slot_at.ensures)) c.write-2.ensures.others) in
-    s3
+    let cleared = written_same (g.M.Meta.seen c.args.self.now.meta) _ _ _ _ _ (same_area _ _ refl) (omega (arith, footer_behind c.args.self.now.len 0, c.footer_at.ensures)) c.write.ensures.others c.sync.ensures.quiet.same in
+    area_joined _ _ _ cleared (torn_area _ _ _ _ (omega (arith, slot_behind c.args.self.now.len 1, c.slot_at.ensures)) c.write-2.ensures.others)
 
 pub returns-in_err-sync-2-clause-same : goal.returns-in_err-sync-2-clause-same
 returns-in_err-sync-2-clause-same g c =
-    let s1 = torn_area _ _ _ _ (omega (arith, footer_behind c.args.self.now.len 0, c.footer_at.ensures)) c.write.ensures.others in
-    let s2 = subst (λ (l : List ℕ). IsSameArea (g.M.Meta.seen c.args.self.now.meta) l) (sym c.sync.ensures.quiet.same) s1 in
-    let s3 = area_joined _ _ _ s2 (torn_area _ _ _ _ (omega (arith, slot_behind c.args.self.now.len 1, c.slot_at.ensures)) c.write-2.ensures.others) in
-    let s4 = subst (λ (l : List ℕ). IsSameArea (g.M.Meta.seen c.args.self.now.meta) l) (sym c.sync-2.ensures.quiet.same) s3 in
-    s4
+    let cleared = written_same (g.M.Meta.seen c.args.self.now.meta) _ _ _ _ _ (same_area _ _ refl) (omega (arith, footer_behind c.args.self.now.len 0, c.footer_at.ensures)) c.write.ensures.others c.sync.ensures.quiet.same in
+    let body = written_same (g.M.Meta.seen c.args.self.now.meta) _ _ _ _ _ cleared (omega (arith, slot_behind c.args.self.now.len 1, c.slot_at.ensures)) c.write-2.ensures.others c.sync-2.ensures.quiet.same in
+    body
 
 pub returns-in_err-write-3-clause-same : goal.returns-in_err-write-3-clause-same
 returns-in_err-write-3-clause-same g c =
-    let s1 = torn_area _ _ _ _ (omega (arith, footer_behind c.args.self.now.len 0, c.footer_at.ensures)) c.write.ensures.others in
-    let s2 = subst (λ (l : List ℕ). IsSameArea (g.M.Meta.seen c.args.self.now.meta) l) (sym c.sync.ensures.quiet.same) s1 in
-    let s3 = area_joined _ _ _ s2 (torn_area _ _ _ _ (omega (arith, slot_behind c.args.self.now.len 1, c.slot_at.ensures)) c.write-2.ensures.others) in
-    let s4 = subst (λ (l : List ℕ). IsSameArea (g.M.Meta.seen c.args.self.now.meta) l) (sym c.sync-2.ensures.quiet.same) s3 in
-    let s5 = area_joined _ _ _ s4 (torn_area _ _ _ _ (omega (arith, footer_behind c.args.self.now.len 1, c.footer_at-2.ensures)) c.write-3.ensures.others) in
-    s5
+    let cleared = written_same (g.M.Meta.seen c.args.self.now.meta) _ _ _ _ _ (same_area _ _ refl) (omega (arith, footer_behind c.args.self.now.len 0, c.footer_at.ensures)) c.write.ensures.others c.sync.ensures.quiet.same in
+    let body = written_same (g.M.Meta.seen c.args.self.now.meta) _ _ _ _ _ cleared (omega (arith, slot_behind c.args.self.now.len 1, c.slot_at.ensures)) c.write-2.ensures.others c.sync-2.ensures.quiet.same in
+    area_joined _ _ _ body (torn_area _ _ _ _ (omega (arith, footer_behind c.args.self.now.len 1, c.footer_at-2.ensures)) c.write-3.ensures.others)
 
 pub returns-in_err-sync-3-clause-same : goal.returns-in_err-sync-3-clause-same
 returns-in_err-sync-3-clause-same g c =
-    let s1 = torn_area _ _ _ _ (omega (arith, footer_behind c.args.self.now.len 0, c.footer_at.ensures)) c.write.ensures.others in
-    let s2 = subst (λ (l : List ℕ). IsSameArea (g.M.Meta.seen c.args.self.now.meta) l) (sym c.sync.ensures.quiet.same) s1 in
-    let s3 = area_joined _ _ _ s2 (torn_area _ _ _ _ (omega (arith, slot_behind c.args.self.now.len 1, c.slot_at.ensures)) c.write-2.ensures.others) in
-    let s4 = subst (λ (l : List ℕ). IsSameArea (g.M.Meta.seen c.args.self.now.meta) l) (sym c.sync-2.ensures.quiet.same) s3 in
-    let s5 = area_joined _ _ _ s4 (torn_area _ _ _ _ (omega (arith, footer_behind c.args.self.now.len 1, c.footer_at-2.ensures)) c.write-3.ensures.others) in
-    let s6 = subst (λ (l : List ℕ). IsSameArea (g.M.Meta.seen c.args.self.now.meta) l) (sym c.sync-3.ensures.quiet.same) s5 in
-    s6
+    let cleared = written_same (g.M.Meta.seen c.args.self.now.meta) _ _ _ _ _ (same_area _ _ refl) (omega (arith, footer_behind c.args.self.now.len 0, c.footer_at.ensures)) c.write.ensures.others c.sync.ensures.quiet.same in
+    let body = written_same (g.M.Meta.seen c.args.self.now.meta) _ _ _ _ _ cleared (omega (arith, slot_behind c.args.self.now.len 1, c.slot_at.ensures)) c.write-2.ensures.others c.sync-2.ensures.quiet.same in
+    written_same (g.M.Meta.seen c.args.self.now.meta) _ _ _ _ _ body (omega (arith, footer_behind c.args.self.now.len 1, c.footer_at-2.ensures)) c.write-3.ensures.others c.sync-3.ensures.quiet.same
 
 pub returns-clause-same : goal.returns-clause-same
 returns-clause-same g c =
-    let s1 = torn_area _ _ _ _ (omega (arith, footer_behind c.args.self.now.len 0, c.footer_at.ensures)) c.write.ensures.others in
-    let s2 = subst (λ (l : List ℕ). IsSameArea (g.M.Meta.seen c.args.self.now.meta) l) (sym c.sync.ensures.quiet.same) s1 in
-    let s3 = area_joined _ _ _ s2 (torn_area _ _ _ _ (omega (arith, slot_behind c.args.self.now.len 1, c.slot_at.ensures)) c.write-2.ensures.others) in
-    let s4 = subst (λ (l : List ℕ). IsSameArea (g.M.Meta.seen c.args.self.now.meta) l) (sym c.sync-2.ensures.quiet.same) s3 in
-    let s5 = area_joined _ _ _ s4 (torn_area _ _ _ _ (omega (arith, footer_behind c.args.self.now.len 1, c.footer_at-2.ensures)) c.write-3.ensures.others) in
-    let s6 = subst (λ (l : List ℕ). IsSameArea (g.M.Meta.seen c.args.self.now.meta) l) (sym c.sync-3.ensures.quiet.same) s5 in
-    s6
+    let cleared = written_same (g.M.Meta.seen c.args.self.now.meta) _ _ _ _ _ (same_area _ _ refl) (omega (arith, footer_behind c.args.self.now.len 0, c.footer_at.ensures)) c.write.ensures.others c.sync.ensures.quiet.same in
+    let body = written_same (g.M.Meta.seen c.args.self.now.meta) _ _ _ _ _ cleared (omega (arith, slot_behind c.args.self.now.len 1, c.slot_at.ensures)) c.write-2.ensures.others c.sync-2.ensures.quiet.same in
+    written_same (g.M.Meta.seen c.args.self.now.meta) _ _ _ _ _ body (omega (arith, footer_behind c.args.self.now.len 1, c.footer_at-2.ensures)) c.write-3.ensures.others c.sync-3.ensures.quiet.same
