@@ -13,15 +13,14 @@ new-requires-clause-empty g c =
 pub loop-account-preserved : goal.loop-account-preserved
 loop-account-preserved g c =
     let at = c.loop-account in
-    let x = c.in-Some.account in
     let steps = c.in-Some.ensures.steps in
     let short = ap (λ l. length l) steps.0 in
     let gone = steps.1 in
-    let e = first_rest c.args.books.now.book at.number (into_iter_items at.account-iterator) (into_iter_items c.next.new.self) x steps.0 at.invariant.2 in
+    let e = first_rest c.args.books.now.book at.number (into_iter_items at.account-iterator) (into_iter_items c.next.new.self) c.in-Some.account steps.0 at.invariant.2 in
     let i = at.invariant in (
       omega arith,
       omega arith,
-      next_rest c.args.books.now.book at.number (into_iter_items at.account-iterator) (into_iter_items c.next.new.self) x steps.0 i.2,
+      next_rest c.args.books.now.book at.number (into_iter_items at.account-iterator) (into_iter_items c.next.new.self) c.in-Some.account steps.0 i.2,
       push_fresh c.args.books.now.book c.args.nodes at.number at.shards.items c.push_reserved.new.self.items c.in_ok-new.field-0 i.3
           (c.in_ok-new.ensures.shard ∙ ap (λ b. (let s : ShardNodes = record { book = b; shard = at.number; nodes = c.args.nodes; taken = [] } in s)) (ap (λ v. v.book) e)) c.in_ok-new.ensures.own c.push_reserved.ensures.items,
       (let room = c.push_reserved.ensures.capacity in omega (arith, i.4)),
