@@ -35,6 +35,12 @@ module _ {B : Type 0} (address : B → ℕ) (content : B → List ℕ) (size : �
   pub bytes_here : (i : ℕ) (d : B) → i < length blocks → bytes_at content blocks (suc i) ≡ content (get_or blocks i d)
   bytes_here i d within = let back : suc i - 1 ≡ i = omega arith in ap (λ k. get_or (map content blocks) k []) back ∙ get_or-map content blocks i d [] within
 
+  -- so what was read of the block at an address is the bytes there
+  pub bytes_read : (a : ℕ) (found : B) (bytes : List ℕ) → 0 < a → a - 1 < length blocks → bytes ≡ content found → found ≡ get_or blocks (a - 1) found → bytes ≡ bytes_at content blocks a
+  bytes_read a found bytes some within read value =
+      let back : suc (a - 1) ≡ a = omega arith in
+      read ∙ (ap content value ∙ sym (ap (bytes_at content blocks) (sym back) ∙ bytes_here (a - 1) found within))
+
   pub bytes_past : (i : ℕ) → length blocks ≤ i → bytes_at content blocks (suc i) ≡ []
   bytes_past i past = let back : suc i - 1 ≡ i = omega arith in let long = length-map blocks content in ap (λ k. get_or (map content blocks) k []) back ∙ get_or_past (map content blocks) i [] (omega arith)
 
