@@ -1,8 +1,10 @@
 -- What was read of a file is the file's image, and its faults are the file's.
-use Rattle.std.proofs.Common.{◌≡◌, sym, ◌∙◌, subst, ℕ, Some, List, length, inr}
+use Rattle.std.proofs.Common.{◌≡◌, sym, ap, ◌∙◌, subst, ℕ, Some, List, length, inr}
 use Rattle.geometry.specs.declared.geometry.Geometry.{Geometry}
 use Rattle.geometry.specs.declared.error.Error.{Error}
 use Rattle.geometry.specs.declared.error.Error.TheVariants.{NoMemory, BadGeometry, BadImage}
+use Rattle.image.specs.declared.image.NodeEntry.{NodeEntry}
+use Rattle.image.specs.Node.{Node}
 use Rattle.image.specs.Image.{Image}
 use Rattle.image.specs.Reading.{read_nodes}
 use Rattle.image.specs.Rules.{IsLeastFault}
@@ -17,6 +19,16 @@ pub record IsRead (geometry : Geometry) (file body : List ℕ) (tables image : I
   pub picked : picked_body geometry file ≡ Some body
   pub spelled : SpellsTables geometry body tables
   pub whole : image ≡ record tables { nodes = read_nodes geometry.shape (block_in geometry file) tables.node_table }
+
+-- tables with the nodes that were read of the blocks that their table names
+pub read_with : (geometry : Geometry) (file body : List ℕ) (seen : List NodeEntry) (tables : Image) (nodes : List Node) → length file ≡ file_bytes geometry → picked_body geometry file ≡ Some body
+    → SpellsTables geometry body tables → nodes ≡ read_nodes geometry.shape (block_in geometry file) seen → seen ≡ tables.node_table → IsRead geometry file body tables (record tables { nodes = nodes })
+read_with geometry file body seen tables nodes size picked spelled read same = record {
+  size = size;
+  picked = picked;
+  spelled = spelled;
+  whole = ap (λ (n : List Node). (let i : Image = record tables { nodes = n } in i)) (read ∙ ap (read_nodes geometry.shape (block_in geometry file)) same);
+}
 
 pub image_is : (geometry : Geometry) (file body : List ℕ) (tables image : Image) → IsRead geometry file body tables image → image ≡ file_image geometry file body
 image_is geometry file body tables image read = read.whole ∙ sym (spelled_back geometry body tables (block_in geometry file) read.spelled)
