@@ -1,22 +1,20 @@
 -- Which blocks of a segment a lawful image marks, and how many.
 use Rattle.std.proofs.Common.{◌≡◌, ℕ, suc, ◌+◌, ◌<◌, ◌==◌, Bool, true, false, List, [], ◌∷◌, length, get_or, fold, cond, if◌then◌else◌, Option, Some, None, inl, inr, refl, sym, ap, ◌∙◌, ne_eqb, arith}
 use Rattle.std.specs.Prelude.{count_by}
-use Rattle.std.proofs.lemmas.List.{length-map, get_or-map}
 use Rattle.geometry.specs.declared.geometry.Geometry.{Geometry}
 use Rattle.geometry.specs.declared.owner.Owner.{Owner}
 use Rattle.geometry.specs.declared.owner.Owner.TheVariants.{Node}
-use Rattle.geometry.specs.declared.owner.Mark.{Mark}
 use Rattle.geometry.specs.Shape.{segment_blocks}
 use Rattle.geometry.specs.Address.{address_of, segment_of, offset_of}
 use Rattle.geometry.specs.Summary.{owner_in}
 use Rattle.geometry.proofs.Addresses.{segment_of-address_of, offset_of-address_of}
-use Rattle.geometry.proofs.Summaries.{owner_in-summary_of}
 use Rattle.image.specs.Image.{Image, no_segment, info_of, is_marked, summary_at}
 use Rattle.image.specs.Walk.{names}
 use Rattle.image.specs.Rules.{IsLawful}
 use Rattle.image.proofs.Marking.{true_or_false}
 use Rattle.sit.specs.Summaries.{is_set, count_of}
 use Rattle.lawful_files.specs.Marked.{marked_owner}
+use Rattle.lawful_files.proofs.Marked.{name_at}
 use Rattle.lawful_files.proofs.Owners.{names_are_owned}
 use Rattle.segment_loading.specs.States.{HasOwners}
 
@@ -64,16 +62,8 @@ module _ (geometry : Geometry) (image : Image) where
     -- somebody owns a block that is marked
     owned : (a : ℕ) → is_marked geometry image a ≡ true → (owner : Owner) × (marked_owner geometry image a ≡ Some owner)
     owned a marked =
-        let ns = names geometry image in
-        let named = lawful 8 (omega arith) (omega arith) a marked in
-        let i = named.0 in
-        let d : Mark = record { address = a; owner = Node 0 } in
-        let low : i < length ns = let count = length-map ns (λ (n : Mark). n.address) in let some = named.1 in omega arith in
-        let n = get_or ns i d in
-        let is : n.address ≡ a = sym (get_or-map (λ (m : Mark). m.address) ns i d a low) ∙ named.2 in
-        let told = (lawful 9 (omega arith) (omega arith)).named i d low in
-        let owner : owner_in (summary_at image a) ≡ Some n.owner = ap (λ x. owner_in (summary_at image x)) (sym is) ∙ ap owner_in told ∙ owner_in-summary_of n.owner (names_are_owned geometry image lawful i d low) in
-        (n.owner, passed (is_marked geometry image a) (owner_in (summary_at image a)) None marked ∙ owner)
+        let name = name_at geometry image lawful (names_are_owned geometry image lawful) a marked in
+        ((get_or (names geometry image) name.0 (record { address = a; owner = Node 0 })).owner, passed (is_marked geometry image a) (owner_in (summary_at image a)) None marked ∙ name.1.owner)
 
     set_is : (s o : ℕ) → o < segment_blocks geometry.shape → is_set (marked_owner geometry image (address_of geometry.shape s o)) ≡ get_or (info_of image s).bits o false
     set_is s o within =

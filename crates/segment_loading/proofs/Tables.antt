@@ -1,9 +1,9 @@
 -- The table of tickets, while blocks come from the last address down, and what it weighs.
-use Rattle.std.proofs.Common.{◌≡◌, ℕ, zero, suc, ◌+◌, ◌<◌, List, [], ◌∷◌, length, get_or, set, replicate, Option, Some, None, inl, inr, refl, sym, ap, ◌∙◌, arith}
+use Rattle.std.proofs.Common.{◌≡◌, ℕ, zero, suc, ◌+◌, ◌<◌, List, [], ◌∷◌, ◌++◌, length, get_or, set, replicate, Option, Some, None, inl, inr, refl, sym, ap, ◌∙◌, arith}
 use Rattle.std.proofs.lemmas.Bool.{cases_eq}
 use Rattle.std.proofs.lemmas.List.{length-set, length-replicate, get_or-set_same, get_or-set_other}
 use Rattle.sums.specs.Weights.{weigh}
-use Rattle.sums.proofs.Weighing.{weigh-set}
+use Rattle.sums.proofs.Weighing.{weigh-set, weigh-append}
 use Rattle.books.specs.Lists.{sum_below}
 use Rattle.books.proofs.Lists.{sum_below_suc}
 use Rattle.geometry.specs.declared.geometry.Geometry.{Geometry}
@@ -28,6 +28,10 @@ all_none (suc n) (suc k) = all_none n k
 pub nothing_weighs : {A : Type 0} (h : A → ℕ) (n : ℕ) → weigh (in_place h) (replicate n None) ≡ 0
 nothing_weighs h zero = refl
 nothing_weighs h (suc n) = let rest = nothing_weighs h n in omega arith
+
+-- what a list weighs of which an item was taken off the end
+pub weigh_last : {A : Type 0} (f : A → ℕ) (xs front : List A) (x : A) → xs ≡ front ++ x ∷ [] → weigh f xs ≡ weigh f front + f x
+weigh_last f xs front x is = let all = ap (weigh f) is in let parts = weigh-append f front (x ∷ []) in omega arith
 
 -- what comes to an empty place brings its weight
 pub comes : {A : Type 0} (h : A → ℕ) (xs : List (Option A)) (k : ℕ) (x : A) → k < length xs → get_or xs k None ≡ None → weigh (in_place h) (set xs k (Some x)) ≡ weigh (in_place h) xs + h x

@@ -1,7 +1,9 @@
-use Rattle.std.proofs.Common.{◌≡◌, suc, ◌+◌, ◌∷◌, [], length, get_or, set, Some, None, sym, ap, subst, ◌∙◌, arith}
+use Rattle.std.proofs.Common.{◌≡◌, ℕ, suc, ◌+◌, ◌≤◌, List, ◌∷◌, [], length, get_or, set, Some, None, sym, ap, subst, ◌∙◌, arith}
 use Rattle.std.proofs.lemmas.List.{length-append, length-set, get_or-set_other}
 use Rattle.device.specs.Parts.{IsBlockRun}
+use Rattle.geometry.specs.declared.owner.Mark.{Mark}
 use Rattle.geometry.specs.Address.{address_of}
+use Rattle.geometry.specs.Area.{block_count}
 use Rattle.geometry.specs.Shape.{block_bytes}
 use Rattle.image.specs.View.{image_view}
 use Rattle.loading.specs.Goods.{in_place}
@@ -49,59 +51,62 @@ loop-done-preserved g c =
     let owners = subst (λ ss. HasOwners geometry image c.put.new.self.number left ss) (sym summaries)
     (subst (λ k. HasOwners geometry image k left (set was.summaries left owner)) (sym number_is)
     (owners_next geometry image was.number was.left left was.summaries owner (omega arith) (omega arith) before.owners owner_is)) in
+    let came : (length c.match-put.tickets.items ≡ block_count geometry + 1)
+    × ((k : ℕ) → k ≤ length front → get_or c.match-put.tickets.items k None ≡ None)
+    × ((bytes : ℕ → List ℕ) → HaveBytes B.content_of bytes c.args.blocks.now.items → AreTicketsPast geometry image bytes (length c.args.blocks.now.items) c.args.tickets.now.items
+    → AreTicketsPast geometry image bytes (length front) c.match-put.tickets.items)
+    × ((h : Mark → ℕ) → weigh h c.put.new.permit.tickets + weigh (in_place (λ (p : Placed). h p.mark)) c.args.tickets.now.items
+    ≡ weigh h c.args.permit.now.tickets + weigh (in_place (λ (p : Placed). h p.mark)) c.match-put.tickets.items)
+    × (c.put.new.permit.tokens ≡ c.args.permit.now.tokens) × (c.put.new.permit.book ≡ c.args.permit.now.book) =
     elim c.match-put.branch [
       | in-Some-put w ↦
           let t = w.in-Some-put.ticket in
-          let items = ap (λ v. v.items) w.tickets-is ∙ w.put_at.ensures in
-          let long = ap length items ∙ (length-set tickets a (Some t) ∙ before.places) in
-          record {
-            run = run_front B.address_of B.content_of (block_bytes geometry.shape) front x run;
-            so_many = omega arith;
-            capacity = c.pop.ensures.capacity ∙ before.capacity;
-            shape = ap (λ s. s.shape) c.put.ensures.segment ∙ before.shape;
-            number = number_is ∙ before.number;
-            book = ap (λ s. s.book) c.put.ensures.segment ∙ before.book;
-            left = omega arith;
-            owners = owners;
-            places = long;
-            none = λ k low. ap (λ ts. get_or ts k None) items ∙ (get_or-set_other tickets a k (Some t) None (λ e. absurd (omega arith)) ∙ before.none k (omega arith));
-            bytes = λ bytes have. bytes_front B.address_of B.content_of (block_bytes geometry.shape) front x bytes (subst (HaveBytes B.content_of bytes) popped (before.bytes bytes have));
-            tickets = λ bytes have are. subst (λ ts. AreTicketsPast geometry image bytes (length front) ts) (sym items)
+          let items = ap (λ v. v.items) w.tickets-is ∙ w.put_at.ensures in (
+            ap length items ∙ (length-set tickets a (Some t) ∙ before.places),
+            λ k low. ap (λ ts. get_or ts k None) items ∙ (get_or-set_other tickets a k (Some t) None (λ e. absurd (omega arith)) ∙ before.none k (omega arith)),
+            λ bytes have are. subst (λ ts. AreTicketsPast geometry image bytes (length front) ts) (sym items)
                 (comes_named B.address_of B.content_of (block_bytes geometry.shape) front x geometry image bytes tickets (subst (HaveBytes B.content_of bytes) popped (before.bytes bytes have)) a at
                 (subst (λ xs. AreTicketsPast geometry image bytes (length xs) tickets) popped (before.tickets bytes have are)) t (omega arith)
-                (sym c.owner_at-owner.ensures ∙ w.in-Some-put.ensures.ticket) (w.in-Some-put.ensures.block.0 ∙ sym named) w.in-Some-put.ensures.block.1);
-            hand = λ h.
+                (sym c.owner_at-owner.ensures ∙ w.in-Some-put.ensures.ticket) (w.in-Some-put.ensures.block.0 ∙ sym named) w.in-Some-put.ensures.block.1),
+            λ h.
                 (let so_far = before.hand h in
                 let more = ap (λ p. weigh h p.tickets) w.in-Some-put.ensures.hand in
                 let came = ap (weigh (in_place (λ (p : Placed). h p.mark))) items ∙ comes (λ (p : Placed). h p.mark) tickets a t (let long_before = before.places in omega arith) (before.none a (omega arith)) in
-                omega arith);
-            tokens = ap (λ p. p.tokens) w.in-Some-put.ensures.hand ∙ before.tokens;
-            account = ap (λ p. p.book) w.in-Some-put.ensures.hand ∙ before.account;
-          }
+                omega arith),
+            ap (λ p. p.tokens) w.in-Some-put.ensures.hand ∙ before.tokens,
+            ap (λ p. p.book) w.in-Some-put.ensures.hand ∙ before.account,
+          )
       | in-None-put w ↦
-          let items = ap (λ v. v.items) w.tickets-is in
-          record {
-            run = run_front B.address_of B.content_of (block_bytes geometry.shape) front x run;
-            so_many = omega arith;
-            capacity = c.pop.ensures.capacity ∙ before.capacity;
-            shape = ap (λ s. s.shape) c.put.ensures.segment ∙ before.shape;
-            number = number_is ∙ before.number;
-            book = ap (λ s. s.book) c.put.ensures.segment ∙ before.book;
-            left = omega arith;
-            owners = owners;
-            places = ap length items ∙ before.places;
-            none = λ k low. ap (λ ts. get_or ts k None) items ∙ before.none k (omega arith);
-            bytes = λ bytes have. bytes_front B.address_of B.content_of (block_bytes geometry.shape) front x bytes (subst (HaveBytes B.content_of bytes) popped (before.bytes bytes have));
-            tickets = λ bytes have are. subst (λ ts. AreTicketsPast geometry image bytes (length front) ts) (sym items)
+          let items = ap (λ v. v.items) w.tickets-is in (
+            ap length items ∙ before.places,
+            λ k low. ap (λ ts. get_or ts k None) items ∙ before.none k (omega arith),
+            λ bytes have are. subst (λ ts. AreTicketsPast geometry image bytes (length front) ts) (sym items)
                 (comes_unnamed B.address_of B.content_of (block_bytes geometry.shape) front x geometry image bytes tickets (subst (HaveBytes B.content_of bytes) popped (before.bytes bytes have)) a at
                 (subst (λ xs. AreTicketsPast geometry image bytes (length xs) tickets) popped (before.tickets bytes have are))
-                (sym c.owner_at-owner.ensures ∙ w.in-None-put.ensures.ticket));
-            hand = λ h.
+                (sym c.owner_at-owner.ensures ∙ w.in-None-put.ensures.ticket)),
+            λ h.
                 (let so_far = before.hand h in
                 let same = ap (λ p. weigh h p.tickets) w.in-None-put.ensures.hand in
                 let still = ap (weigh (in_place (λ (p : Placed). h p.mark))) items in
-                omega arith);
-            tokens = ap (λ p. p.tokens) w.in-None-put.ensures.hand ∙ before.tokens;
-            account = ap (λ p. p.book) w.in-None-put.ensures.hand ∙ before.account;
-          }
-    ]
+                omega arith),
+            ap (λ p. p.tokens) w.in-None-put.ensures.hand ∙ before.tokens,
+            ap (λ p. p.book) w.in-None-put.ensures.hand ∙ before.account,
+          )
+    ] in
+    record {
+      run = run_front B.address_of B.content_of (block_bytes geometry.shape) front x run;
+      so_many = omega arith;
+      capacity = c.pop.ensures.capacity ∙ before.capacity;
+      shape = ap (λ s. s.shape) c.put.ensures.segment ∙ before.shape;
+      number = number_is ∙ before.number;
+      book = ap (λ s. s.book) c.put.ensures.segment ∙ before.book;
+      left = omega arith;
+      owners = owners;
+      places = came.0;
+      none = came.1;
+      bytes = λ bytes have. bytes_front B.address_of B.content_of (block_bytes geometry.shape) front x bytes (subst (HaveBytes B.content_of bytes) popped (before.bytes bytes have));
+      tickets = came.2;
+      hand = came.3;
+      tokens = came.4;
+      account = came.5;
+    }
