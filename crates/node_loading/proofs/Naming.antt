@@ -1,7 +1,6 @@
 -- The blocks of nodes that a lawful image marks are those that its node address table names.
 use Rattle.std.proofs.Common.{◌≡◌, ℕ, zero, suc, ◌+◌, ◌<◌, ◌≤◌, ◌==◌, Bool, true, false, List, [], ◌∷◌, ◌++◌, length, get_or, if◌then◌else◌, Some, None, inl, inr, refl, sym, ap, subst, ◌∙◌, eq-eqb, eqb-true, arith}
 use Rattle.std.specs.List.{flat_map}
-use Rattle.std.proofs.lemmas.List.{length-map, get_or-map}
 use Rattle.sums.specs.Weights.{weigh}
 use Rattle.sums.proofs.Weighing.{weigh-append, weigh-at}
 use Rattle.geometry.specs.declared.geometry.Geometry.{Geometry}
@@ -18,6 +17,7 @@ use Rattle.image.specs.Rules.{IsLawful}
 use Rattle.image.proofs.Marking.{true_or_false}
 use Rattle.image.proofs.Testing.{marked_within}
 use Rattle.lawful_files.specs.Marked.{marked_owner}
+use Rattle.lawful_files.proofs.Marked.{name_at}
 use Rattle.lawful_files.proofs.Owners.{names_are_owned}
 
 -- 1 for a node's mark whose address is not that of its entry
@@ -94,17 +94,12 @@ module _ (geometry : Geometry) (image : Image) (lawful : IsLawful geometry image
   owner_named a owner is = elim (true_or_false (is_marked geometry image a)) [
     | inr un ↦ absurd (some_apart owner (sym (ap (λ b. if b then owner_in (summary_at image a) else None) un) ∙ is))
     | inl marked ↦
-        let ns = names geometry image in
-        let named = lawful 8 (omega arith) (omega arith) a marked in
-        let i = named.0 in
-        let d : Mark = record { address = a; owner = Node 0 } in
-        let low : i < length ns = let count = length-map ns (λ (n : Mark). n.address) in let some = named.1 in omega arith in
-        let n = get_or ns i d in
-        let at : n.address ≡ a = sym (get_or-map (λ (m : Mark). m.address) ns i d a low) ∙ named.2 in
-        let told = (lawful 9 (omega arith) (omega arith)).named i d low in
-        let its : owner_in (summary_at image a) ≡ Some n.owner = ap (λ x. owner_in (summary_at image x)) (sym at) ∙ ap owner_in told ∙ owner_in-summary_of n.owner (names_are_owned geometry image lawful i d low) in
+        let name = name_at geometry image lawful (names_are_owned geometry image lawful) a marked in
+        let n = get_or (names geometry image) name.0 (record { address = a; owner = Node 0 }) in
+        let at : n.address ≡ a = name.1.at in
+        let its : owner_in (summary_at image a) ≡ Some n.owner = name.1.owner in
         let same : n.owner ≡ owner = some_same n.owner owner (sym its ∙ (sym (chosen (is_marked geometry image a) (owner_in (summary_at image a)) None marked) ∙ is)) in
-        (i, low, λ k. record { address = at k; owner = same k })
+        (name.0, name.1.low, λ k. record { address = at k; owner = same k })
   ]
 
   -- a block that a node owns has the address of the node's entry
