@@ -67,20 +67,16 @@ returns-in_err-read-clause-failures g c =
 
 pub returns-in_err-decode_node-2-clause-failures : goal.returns-in_err-decode_node-2-clause-failures
 returns-in_err-decode_node-2-clause-failures g c =
-    let failed = g.B.Block.failed in
-    let blocks = c.args.blocks.now.items in
     let long = c.args.blocks.now.ok.0 in
     let count = c.len.ensures in
-    let same = fails_as_often failed blocks (c.args.address - 1) c.read.new.self c.index_mut.result.now (omega arith) (c.in_ok-read.ensures.sound ∙ ap failed c.index_mut.ensures.value) in
+    let same = fails_as_often g.B.Block.failed c.args.blocks.now.items (c.args.address - 1) c.read.new.self c.index_mut.result.now (omega arith) (c.in_ok-read.ensures.sound ∙ ap g.B.Block.failed c.index_mut.ensures.value) in
     omega arith
 
 pub returns-clause-failures : goal.returns-clause-failures
 returns-clause-failures g c =
-    let failed = g.B.Block.failed in
-    let blocks = c.args.blocks.now.items in
     let long = c.args.blocks.now.ok.0 in
     let count = c.len.ensures in
-    let same = fails_as_often failed blocks (c.args.address - 1) c.read.new.self c.index_mut.result.now (omega arith) (c.in_ok-read.ensures.sound ∙ ap failed c.index_mut.ensures.value) in
+    let same = fails_as_often g.B.Block.failed c.args.blocks.now.items (c.args.address - 1) c.read.new.self c.index_mut.result.now (omega arith) (c.in_ok-read.ensures.sound ∙ ap g.B.Block.failed c.index_mut.ensures.value) in
     omega arith
 
 pub returns-clause-spelled : goal.returns-clause-spelled
