@@ -7,7 +7,7 @@ use crate::{calls, checkpoints, cleaning, mounts, threads};
 use device::{MemBlock, MemMeta};
 use geometry::{Error, Geometry};
 use opening::{Seat, Volume};
-use shared_names::SharedName;
+use volume_names::SharedName;
 use std::alloc::Global;
 use std::fmt::Write;
 use std::io;

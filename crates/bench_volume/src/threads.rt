@@ -14,7 +14,7 @@ use crate::task::Task;
 use device::{MemBlock, MemMeta};
 use geometry::Shape;
 use opening::Volume;
-use shared_names::SharedName;
+use volume_names::SharedName;
 pub use side::Work;
 use side::measure_on;
 use std::alloc::{AllocError, Global};

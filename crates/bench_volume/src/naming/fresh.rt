@@ -1,5 +1,6 @@
 //! A new volume.
 ghost use Rattle.std.specs.Prelude.{◌≡◌};
+ghost use Rattle.volume_names.specs.Picked.{HaveNames};
 
 use crate::fault::Fault;
 use crate::found::Found;
@@ -62,10 +63,7 @@ fn with_queues<
     opened: Opened<L, W, N, MemMeta, MemBlock>,
     task: Task,
 ) -> Result<Found, Fault>
-    requires ordinary { opened.queues.ordinary ≡ P.ordinary }
-    requires reserve { opened.queues.reserve ≡ P.reserve }
-    requires turns { opened.channel.turns ≡ T.turns }
-    requires key { opened.channel.key ≡ T.key }
+    requires named { HaveNames opened.queues opened.channel P.ordinary P.reserve T.turns T.key }
 {
     match opened.name::<P, T, R>(rt) {
         Ok((volume, seats)) => task.measure(rt, alloc, volume, seats),

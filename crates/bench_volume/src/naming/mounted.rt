@@ -1,6 +1,7 @@
 //! A volume that is closed, and mounted again.
 ghost use Rattle.std.specs.Prelude.{◌≡◌, ℕ, IfOk};
 ghost use Rattle.device.specs.Parts.{IsBlockRun};
+ghost use Rattle.volume_names.specs.Picked.{HaveNames};
 
 use crate::fault::Fault;
 use device::{Block, MemBlock, MemMeta, Parts};
@@ -60,10 +61,7 @@ fn with_opened<
     T: TurnName,
     R: Runtime + Wait,
 >(rt: &R, opened: MountedQueues<L, W, N, MemMeta, MemBlock>, start: Instant) -> Result<Again, Fault>
-    requires ordinary { opened.queues.ordinary ≡ P.ordinary }
-    requires reserve { opened.queues.reserve ≡ P.reserve }
-    requires turns { opened.channel.turns ≡ T.turns }
-    requires key { opened.channel.key ≡ T.key }
+    requires named { HaveNames opened.queues opened.channel P.ordinary P.reserve T.turns T.key }
 {
     match opened.name::<P, T, R>(rt) {
         Ok((volume, _seats, _passes)) => {

@@ -8,7 +8,7 @@ use geometry::{Error, Kind};
 use jobs::run_side_by_side;
 use names::VolumeName;
 use opening::Volume;
-use shared_names::SharedName;
+use volume_names::SharedName;
 use std::alloc::Global;
 use std::fmt::Write;
 use std::io;
