@@ -46,9 +46,7 @@ const MEASURED: Size = Size {
 /// One volume.
 pub fn tasks(alloc: Global, is_measure: bool) -> Result<Vec<Task>, AllocError> {
     let size = if is_measure { MEASURED } else { SHOWN };
-    let mut tasks = Vec::new(alloc);
-    tasks.push(Task::Checkpoints(size))?;
-    Ok(tasks)
+    Ok(Vec::from_array(alloc, [Task::Checkpoints(size)])?)
 }
 
 /// Measures checkpoints, a close and a mount on a new volume, which is left.

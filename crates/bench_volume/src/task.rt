@@ -7,13 +7,13 @@ use crate::{calls, checkpoints, cleaning, mounts, threads};
 use device::{MemBlock, MemMeta};
 use geometry::{Error, Geometry};
 use opening::{Seat, Volume};
-use volume_names::SharedName;
 use std::alloc::Global;
 use std::fmt::Write;
 use std::io;
 use std::rt::Runtime;
 use std::sync::Wait;
 use std::thread::Threads;
+use volume_names::SharedName;
 
 /// A measurement on one new volume.
 #[derive(Clone, Copy)]

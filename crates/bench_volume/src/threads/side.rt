@@ -8,7 +8,6 @@ use geometry::{Error, Kind};
 use jobs::run_side_by_side;
 use names::VolumeName;
 use opening::Volume;
-use volume_names::SharedName;
 use std::alloc::Global;
 use std::fmt::Write;
 use std::io;
@@ -16,6 +15,7 @@ use std::rt::Runtime;
 use std::sync::Wait;
 use std::thread::Threads;
 use std::time::{Duration, Instant};
+use volume_names::SharedName;
 
 /// How many blocks were written first, how many calls all threads did then, and the time from the first start to the last end.
 #[derive(Clone, Copy)]

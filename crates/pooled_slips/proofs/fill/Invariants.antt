@@ -1,6 +1,6 @@
 use Rattle.std.proofs.Common.{◌≡◌, vec_len}
 use Rattle.std.specs.List.{All}
-use Rattle.pool_tests.proofs.tests.fill.Given as goal
+use Rattle.pooled_slips.proofs.fill.Given as goal
 
 abbrev pub invariant-loop-slip : goal.invariant-loop-slip
 invariant-loop-slip g l = record {
