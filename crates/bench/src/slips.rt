@@ -8,6 +8,7 @@ ghost use Rattle.words.specs.Tokens.{fresh_slips};
 use geometry::Error;
 use names::{PoolName, WordsName};
 use pool::{Opened, Pool, PoolPass};
+use pooled_slips::{discard, fill, put};
 use std::alloc::Global;
 use std::marker::Brand;
 use std::sync::Wait;
@@ -16,48 +17,6 @@ use std::thread::Threads;
 use words::{Dealt, FreeSlip, Words};
 
 const SEGMENTS: u32 = 16;
-
-fn discard(mut slips: Vec<FreeSlip>) {
-    while let Some(slip) = slips.pop() {
-        drop(slip.store());
-    }
-    slips.destroy_empty();
-}
-
-// Puts a slip into the pool, and tells whether it went in. One that does not is lost.
-fn put<W: WordsName, J: PoolName, R: Wait>(
-    rt: &R,
-    pool: &Pool<W, J>,
-    pass: &mut PoolPass<W, J>,
-    slip: FreeSlip,
-) -> bool
-    requires words { slip.table ≡ W.words }
-    ensures parts { pass.new.ordinary.parts ≡ pass.old.ordinary.parts }
-{
-    match pool.put(rt, pass, slip) {
-        Ok(()) => true,
-        Err(back) => {
-            drop(back.store());
-            false
-        }
-    }
-}
-
-// Puts all slips into the pool.
-fn fill<W: WordsName, J: PoolName, R: Wait>(
-    rt: &R,
-    pool: &Pool<W, J>,
-    pass: &mut PoolPass<W, J>,
-    mut slips: Vec<FreeSlip>,
-)
-    requires slips { All (λ s. s.table ≡ W.words) slips.items }
-    ensures parts { pass.new.ordinary.parts ≡ pass.old.ordinary.parts }
-{
-    while let Some(slip) = slips.pop() {
-        put(rt, pool, pass, slip);
-    }
-    slips.destroy_empty();
-}
 
 // Takes a slip and puts it back, so many times, and tells how often there was one and it went in.
 fn take_and_put<W: WordsName, J: PoolName, R: Wait>(

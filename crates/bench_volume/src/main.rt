@@ -1,85 +1,91 @@
-//! How long the calls of a volume's files take on one thread.
+//! What a volume's calls cost: five measurements, each on new volumes in memory.
 //!
-//! At each depth of the index tree a new volume of 16 segments gets a file whose first blocks are appended, then written
-//! again at indexes in no order, and then read; then readers of it are taken and closed, and one shows its blocks. With no
-//! argument the volumes are tiny, a few blocks are taken, and what was done is counted. With `--measure` they have the kernel's
-//! shape, and the nanoseconds a call are told, beside those of one copy of as many bytes, and of finding the path to an index.
+//! - `calls`: how long appends, overwrites, reads and readers take on one thread, at each depth of the index tree.
+//! - `threads`: how long an overwrite takes where threads write side by side.
+//! - `checkpoints`: how long checkpoints take, a close and a mount.
+//! - `cleaning`: how many blocks a clean moves for each block that is written.
+//! - `mounts`: how long a mount takes of an image with very many nodes, beside a check of the same bytes.
+//!
+//! With no argument the volumes are tiny, and what was done is counted. With `--measure` they have the kernel's shape, and times
+//! are told. A measurement's name as an argument picks that one alone.
 #![tactic(auto)]
 
-mod bare;
+mod asked;
+mod calls;
+mod checkpoints;
+mod cleaning;
+mod closing;
 mod depth;
 mod desk;
-mod looking;
+mod fault;
+mod found;
+mod measurement;
+mod mounts;
 mod naming;
-mod work;
+mod places;
+mod task;
+mod threads;
 
-use depth::DEPTHS;
-use geometry::Shape;
-use measuring::is_measure;
-use naming::measure;
+use asked::{Asked, asked};
+use fault::Fault;
+use measurement::{MEASUREMENTS, Measurement};
+use naming::fresh::measure;
+use std::alloc::Global;
 use std::fmt::Write;
 use std::io;
 use std::rt::Runtime;
-use work::Work;
+use std::sync::Wait;
+use std::thread::Threads;
+use task::Task;
 
-// What is measured: so many blocks of a file, so many writes and reads of them, and so many readers.
-#[derive(Clone, Copy)]
-pub struct Size {
-    pub shape: Shape,
-    pub blocks: u32,
-    pub calls: u32,
-    pub readers: u32,
-}
-
-const SHOWN: Size = Size {
-    shape: Shape::TINY,
-    blocks: 3,
-    calls: 10,
-    readers: 2,
-};
-
-const MEASURED: Size = Size {
-    shape: Shape::KERNEL,
-    blocks: 900,
-    calls: 4000,
-    readers: 200,
-};
+const USAGE: &str =
+    "use: bench_volume [--measure] [calls | threads | checkpoints | cleaning | mounts]";
 
 fn main(rt: HostRuntime) -> io::Result<()> {
-    let is_measure = is_measure(&rt)?;
-    let size = if is_measure { MEASURED } else { SHOWN };
-    let mut text = String::new(rt.alloc());
-    for depth in DEPTHS {
-        let number = depth.number();
-        match measure(&rt, rt.alloc(), size, depth)? {
-            None => write!(text, "depth {number}: refused\n")?,
-            Some(work) if is_measure => tell_times(&mut text, number, work)?,
-            Some(work) => tell_counts(&mut text, number, work)?,
+    let Some(Asked { is_measure, only }) = asked(&rt)? else {
+        eprintln!(rt; "{USAGE}")?;
+        return Err(io::Error::from(io::ErrorKind::InvalidInput));
+    };
+    for measurement in MEASUREMENTS {
+        if only.is_none_or(|one| one == measurement) {
+            tell_measurement(&rt, rt.alloc(), measurement, is_measure)?;
         }
     }
-    rt.print(text.as_str())
-}
-
-// How many calls were done at a depth.
-fn tell_counts(text: &mut String, depth: u32, work: Work) -> io::Result<()> {
-    let (append, overwrite) = (work.append.calls, work.overwrite.calls);
-    let (read, reader, look) = (work.read.calls, work.reader.calls, work.look.calls);
-    let (path, entries) = (work.path.calls, work.entries);
-    write!(
-        text,
-        "depth {depth}: {append} appended, {overwrite} overwritten, {read} read, {reader} readers, {look} shown, {path} found of sum {entries}\n"
-    )?;
     Ok(())
 }
 
-// The nanoseconds of a call at a depth.
-fn tell_times(text: &mut String, depth: u32, work: Work) -> io::Result<()> {
-    let (append, overwrite) = (work.append.each(), work.overwrite.each());
-    let (read, reader, look) = (work.read.each(), work.reader.each(), work.look.each());
-    let (path, copy) = (work.path.each(), work.copy.each());
-    write!(
-        text,
-        "depth {depth}: append {append} ns, overwrite {overwrite} ns, read {read} ns, reader {reader} ns, look {look} ns, path {path} ns, copy {copy} ns\n"
-    )?;
+// Measures on one volume after the other, and prints the lines of each as soon as it is done.
+fn tell_measurement<R: Runtime + Threads + Wait + Sync>(
+    rt: &R,
+    alloc: Global,
+    measurement: Measurement,
+    is_measure: bool,
+) -> io::Result<()> {
+    let name = measurement.name();
+    println!(rt; "{name}:")?;
+    for task in measurement.tasks(alloc, is_measure)? {
+        let mut text = String::new(alloc);
+        tell_task(rt, alloc, task, is_measure, &mut text)?;
+        rt.print(text.as_str())?;
+    }
     Ok(())
+}
+
+// Measures on one volume, and adds its lines.
+fn tell_task<R: Runtime + Threads + Wait + Sync>(
+    rt: &R,
+    alloc: Global,
+    task: Task,
+    is_measure: bool,
+    text: &mut String,
+) -> io::Result<()> {
+    task.tell(text)?;
+    match measure(rt, alloc, task) {
+        Ok(found) => found.tell(text, is_measure),
+        Err(Fault::Refused(error)) => {
+            write!(text, "refused {error}\n")?;
+            Ok(())
+        }
+        Err(Fault::Failed(error)) => Err(error),
+    }
 }

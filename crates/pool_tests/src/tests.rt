@@ -7,6 +7,7 @@ ghost use Rattle.pool.specs.Law.{all_parts};
 use geometry::Error;
 use names::{Named, PoolName, VolumeName, WordsName};
 use pool::{Opened, Pool, PoolPass};
+use pooled_slips::{discard, fill, put};
 use std::alloc::Global;
 use std::marker::Brand;
 use std::sync::{Mutex, Wait};
@@ -23,52 +24,6 @@ enum Trial {
     InOrder,
     TwoThreads,
     FourThreads,
-}
-
-fn discard(mut slips: Vec<FreeSlip>) {
-    while let Some(slip) = slips.pop() {
-        drop(slip.store());
-    }
-    slips.destroy_empty();
-}
-
-// Tells whether the slip went in.
-fn put<W: WordsName, J: PoolName, R: Wait>(
-    rt: &R,
-    pool: &Pool<W, J>,
-    pass: &mut PoolPass<W, J>,
-    slip: FreeSlip,
-) -> bool
-    requires words { slip.table ≡ W.words }
-    ensures parts { pass.new.ordinary.parts ≡ pass.old.ordinary.parts }
-{
-    match pool.put(rt, pass, slip) {
-        Ok(()) => true,
-        Err(back) => {
-            drop(back.store());
-            false
-        }
-    }
-}
-
-// Puts all slips, the last one first, and tells how many went in.
-fn fill<W: WordsName, J: PoolName, R: Wait>(
-    rt: &R,
-    pool: &Pool<W, J>,
-    pass: &mut PoolPass<W, J>,
-    mut slips: Vec<FreeSlip>,
-) -> u32
-    requires words { All (λ s. s.table ≡ W.words) slips.items }
-    ensures parts { pass.new.ordinary.parts ≡ pass.old.ordinary.parts }
-{
-    let mut count = 0u32;
-    while let Some(slip) = slips.pop() {
-        if put(rt, pool, pass, slip) {
-            count = count.wrapping_add(1);
-        }
-    }
-    slips.destroy_empty();
-    count
 }
 
 // Takes all slips of the ordinary queue, and then all others, and tells their segments.

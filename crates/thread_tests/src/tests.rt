@@ -4,24 +4,34 @@ mod gates;
 mod job;
 mod looks;
 mod open;
+mod part;
 mod turns;
 mod waits;
 
 use crowd::Crowd;
 use device::MemMeta;
 use geometry::Kind;
-use names::{BooksName, GeometryName, Named, PoolName, TurnName, VolumeName, WordsName};
+use names::VolumeName;
 use opening::{FilePass, Seat, Volume};
+use part::Part;
 use std::alloc::Global;
 use std::process::Abort;
 use std::sync::Wait;
 use std::test::*;
 use std::thread::Threads;
+use volume_names::SharedName;
 use waits::{GatedBlock, Gates};
 
-// What the threads do: a crowd, or one of the others.
+// What the threads do: a part of a script, or one of the others.
 #[derive(Clone, Copy)]
-enum Row {
+enum Row<'a> {
+    Part(Part<'a>),
+    Alone(Alone),
+}
+
+// What threads do without a script: a crowd, or one of the others.
+#[derive(Clone, Copy)]
+enum Alone {
     Crowd(Crowd),
     LookBesideAWriter,
     WriteInTurns,
@@ -29,28 +39,21 @@ enum Row {
     WriteBesideACleaner,
 }
 
-// Does a row on a volume without files, and answers the passes of its files. All seats are there again.
-fn run_row<
-    L: BooksName + Send + Sync,
-    W: WordsName + Send + Sync,
-    N: GeometryName + Send + Sync,
-    P: PoolName + Send + Sync,
-    T: TurnName + Send + Sync,
-    R: Threads + Wait + Abort + Sync,
->(
+// Does what threads do without a script, on a volume without files, and answers the passes of its files. All seats are there again.
+fn run_alone<V: SharedName, R: Threads + Wait + Abort + Sync>(
     rt: &R,
     alloc: Global,
-    volume: &Volume<Named<L, W, P, T, N>, MemMeta, GatedBlock>,
-    seats: &mut Vec<Seat<Named<L, W, P, T, N>>>,
+    volume: &Volume<V, MemMeta, GatedBlock>,
+    seats: &mut Vec<Seat<V>>,
     gates: &Gates,
-    row: Row,
-) -> Vec<FilePass<Named<L, W, P, T, N>>> {
+    row: Alone,
+) -> Vec<FilePass<V>> {
     match row {
-        Row::Crowd(crowd) => crowd::work_side_by_side(rt, alloc, volume, seats, crowd),
-        Row::LookBesideAWriter => looks::look_beside_a_writer(rt, alloc, volume, seats),
-        Row::WriteInTurns => turns::write_in_turns(rt, alloc, volume),
-        Row::WriteInTwoLogs => gates::write_in_two_logs(rt, alloc, volume, gates),
-        Row::WriteBesideACleaner => gates::write_beside_a_cleaner(rt, alloc, volume, gates),
+        Alone::Crowd(crowd) => crowd::work_side_by_side(rt, alloc, volume, seats, crowd),
+        Alone::LookBesideAWriter => looks::look_beside_a_writer(rt, alloc, volume, seats),
+        Alone::WriteInTurns => turns::write_in_turns(rt, alloc, volume),
+        Alone::WriteInTwoLogs => gates::write_in_two_logs(rt, alloc, volume, gates),
+        Alone::WriteBesideACleaner => gates::write_beside_a_cleaner(rt, alloc, volume, gates),
     }
 }
 

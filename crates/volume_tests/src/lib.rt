@@ -1,4 +1,4 @@
-//! Tests of the volume for many threads by its public calls, which prove nothing of it again.
+//! Tests of the volume on one thread by its public calls, new and mounted again, which prove nothing of it again.
 #![tactic(auto)]
 
 #[cfg(test)]

@@ -1,147 +1,257 @@
-//! The volume's rows: which numbers files get, and where blocks go.
-mod files;
-mod leaving;
-mod moves;
-mod open;
-mod refusals;
-mod space;
+//! What is done with a volume, step by step, and what it leaves.
+ghost use Rattle.std.specs.Prelude.{◌≡◌, vec_len};
+ghost use Rattle.device.specs.Parts.{IsBlockRun};
+ghost use Rattle.geometry.specs.Shape.{block_bytes};
 
-use device::{Block, MemBlock, MemMeta, Parts};
-use geometry::Error;
+mod damage;
+mod ending;
+mod failing;
+mod image_file;
+mod memory;
+mod open;
+mod rows;
+mod trips;
+
+use device::{Block, Fuse, MemBlock, MemMeta, Meta, Parts};
+use ending::{End, end_volume};
+use geometry::{Error, Geometry, Kind, Shape};
 use names::VolumeName;
-use open::with_volume;
-use opening::{FilePass, Policy, Seat, Status, Volume};
+use open::{on_new_volume, with_mounted};
+use opening::{FilePass, Policy, Seat, Volume};
+use rows::{Row, run_row};
 use std::alloc::Global;
 use std::process::Abort;
 use std::sync::Wait;
 use std::test::*;
 
+// So many bytes has a block of the tiny shape.
+const BLOCK: usize = 64;
+
 // What a buffer has before a read.
 const STALE: u8 = 0xee;
 
-// What is done with a new volume.
+// A step of what is done with a volume. Files are told by their places among the passes.
 #[derive(Clone, Copy)]
-enum Row {
-    FiveCreates,
-    Depths,
-    TwoFiles,
-    FirstAddresses,
-    NineWrites,
-    FullVolume,
-    RefusedWrites,
-    MovedNodes,
-    LeftOut,
+enum Step<'a> {
+    Create(Kind),
+    // Writes a block for each byte, full of it, from an index on.
+    Write(usize, u32, &'a [u8]),
+    Cut(usize, u32),
+    DeleteLast,
+    // Cleans a section, of which so many blocks are moved.
+    Clean(u32),
+    // A checkpoint that lends no pass.
+    Sync,
+    // A checkpoint that lends a pass twice.
+    SyncTwice(usize),
+    // A checkpoint that is refused.
+    NoSync(Error),
+    // Lets the next call of the device fail.
+    Fail(&'a Fuse),
+    // Does a row on a volume without files.
+    Row(Row),
+    // The volume has exactly these files: a number, and a byte for each block, which is full of it.
+    Has(&'a [(u32, &'a [u8])]),
 }
 
-// Does a row on a new volume, leaves it, and answers the device.
-fn run_row<V: VolumeName, R: Wait + Abort>(
+// The parts of a device, whose blocks of 64 bytes are in the order of their addresses.
+#[derive(Drop)]
+struct Device<M: Meta, B: Block> {
+    parts: Parts<M, B>,
+    ghost run: { IsBlockRun B.address_of B.content_of 64 1 parts.blocks.items },
+}
+
+// What a volume left: its device, and the version and the total of the image it was opened at, and of the one it wrote last.
+#[derive(Drop)]
+struct Left<M: Meta, B: Block> {
+    device: Device<M, B>,
+    opened: (u32, u32),
+    written: (u32, u32),
+}
+
+// Does the steps on a volume with these files, and ends it.
+fn run_volume<V: VolumeName, M: Meta, B: Block + Drop, R: Wait + Abort>(
     rt: &R,
     alloc: Global,
-    volume: Volume<V, MemMeta, MemBlock>,
+    volume: Volume<V, M, B>,
     seats: Vec<Seat<V>>,
-    row: Row,
-) -> Parts<MemMeta, MemBlock> {
-    let mut passes = Vec::new(alloc);
-    let done = match row {
-        Row::FiveCreates => files::create_five_and_delete(rt, alloc, &volume, &mut passes),
-        Row::Depths => files::write_at_each_depth(rt, alloc, &volume, &mut passes),
-        Row::TwoFiles => files::write_two_files(rt, alloc, &volume, &mut passes),
-        Row::FirstAddresses => space::write_first_blocks(rt, alloc, &volume, &mut passes),
-        Row::NineWrites => space::write_nine_times(rt, alloc, &volume, &mut passes),
-        Row::FullVolume => space::write_until_full(rt, alloc, &volume, &mut passes),
-        Row::RefusedWrites => refusals::write_beside(rt, alloc, &volume, &mut passes),
-        Row::MovedNodes => moves::move_two_inodes(rt, alloc, &volume, &mut passes),
-        Row::LeftOut => leaving::create_four(rt, &volume, &mut passes),
-    };
-    if let Err(error) = done {
-        panic!(rt; "refused {error}");
+    mut passes: Vec<FilePass<V>>,
+    steps: &[Step<'_>],
+    end: End,
+) -> Left<M, B> {
+    for step in steps {
+        run_step(rt, alloc, &volume, &mut passes, *step).expect(rt, "not refused");
     }
-    match row {
-        Row::LeftOut => leaving::leave_twice(rt, volume, seats, passes),
-        _ => leave(rt, volume, seats, passes),
-    }
+    end_volume(rt, alloc, volume, seats, passes, end)
 }
 
-// Leaves the volume, and answers the device.
-fn leave<V: VolumeName, R: Wait + Abort>(
-    rt: &R,
-    volume: Volume<V, MemMeta, MemBlock>,
-    seats: Vec<Seat<V>>,
-    passes: Vec<FilePass<V>>,
-) -> Parts<MemMeta, MemBlock> {
-    match volume.abandon(rt, seats, passes) {
-        Ok(parts) => parts,
-        Err(fault) => panic!(rt; "refused {}", fault.error),
-    }
-}
-
-// Keeps a pass for the end.
-fn keep<V: VolumeName>(rt: &impl Abort, passes: &mut Vec<FilePass<V>>, pass: FilePass<V>) {
-    if passes.push(pass).is_err() {
-        panic!(rt; "no memory");
-    }
-}
-
-// Writes a block that is full of a byte.
-fn write<V: VolumeName, R: Wait + Abort>(
+fn run_step<V: VolumeName, M: Meta, B: Block + Drop, R: Wait + Abort>(
     rt: &R,
     alloc: Global,
-    volume: &Volume<V, MemMeta, MemBlock>,
-    pass: &mut FilePass<V>,
-    index: u32,
-    byte: u8,
+    volume: &Volume<V, M, B>,
+    passes: &mut Vec<FilePass<V>>,
+    step: Step<'_>,
 ) -> Result<(), Error> {
-    let size = volume.geometry().shape.block_bytes() as usize;
-    let block = vec![in alloc; byte; size].expect(rt, "memory");
-    volume.write(rt, pass, index, block.as_slice(), 0)
+    match step {
+        Step::Create(kind) => {
+            let pass = volume.create(rt, kind)?;
+            passes.push(pass)?;
+        }
+        Step::Write(place, from, bytes) => {
+            assert!(rt; place < passes.len());
+            write(rt, alloc, volume, &mut passes[place], from, bytes)?;
+        }
+        Step::Cut(place, length) => {
+            assert!(rt; place < passes.len());
+            volume.cut(rt, &mut passes[place], length)?;
+        }
+        Step::DeleteLast => {
+            let pass = passes.pop().expect(rt, "a file");
+            if let Err((_pass, error)) = volume.delete(rt, pass) {
+                return Err(error);
+            }
+        }
+        Step::Clean(moved) => {
+            let cleaned = volume.clean(rt, Policy::Foreground, 0)?;
+            assert_eq!(rt; (cleaned.moved, cleaned.gone), (moved, 0u32));
+        }
+        Step::Sync => {
+            let _stored = volume.sync(rt, &[])?;
+        }
+        Step::SyncTwice(place) => {
+            assert!(rt; place < passes.len());
+            sync_twice(rt, volume, &passes[place])?;
+        }
+        Step::NoSync(wanted) => assert!(rt; volume.sync(rt, &[]).err() == Some(wanted)),
+        Step::Fail(fuse) => assert!(rt; fuse.arm(1, false)),
+        Step::Row(row) => {
+            for pass in run_row(rt, alloc, volume, row)? {
+                passes.push(pass)?;
+            }
+        }
+        Step::Has(files) => assert_files(rt, alloc, volume, passes.as_slice(), files)?,
+    }
+    Ok(())
 }
 
-// The byte that the block at an index of a file is full of, or None past the end, where a read leaves the buffer as it was.
-fn read<V: VolumeName, R: Wait + Abort>(
+// Writes a checkpoint that lends a pass twice.
+fn sync_twice<V: VolumeName, M: Meta, B: Block + Drop, R: Wait>(
+    rt: &R,
+    volume: &Volume<V, M, B>,
+    pass: &FilePass<V>,
+) -> Result<(), Error> {
+    let _stored = volume.sync(rt, &[pass, pass])?;
+    Ok(())
+}
+
+// The passes are those of these files.
+fn assert_files<V: VolumeName, M: Meta, B: Block + Drop, R: Wait + Abort>(
     rt: &R,
     alloc: Global,
-    volume: &Volume<V, MemMeta, MemBlock>,
+    volume: &Volume<V, M, B>,
+    passes: &[FilePass<V>],
+    files: &[(u32, &[u8])],
+) -> Result<(), Error> {
+    assert_eq!(rt; passes.len(), files.len());
+    for (pass, file) in passes.iter().zip(files) {
+        assert_eq!(rt; pass.number(), file.0);
+        assert_file(rt, alloc, volume, pass, file.1)?;
+    }
+    Ok(())
+}
+
+// Writes a block for each byte, from an index on.
+fn write<V: VolumeName, M: Meta, B: Block + Drop, R: Wait + Abort>(
+    rt: &R,
+    alloc: Global,
+    volume: &Volume<V, M, B>,
+    pass: &mut FilePass<V>,
+    from: u32,
+    bytes: &[u8],
+) -> Result<(), Error> {
+    let mut block = new_block(rt, alloc, volume);
+    for (index, byte) in (from..u32::MAX).zip(bytes) {
+        block.as_mut_slice().fill(*byte);
+        volume.write(rt, pass, index, block.as_slice(), 0)?;
+    }
+    Ok(())
+}
+
+// A file has a block for each byte, which is full of it, and no more.
+fn assert_file<V: VolumeName, M: Meta, B: Block + Drop, R: Wait + Abort>(
+    rt: &R,
+    alloc: Global,
+    volume: &Volume<V, M, B>,
+    pass: &FilePass<V>,
+    bytes: &[u8],
+) -> Result<(), Error> {
+    assert_eq!(rt; pass.length() as usize, bytes.len());
+    for (index, byte) in (0..u32::MAX).zip(bytes) {
+        assert!(rt;
+            read(rt, alloc, volume, pass, index)? == (true, Some(*byte)),
+            "at {index}"
+        );
+    }
+    assert!(rt;
+        read(rt, alloc, volume, pass, pass.length())? == (false, Some(STALE)),
+        "untouched"
+    );
+    Ok(())
+}
+
+// What a read answers, and the byte that the buffer is full of then, if it is full of one.
+fn read<V: VolumeName, M: Meta, B: Block + Drop, R: Wait + Abort>(
+    rt: &R,
+    alloc: Global,
+    volume: &Volume<V, M, B>,
     pass: &FilePass<V>,
     index: u32,
-) -> Option<u8> {
-    let size = volume.geometry().shape.block_bytes() as usize;
-    let mut block = vec![in alloc; STALE; size].expect(rt, "memory");
-    let found = volume.read(rt, pass, index, block.as_mut_slice());
+) -> Result<(bool, Option<u8>), Error> {
+    let mut block = new_block(rt, alloc, volume);
+    let found = volume.read(rt, pass, index, block.as_mut_slice())?;
     let first = block.first().copied().unwrap_or(STALE);
-    assert!(rt; block.iter().all(|byte| *byte == first));
-    if found.expect(rt, "a read") {
-        return Some(first);
-    }
-    assert!(rt; first == STALE);
-    None
+    let full = is_full(block.as_slice(), first).then_some(first);
+    Ok((found, full))
 }
 
-// How many blocks are valid, by what a clean sees before it moves one.
-fn valid<V: VolumeName, R: Wait>(
+// The bytes of a block that was not read yet.
+fn new_block<V: VolumeName, M: Meta, B: Block + Drop, R: Abort>(
     rt: &R,
-    volume: &Volume<V, MemMeta, MemBlock>,
-) -> Result<u32, Error> {
-    let mut valid = 0u32;
-    for row in &volume.clean(rt, Policy::Foreground, 0)?.rows {
-        valid = valid.saturating_add(row.valid);
-    }
-    Ok(valid)
+    alloc: Global,
+    volume: &Volume<V, M, B>,
+) -> Vec<u8>
+    ensures { vec_len result ≡ block_bytes V.Numbers.geometry.shape }
+{
+    let size = volume.geometry().shape.block_bytes() as usize;
+    vec![in alloc; STALE; size].expect(rt, "memory")
 }
 
-// How many segments are free, prefree, open and sealed.
-fn counts(status: Status) -> (u32, u32, u32, u32) {
-    (status.free, status.prefree, status.opened, status.sealed)
+fn is_full(block: &[u8], byte: u8) -> bool {
+    block.iter().all(|found| *found == byte)
 }
 
-// How many blocks of the device are full of a byte, and the address of the last of them.
-fn find_full(parts: &Parts<MemMeta, MemBlock>, byte: u8) -> (u32, u32) {
-    let mut count = 0u32;
-    let mut address = 0;
-    for block in &parts.blocks {
-        if block.as_slice().iter().all(|found| *found == byte) {
-            count = count.saturating_add(1);
-            address = block.address();
-        }
+// What a volume that is mounted from a device leaves after the steps.
+fn mount_again<M: Meta, B: Block + Drop, R: Wait + Abort>(
+    rt: &R,
+    alloc: Global,
+    device: Device<M, B>,
+    steps: &[Step<'_>],
+    end: End,
+) -> Left<M, B> {
+    match with_mounted(rt, alloc, device, steps, end) {
+        Ok(left) => left,
+        Err((_device, error)) => panic!(rt; "refused {error}"),
     }
-    (count, address)
+}
+
+// What a new volume of 32 segments of 8 blocks, with so many files and 64 numbers for nodes, leaves after the steps.
+fn with_volume<R: Wait + Abort>(
+    rt: &R,
+    alloc: Global,
+    files: u32,
+    steps: &[Step<'_>],
+    end: End,
+) -> Result<Left<MemMeta, MemBlock>, Error> {
+    let geometry = Geometry::new(Shape::TINY, 32, 1, files, 64)?;
+    on_new_volume(rt, alloc, geometry, steps, end)
 }

@@ -5,8 +5,9 @@ use simulator::{check_image, tell_files};
 use std::alloc::{AllocError, Global};
 use std::io;
 use std::io::Read;
+use std::process::Abort;
 use std::sync::Wait;
-use std::test::Fail;
+use std::test::*;
 
 // What is told of the base file after some changes, and the exit status.
 fn told_after(alloc: Global, changes: Changes) -> Result<(Vec<u8>, u8), AllocError> {
@@ -30,6 +31,14 @@ pub(super) fn files_told<R: Wait>(rt: &R, alloc: Global, file: &[u8]) -> (Vec<u8
     let mut errors = Vec::new(alloc);
     let status = tell_files(rt, alloc, &mut input, &mut out, &mut errors);
     (out, status)
+}
+
+// A check and the telling of the files both refuse an image file, in this line.
+fn assert_refused<R: Wait + Abort>(rt: &R, alloc: Global, file: &[u8], wanted: &[u8]) {
+    for (line, status) in [told(alloc, file), files_told(rt, alloc, file)] {
+        assert_eq!(rt; line.as_slice(), wanted);
+        assert_eq!(rt; status, REFUSED);
+    }
 }
 
 #[test]
@@ -78,12 +87,7 @@ fn each_damage_is_told(rt: HostRuntime) -> Result<(), Fail> {
     for (changes, wanted) in damages {
         let mut file = base_file(rt.alloc())?;
         change(file.as_mut_slice(), changes);
-        let (line, status) = told(rt.alloc(), &file);
-        assert_eq!(rt; line.as_slice(), wanted);
-        assert_eq!(rt; status, REFUSED);
-        let (line, status) = files_told(&rt, rt.alloc(), &file);
-        assert_eq!(rt; line.as_slice(), wanted);
-        assert_eq!(rt; status, REFUSED);
+        assert_refused(&rt, rt.alloc(), &file, wanted);
     }
     Ok(())
 }
@@ -112,12 +116,7 @@ fn files_of_another_length_are_told(rt: HostRuntime) -> Result<(), Fail> {
         (0, b"refused 9 BadGeometry\n".as_slice()),
     ] {
         file.truncate(length);
-        let (line, status) = told(rt.alloc(), &file);
-        assert_eq!(rt; line.as_slice(), wanted);
-        assert_eq!(rt; status, REFUSED);
-        let (line, status) = files_told(&rt, rt.alloc(), &file);
-        assert_eq!(rt; line.as_slice(), wanted);
-        assert_eq!(rt; status, REFUSED);
+        assert_refused(&rt, rt.alloc(), &file, wanted);
     }
     Ok(())
 }

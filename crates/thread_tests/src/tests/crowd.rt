@@ -5,10 +5,10 @@ use super::job::{BLOCKS, Done, Job, work};
 use super::looks::take_reader;
 use super::open::with_volume;
 use super::waits::{GatedBlock, Gates, Sign};
-use super::{Row, create, fill, has, keep};
+use super::{Alone, Row, create, fill, has, keep};
 use device::MemMeta;
 use geometry::Kind;
-use names::{BooksName, GeometryName, Named, PoolName, TurnName, VolumeName, WordsName};
+use names::VolumeName;
 use opening::{FilePass, Seat, Volume};
 use std::alloc::Global;
 use std::process::Abort;
@@ -16,6 +16,7 @@ use std::sync::{Arc, Wait};
 use std::test::*;
 use std::thread;
 use std::thread::Threads;
+use volume_names::SharedName;
 
 // So many threads of each kind.
 #[derive(Clone, Copy)]
@@ -37,20 +38,13 @@ const AGAIN: u8 = 16;
 const IN_ALL: u32 = 12;
 
 // Starts a thread for each of a crowd, and looks at the files once all have ended.
-pub(crate) fn work_side_by_side<
-    L: BooksName + Send + Sync,
-    W: WordsName + Send + Sync,
-    N: GeometryName + Send + Sync,
-    P: PoolName + Send + Sync,
-    T: TurnName + Send + Sync,
-    R: Threads + Wait + Abort + Sync,
->(
+pub(crate) fn work_side_by_side<V: SharedName, R: Threads + Wait + Abort + Sync>(
     rt: &R,
     alloc: Global,
-    volume: &Volume<Named<L, W, P, T, N>, MemMeta, GatedBlock>,
-    seats: &mut Vec<Seat<Named<L, W, P, T, N>>>,
+    volume: &Volume<V, MemMeta, GatedBlock>,
+    seats: &mut Vec<Seat<V>>,
     crowd: Crowd,
-) -> Vec<FilePass<Named<L, W, P, T, N>>> {
+) -> Vec<FilePass<V>> {
     let half = Sign::new();
     let mut jobs = Vec::new(alloc);
     add_files(rt, alloc, volume, seats, &mut jobs, &half, crowd);
@@ -58,7 +52,7 @@ pub(crate) fn work_side_by_side<
     let all = thread::map_vec(
         rt,
         jobs,
-        &|job: Job<'_, Named<L, W, P, T, N>>| -> Done<Named<L, W, P, T, N>>
+        &|job: Job<'_, V>| -> Done<V>
             ensures { ⊤ }
         { work(rt, alloc, volume, job) },
     )
@@ -162,12 +156,12 @@ pub(crate) fn give_back<V: VolumeName>(rt: &impl Abort, seats: &mut Vec<Seat<V>>
 #[test]
 fn two_files_are_written_side_by_side(rt: HostRuntime) -> Result<(), Fail> {
     let gates = Arc::new(rt.alloc(), Gates::open())?;
-    let row = Row::Crowd(Crowd {
+    let row = Row::Alone(Alone::Crowd(Crowd {
         writers: 2,
         cleaners: 0,
         readers: 0,
         syncs: false,
-    });
+    }));
     for _run in 0..200u32 {
         let total = with_volume(&rt, rt.alloc(), 32, &gates, row)?;
         assert_eq!(rt; total, 2 * IN_ALL);
@@ -178,12 +172,12 @@ fn two_files_are_written_side_by_side(rt: HostRuntime) -> Result<(), Fail> {
 #[test]
 fn eight_writers_two_cleaners_and_two_readers(rt: HostRuntime) -> Result<(), Fail> {
     let gates = Arc::new(rt.alloc(), Gates::open())?;
-    let row = Row::Crowd(Crowd {
+    let row = Row::Alone(Alone::Crowd(Crowd {
         writers: 8,
         cleaners: 2,
         readers: 2,
         syncs: false,
-    });
+    }));
     for _run in 0..100u32 {
         let total = with_volume(&rt, rt.alloc(), 64, &gates, row)?;
         assert_eq!(rt; total, 8 * IN_ALL);
@@ -194,12 +188,12 @@ fn eight_writers_two_cleaners_and_two_readers(rt: HostRuntime) -> Result<(), Fai
 #[test]
 fn four_writers_two_cleaners_and_ten_checkpoints(rt: HostRuntime) -> Result<(), Fail> {
     let gates = Arc::new(rt.alloc(), Gates::open())?;
-    let row = Row::Crowd(Crowd {
+    let row = Row::Alone(Alone::Crowd(Crowd {
         writers: 4,
         cleaners: 2,
         readers: 0,
         syncs: true,
-    });
+    }));
     for _run in 0..50u32 {
         let total = with_volume(&rt, rt.alloc(), 64, &gates, row)?;
         assert_eq!(rt; total, 4 * IN_ALL);

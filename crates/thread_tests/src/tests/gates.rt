@@ -1,10 +1,10 @@
 //! Calls that go on while the device keeps another one waiting.
 use super::open::with_volume;
 use super::waits::{Gate, GatedBlock, Gates};
-use super::{Row, create, fill, has, keep};
+use super::{Alone, Row, create, fill, has, keep};
 use device::MemMeta;
 use geometry::Kind;
-use names::{BooksName, GeometryName, Named, PoolName, TurnName, VolumeName, WordsName};
+use names::VolumeName;
 use opening::{FilePass, Policy, Volume};
 use std::alloc::Global;
 use std::process::Abort;
@@ -12,21 +12,15 @@ use std::sync::{Arc, Wait};
 use std::test::*;
 use std::thread;
 use std::thread::Threads;
+use volume_names::SharedName;
 
 // Writes the first block of a directory and of a file, side by side.
-pub(crate) fn write_in_two_logs<
-    L: BooksName + Send + Sync,
-    W: WordsName + Send + Sync,
-    N: GeometryName + Send + Sync,
-    P: PoolName + Send + Sync,
-    T: TurnName + Send + Sync,
-    R: Threads + Wait + Abort + Sync,
->(
+pub(crate) fn write_in_two_logs<V: SharedName, R: Threads + Wait + Abort + Sync>(
     rt: &R,
     alloc: Global,
-    volume: &Volume<Named<L, W, P, T, N>, MemMeta, GatedBlock>,
+    volume: &Volume<V, MemMeta, GatedBlock>,
     gates: &Gates,
-) -> Vec<FilePass<Named<L, W, P, T, N>>> {
+) -> Vec<FilePass<V>> {
     let one = create(rt, volume, Kind::Dir);
     let other = create(rt, volume, Kind::File);
     let (one, other) = thread::join(
@@ -53,19 +47,12 @@ fn write_first<V: VolumeName, R: Wait + Abort>(
 }
 
 // Cleans a section of which half was deleted, and writes a directory while the first block that is moved waits.
-pub(crate) fn write_beside_a_cleaner<
-    L: BooksName + Send + Sync,
-    W: WordsName + Send + Sync,
-    N: GeometryName + Send + Sync,
-    P: PoolName + Send + Sync,
-    T: TurnName + Send + Sync,
-    R: Threads + Wait + Abort + Sync,
->(
+pub(crate) fn write_beside_a_cleaner<V: SharedName, R: Threads + Wait + Abort + Sync>(
     rt: &R,
     alloc: Global,
-    volume: &Volume<Named<L, W, P, T, N>, MemMeta, GatedBlock>,
+    volume: &Volume<V, MemMeta, GatedBlock>,
     gates: &Gates,
-) -> Vec<FilePass<Named<L, W, P, T, N>>> {
+) -> Vec<FilePass<V>> {
     let one = fill_a_segment(rt, alloc, volume);
     let dir = create(rt, volume, Kind::Dir);
     let (cleaned, dir) = thread::join(
@@ -146,7 +133,13 @@ fn two_logs_write_side_by_side(rt: HostRuntime) -> Result<(), Fail> {
         rt.alloc(),
         Gates::new(Some(Gate::new(3, 4)), Some(Gate::new(4, 3))),
     )?;
-    let total = with_volume(&rt, rt.alloc(), 16, &gates, Row::WriteInTwoLogs)?;
+    let total = with_volume(
+        &rt,
+        rt.alloc(),
+        16,
+        &gates,
+        Row::Alone(Alone::WriteInTwoLogs),
+    )?;
     assert_eq!(rt; total, 4u32);
     Ok(())
 }
@@ -154,7 +147,13 @@ fn two_logs_write_side_by_side(rt: HostRuntime) -> Result<(), Fail> {
 #[test]
 fn writer_goes_on_beside_a_cleaner(rt: HostRuntime) -> Result<(), Fail> {
     let gates = Arc::new(rt.alloc(), Gates::new(Some(Gate::new(5, 3)), None))?;
-    let total = with_volume(&rt, rt.alloc(), 16, &gates, Row::WriteBesideACleaner)?;
+    let total = with_volume(
+        &rt,
+        rt.alloc(),
+        16,
+        &gates,
+        Row::Alone(Alone::WriteBesideACleaner),
+    )?;
     assert_eq!(rt; total, 8u32);
     Ok(())
 }

@@ -5,10 +5,10 @@ ghost use Rattle.geometry.specs.Shape.{block_bytes};
 use super::crowd::give_back;
 use super::open::with_volume;
 use super::waits::{GatedBlock, Gates};
-use super::{Row, create, fill, has, is_full, keep};
+use super::{Alone, Row, create, fill, has, is_full, keep};
 use device::MemMeta;
 use geometry::Kind;
-use names::{BooksName, GeometryName, Named, PoolName, TurnName, VolumeName, WordsName};
+use names::VolumeName;
 use opening::{FilePass, Reader, Seat, Volume};
 use std::alloc::Global;
 use std::process::Abort;
@@ -16,6 +16,7 @@ use std::sync::{Arc, Wait};
 use std::test::*;
 use std::thread;
 use std::thread::Threads;
+use volume_names::SharedName;
 
 // The file has so many blocks, full of one byte before the reader was taken and of another one after.
 const BLOCKS: u32 = 8;
@@ -25,19 +26,12 @@ const BEFORE: u8 = 0x11;
 const AFTER: u8 = 0x22;
 
 // Takes a reader of a file, which one thread looks at and closes while another one overwrites the file.
-pub(crate) fn look_beside_a_writer<
-    L: BooksName + Send + Sync,
-    W: WordsName + Send + Sync,
-    N: GeometryName + Send + Sync,
-    P: PoolName + Send + Sync,
-    T: TurnName + Send + Sync,
-    R: Threads + Wait + Abort + Sync,
->(
+pub(crate) fn look_beside_a_writer<V: SharedName, R: Threads + Wait + Abort + Sync>(
     rt: &R,
     alloc: Global,
-    volume: &Volume<Named<L, W, P, T, N>, MemMeta, GatedBlock>,
-    seats: &mut Vec<Seat<Named<L, W, P, T, N>>>,
-) -> Vec<FilePass<Named<L, W, P, T, N>>> {
+    volume: &Volume<V, MemMeta, GatedBlock>,
+    seats: &mut Vec<Seat<V>>,
+) -> Vec<FilePass<V>> {
     let mut pass = create(rt, volume, Kind::File);
     fill(rt, alloc, volume, &mut pass, BLOCKS, BEFORE);
     let reader = take_reader(rt, volume, &pass, seats);
@@ -116,7 +110,13 @@ fn overwrite<V: VolumeName, R: Wait + Abort>(
 fn reader_on_another_thread_has_the_file_as_it_was(rt: HostRuntime) -> Result<(), Fail> {
     let gates = Arc::new(rt.alloc(), Gates::open())?;
     for _run in 0..200u32 {
-        let total = with_volume(&rt, rt.alloc(), 32, &gates, Row::LookBesideAWriter)?;
+        let total = with_volume(
+            &rt,
+            rt.alloc(),
+            32,
+            &gates,
+            Row::Alone(Alone::LookBesideAWriter),
+        )?;
         assert_eq!(rt; total, BLOCKS + 2);
     }
     Ok(())

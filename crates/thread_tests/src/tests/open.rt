@@ -1,8 +1,10 @@
 //! How a test comes to its volume: a function for each step, so that names are picked between them.
 ghost use Rattle.std.specs.Prelude.{◌≡◌};
+ghost use Rattle.volume_names.specs.Picked.{HaveNames};
 
+use super::part::{Part, begin, end};
 use super::waits::{GatedBlock, Gates, gated_parts};
-use super::{Row, run_row};
+use super::{Row, run_alone};
 use device::MemMeta;
 use geometry::{Error, Geometry, Shape};
 use names::{BooksName, GeometryName, PoolName, TurnName, VolumeName, WordsName};
@@ -11,7 +13,9 @@ use std::alloc::Global;
 use std::marker::Brand;
 use std::process::Abort;
 use std::sync::{Arc, Wait};
+use std::test::*;
 use std::thread::Threads;
+use workers::run_part;
 
 /// Does a row on a new volume of so many segments of 8 blocks, with at most 8 files, on a device with gates. Closes the volume,
 /// and answers how many blocks its last image has.
@@ -20,7 +24,7 @@ pub(crate) fn with_volume<R: Threads + Wait + Abort + Sync>(
     alloc: Global,
     segments: u32,
     gates: &Arc<Gates>,
-    row: Row,
+    row: Row<'_>,
 ) -> Result<u32, Error> {
     let geometry = Geometry::new(Shape::TINY, segments, 1, 8, 128)?;
     let parts = gated_parts(alloc, &geometry, gates)?;
@@ -40,7 +44,7 @@ fn with_tables<
     alloc: Global,
     formatted: Formatted<MemMeta, GatedBlock>,
     gates: &Gates,
-    row: Row,
+    row: Row<'_>,
 ) -> Result<u32, Error>
     requires books { formatted.tables.books ≡ L.books }
     requires words { formatted.tables.words ≡ W.words }
@@ -64,16 +68,31 @@ fn with_queues<
     alloc: Global,
     opened: Opened<L, W, N, MemMeta, GatedBlock>,
     gates: &Gates,
-    row: Row,
+    row: Row<'_>,
 ) -> Result<u32, Error>
-    requires ordinary { opened.queues.ordinary ≡ P.ordinary }
-    requires reserve { opened.queues.reserve ≡ P.reserve }
-    requires turns { opened.channel.turns ≡ T.turns }
-    requires key { opened.channel.key ≡ T.key }
+    requires named { HaveNames opened.queues opened.channel P.ordinary P.reserve T.turns T.key }
 {
     match opened.name::<P, T, R>(rt) {
         Ok((volume, mut seats)) => {
-            let passes = run_row::<L, W, N, P, T, R>(rt, alloc, &volume, &mut seats, gates, row);
+            let (seats, passes) = match row {
+                Row::Part(
+                    Part {
+                        workers,
+                        turns,
+                        lines,
+                    },
+                ) => {
+                    let mut session = begin(rt, alloc, &volume, seats);
+                    let mut told = Vec::new(alloc);
+                    let ran = run_part(rt, alloc, &mut session, workers, turns, &mut told);
+                    assert!(rt; ran.is_ok() && told.as_slice() == lines);
+                    end(rt, session)
+                }
+                Row::Alone(row) => {
+                    let passes = run_alone(rt, alloc, &volume, &mut seats, gates, row);
+                    (seats, passes)
+                }
+            };
             close(rt, volume, seats, passes)
         }
         Err(fault) => Err(fault.error),

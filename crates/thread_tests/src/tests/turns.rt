@@ -1,10 +1,10 @@
 //! Two writers, each of which waits before its second write until the other's first one has answered.
 use super::open::with_volume;
 use super::waits::{GatedBlock, Gates, Sign};
-use super::{Row, create, fill, has, keep};
+use super::{Alone, Row, create, fill, has, keep};
 use device::MemMeta;
 use geometry::Kind;
-use names::{BooksName, GeometryName, Named, PoolName, TurnName, VolumeName, WordsName};
+use names::VolumeName;
 use opening::{FilePass, Volume};
 use std::alloc::Global;
 use std::process::Abort;
@@ -12,20 +12,14 @@ use std::sync::{Arc, Wait};
 use std::test::*;
 use std::thread;
 use std::thread::Threads;
+use volume_names::SharedName;
 
 // Both writers overwrite their block once the other one has written.
-pub(crate) fn write_in_turns<
-    L: BooksName + Send + Sync,
-    W: WordsName + Send + Sync,
-    N: GeometryName + Send + Sync,
-    P: PoolName + Send + Sync,
-    T: TurnName + Send + Sync,
-    R: Threads + Wait + Abort + Sync,
->(
+pub(crate) fn write_in_turns<V: SharedName, R: Threads + Wait + Abort + Sync>(
     rt: &R,
     alloc: Global,
-    volume: &Volume<Named<L, W, P, T, N>, MemMeta, GatedBlock>,
-) -> Vec<FilePass<Named<L, W, P, T, N>>> {
+    volume: &Volume<V, MemMeta, GatedBlock>,
+) -> Vec<FilePass<V>> {
     let one = create(rt, volume, Kind::File);
     let other = create(rt, volume, Kind::File);
     let (first, second) = (Sign::new(), Sign::new());
@@ -62,7 +56,7 @@ fn write_twice<V: VolumeName, R: Wait + Abort>(
 fn writers_answer_while_others_wait(rt: HostRuntime) -> Result<(), Fail> {
     let gates = Arc::new(rt.alloc(), Gates::open())?;
     for _run in 0..100u32 {
-        let total = with_volume(&rt, rt.alloc(), 32, &gates, Row::WriteInTurns)?;
+        let total = with_volume(&rt, rt.alloc(), 32, &gates, Row::Alone(Alone::WriteInTurns))?;
         assert_eq!(rt; total, 4u32);
     }
     Ok(())

@@ -1,9 +1,12 @@
-//! How a test comes to its volume: a function for each step, so that names are picked between them.
+//! How a test comes to its volume, a new one or a mounted one: a function for each step, so that names are picked between them.
 ghost use Rattle.std.specs.Prelude.{◌≡◌};
+ghost use Rattle.device.specs.Parts.{IsBlockRun};
+ghost use Rattle.volume_names.specs.Picked.{HaveNames};
 
-use super::{Row, run_row};
-use device::{MemBlock, MemDevice, MemMeta, Parts};
-use geometry::{Error, Geometry, Shape};
+use super::{Device, End, Left, Step, run_volume};
+use device::{Block, MemBlock, MemDevice, MemMeta, Meta};
+use geometry::{Error, Geometry};
+use mounting::{Mounted, MountedQueues, mount};
 use names::{BooksName, GeometryName, PoolName, TurnName, WordsName};
 use opening::{Formatted, Opened, format};
 use std::alloc::Global;
@@ -11,18 +14,17 @@ use std::marker::Brand;
 use std::process::Abort;
 use std::sync::Wait;
 
-// The device after a row on a new volume of so many segments of 8 blocks, with 4 files and so many numbers for nodes.
-pub(crate) fn with_volume<R: Wait + Abort>(
+// What a new volume of these numbers leaves after the steps.
+pub(crate) fn on_new_volume<R: Wait + Abort>(
     rt: &R,
     alloc: Global,
-    segments: u32,
-    numbers: u32,
-    row: Row,
-) -> Result<Parts<MemMeta, MemBlock>, Error> {
-    let geometry = Geometry::new(Shape::TINY, segments, 1, 4, numbers)?;
+    geometry: Geometry,
+    steps: &[Step<'_>],
+    end: End,
+) -> Result<Left<MemMeta, MemBlock>, Error> {
     let parts = MemDevice::new(alloc, &geometry)?.split();
     match format(alloc, parts, geometry) {
-        Ok(formatted) => with_tables::<Brand, Brand, Brand, R>(rt, alloc, formatted, row),
+        Ok(formatted) => with_tables::<Brand, Brand, Brand, R>(rt, alloc, formatted, steps, end),
         Err(fault) => Err(fault.error),
     }
 }
@@ -31,14 +33,15 @@ fn with_tables<L: BooksName, W: WordsName, N: GeometryName, R: Wait + Abort>(
     rt: &R,
     alloc: Global,
     formatted: Formatted<MemMeta, MemBlock>,
-    row: Row,
-) -> Result<Parts<MemMeta, MemBlock>, Error>
+    steps: &[Step<'_>],
+    end: End,
+) -> Result<Left<MemMeta, MemBlock>, Error>
     requires books { formatted.tables.books ≡ L.books }
     requires words { formatted.tables.words ≡ W.words }
     requires geometry { formatted.tables.geometry ≡ N.geometry }
 {
     match formatted.name::<L, W, N>() {
-        Ok(opened) => with_queues::<L, W, N, Brand, Brand, R>(rt, alloc, opened, row),
+        Ok(opened) => with_queues::<L, W, N, Brand, Brand, R>(rt, alloc, opened, steps, end),
         Err(fault) => Err(fault.error),
     }
 }
@@ -54,15 +57,87 @@ fn with_queues<
     rt: &R,
     alloc: Global,
     opened: Opened<L, W, N, MemMeta, MemBlock>,
-    row: Row,
-) -> Result<Parts<MemMeta, MemBlock>, Error>
-    requires ordinary { opened.queues.ordinary ≡ P.ordinary }
-    requires reserve { opened.queues.reserve ≡ P.reserve }
-    requires turns { opened.channel.turns ≡ T.turns }
-    requires key { opened.channel.key ≡ T.key }
+    steps: &[Step<'_>],
+    end: End,
+) -> Result<Left<MemMeta, MemBlock>, Error>
+    requires named { HaveNames opened.queues opened.channel P.ordinary P.reserve T.turns T.key }
 {
     match opened.name::<P, T, R>(rt) {
-        Ok((volume, seats)) => Ok(run_row(rt, alloc, volume, seats, row)),
+        Ok((volume, seats)) => {
+            Ok(run_volume(rt, alloc, volume, seats, Vec::new(alloc), steps, end))
+        }
         Err(fault) => Err(fault.error),
+    }
+}
+
+// What the volume of a device leaves after the steps, or why it is not mounted, with the device.
+pub(crate) fn with_mounted<M: Meta, B: Block + Drop, R: Wait + Abort>(
+    rt: &R,
+    alloc: Global,
+    device: Device<M, B>,
+    steps: &[Step<'_>],
+    end: End,
+) -> Result<Left<M, B>, (Device<M, B>, Error)> {
+    let Device { parts } = device;
+    match mount(alloc, parts) {
+        Ok(mounted) => {
+            mounted_tables::<Brand, Brand, Brand, M, B, R>(rt, alloc, mounted, steps, end)
+        }
+        Err(fault) => Err((Device { parts: fault.parts }, fault.error)),
+    }
+}
+
+fn mounted_tables<
+    L: BooksName,
+    W: WordsName,
+    N: GeometryName,
+    M: Meta,
+    B: Block + Drop,
+    R: Wait + Abort,
+>(
+    rt: &R,
+    alloc: Global,
+    mounted: Mounted<M, B>,
+    steps: &[Step<'_>],
+    end: End,
+) -> Result<Left<M, B>, (Device<M, B>, Error)>
+    requires run { IsBlockRun B.address_of B.content_of 64 1 mounted.parts.blocks.items }
+    requires books { mounted.books ≡ L.books }
+    requires words { mounted.words ≡ W.words }
+    requires geometry { mounted.geometry ≡ N.geometry }
+{
+    match mounted.name::<L, W, N>() {
+        Ok(opened) => {
+            mounted_queues::<L, W, N, Brand, Brand, M, B, R>(rt, alloc, opened, steps, end)
+        }
+        Err(fault) => Err((Device { parts: fault.parts }, fault.error)),
+    }
+}
+
+fn mounted_queues<
+    L: BooksName,
+    W: WordsName,
+    N: GeometryName,
+    P: PoolName,
+    T: TurnName,
+    M: Meta,
+    B: Block + Drop,
+    R: Wait + Abort,
+>(
+    rt: &R,
+    alloc: Global,
+    opened: MountedQueues<L, W, N, M, B>,
+    steps: &[Step<'_>],
+    end: End,
+) -> Result<Left<M, B>, (Device<M, B>, Error)>
+    requires run { IsBlockRun B.address_of B.content_of 64 1 opened.named.mounted.parts.blocks.items }
+    requires named { HaveNames opened.queues opened.channel P.ordinary P.reserve T.turns T.key }
+{
+    match opened.name::<P, T, R>(rt) {
+        Ok((volume, seats, passes)) => {
+            let left = run_volume(rt, alloc, volume, seats, passes, steps, end);
+            Ok(left)
+        }
+        Err(fault) => Err((Device { parts: fault.parts }, fault.error)),
     }
 }

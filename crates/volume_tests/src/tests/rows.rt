@@ -1,0 +1,124 @@
+//! The volume's rows: which numbers files get, and where blocks go.
+mod files;
+pub(crate) mod leaving;
+mod moves;
+mod refusals;
+mod space;
+
+use super::open::on_new_volume;
+use super::{Device, End, Left, STALE, Step, read};
+use device::{Block, MemBlock, MemMeta, Meta, Parts};
+use geometry::{Error, Geometry, Kind, Shape};
+use names::VolumeName;
+use opening::{FilePass, Policy, Status, Volume};
+use std::alloc::Global;
+use std::process::Abort;
+use std::sync::Wait;
+use std::test::*;
+
+// What is done with a new volume.
+#[derive(Clone, Copy)]
+pub(crate) enum Row {
+    FiveCreates,
+    Depths,
+    TwoFiles,
+    FirstAddresses,
+    NineWrites,
+    FullVolume,
+    RefusedWrites,
+    MovedNodes,
+    LeftOut,
+}
+
+// The device after a row on a new volume of 16 segments of 8 blocks, with 4 files and 32 numbers for nodes.
+fn with_row<R: Wait + Abort>(
+    rt: &R,
+    alloc: Global,
+    row: Row,
+) -> Result<Parts<MemMeta, MemBlock>, Error> {
+    let geometry = Geometry::new(Shape::TINY, 16, 1, 4, 32)?;
+    let end = match row {
+        Row::LeftOut => End::AbandonOneOut,
+        _ => End::Abandon,
+    };
+    let Left { device, .. } = on_new_volume(rt, alloc, geometry, &[Step::Row(row)], end)?;
+    let Device { parts } = device;
+    Ok(parts)
+}
+
+/// Does a row on a volume without files, and answers the passes of its files.
+pub(crate) fn run_row<V: VolumeName, M: Meta, B: Block + Drop, R: Wait + Abort>(
+    rt: &R,
+    alloc: Global,
+    volume: &Volume<V, M, B>,
+    row: Row,
+) -> Result<Vec<FilePass<V>>, Error> {
+    match row {
+        Row::FiveCreates => files::create_five_and_delete(rt, alloc, volume),
+        Row::Depths => files::write_at_each_depth(rt, alloc, volume),
+        Row::TwoFiles => files::write_two_files(rt, alloc, volume),
+        Row::FirstAddresses => space::write_first_blocks(rt, alloc, volume),
+        Row::NineWrites => space::write_nine_times(rt, alloc, volume),
+        Row::FullVolume => space::write_until_full(rt, alloc, volume),
+        Row::RefusedWrites => refusals::write_beside(rt, alloc, volume),
+        Row::MovedNodes => moves::move_two_inodes(rt, alloc, volume),
+        Row::LeftOut => leaving::create_four(rt, alloc, volume),
+    }
+}
+
+// Makes two files without blocks.
+fn create_two<V: VolumeName, M: Meta, B: Block + Drop, R: Wait>(
+    rt: &R,
+    volume: &Volume<V, M, B>,
+) -> Result<(FilePass<V>, FilePass<V>), Error> {
+    let one = volume.create(rt, Kind::File)?;
+    let other = volume.create(rt, Kind::File)?;
+    Ok((one, other))
+}
+
+// The byte that the block at an index of a file is full of, or None past the end, where a read leaves the buffer as it was.
+fn byte_at<V: VolumeName, M: Meta, B: Block + Drop, R: Wait + Abort>(
+    rt: &R,
+    alloc: Global,
+    volume: &Volume<V, M, B>,
+    pass: &FilePass<V>,
+    index: u32,
+) -> Option<u8> {
+    let (found, byte) = read(rt, alloc, volume, pass, index).expect(rt, "a read");
+    assert!(rt; byte.is_some(), "a block of several bytes");
+    if found {
+        return byte;
+    }
+    assert!(rt; byte == Some(STALE));
+    None
+}
+
+// How many blocks are valid, by what a clean sees before it moves one.
+fn valid<V: VolumeName, M: Meta, B: Block + Drop, R: Wait>(
+    rt: &R,
+    volume: &Volume<V, M, B>,
+) -> Result<u32, Error> {
+    let mut valid = 0u32;
+    for row in &volume.clean(rt, Policy::Foreground, 0)?.rows {
+        valid = valid.saturating_add(row.valid);
+    }
+    Ok(valid)
+}
+
+// How many segments are free, prefree, open and sealed.
+fn counts(status: Status) -> (u32, u32, u32, u32) {
+    (status.free, status.prefree, status.opened, status.sealed)
+}
+
+// How many blocks of the device are full of a byte, and the address of the last of them.
+fn find_full(parts: &Parts<MemMeta, MemBlock>, byte: u8) -> (u32, u32) {
+    let mut count = 0u32;
+    let mut address = 0;
+    for block in &parts.blocks {
+        if block.as_slice().iter().all(|found| *found == byte) {
+            count = count.saturating_add(1);
+            address = block.address();
+        }
+    }
+    (count, address)
+}

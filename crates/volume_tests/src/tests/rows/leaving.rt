@@ -1,0 +1,80 @@
+//! A volume is not left while a pass or a seat is missing.
+use super::super::Left;
+use super::super::ending::{abandon, put_back};
+use super::{Row, with_row};
+use device::{Block, Meta};
+use geometry::{Error, Kind};
+use names::VolumeName;
+use opening::{CloseFault, FilePass, Seat, Volume};
+use std::alloc::Global;
+use std::process::Abort;
+use std::sync::Wait;
+use std::test::*;
+
+pub(crate) fn create_four<V: VolumeName, M: Meta, B: Block + Drop, R: Wait + Abort>(
+    rt: &R,
+    alloc: Global,
+    volume: &Volume<V, M, B>,
+) -> Result<Vec<FilePass<V>>, Error> {
+    let mut passes = Vec::new(alloc);
+    for _file in 0..4u32 {
+        passes.push(volume.create(rt, Kind::Dir)?)?;
+    }
+    assert!(rt;
+        volume
+            .create(rt, Kind::File)
+            .is_err_and(|error| error == Error::NoFile)
+    );
+    Ok(passes)
+}
+
+// Leaves the volume once with a pass too few, once with a seat too few, and then with all of them.
+pub(crate) fn leave_twice<V: VolumeName, M: Meta, B: Block + Drop, R: Wait + Abort>(
+    rt: &R,
+    volume: Volume<V, M, B>,
+    seats: Vec<Seat<V>>,
+    mut passes: Vec<FilePass<V>>,
+) -> Left<M, B> {
+    let pass = passes.pop().expect(rt, "a pass");
+    let fault = refused(rt, volume, seats, passes);
+    assert!(rt; fault.error == Error::PassesOut(1));
+    let CloseFault {
+        volume,
+        mut seats,
+        mut passes,
+        error: _,
+    } = fault;
+    assert_eq!(rt; (seats.len(), passes.len()), (64usize, 3usize));
+    put_back(rt, &mut passes, pass);
+    let seat = seats.pop().expect(rt, "a seat");
+    let fault = refused(rt, volume, seats, passes);
+    assert!(rt; fault.error == Error::SeatsOut(1));
+    let CloseFault {
+        volume,
+        mut seats,
+        passes,
+        error: _,
+    } = fault;
+    assert_eq!(rt; (seats.len(), passes.len()), (63usize, 4usize));
+    put_back(rt, &mut seats, seat);
+    abandon(rt, volume, seats, passes)
+}
+
+fn refused<V: VolumeName, M: Meta, B: Block + Drop, R: Wait + Abort>(
+    rt: &R,
+    volume: Volume<V, M, B>,
+    seats: Vec<Seat<V>>,
+    passes: Vec<FilePass<V>>,
+) -> CloseFault<V, M, B> {
+    match volume.abandon(rt, seats, passes) {
+        Ok(_parts) => panic!(rt; "not refused"),
+        Err(fault) => fault,
+    }
+}
+
+#[test]
+fn missing_pass_and_missing_seat_are_told(rt: HostRuntime) -> Result<(), Fail> {
+    let parts = with_row(&rt, rt.alloc(), Row::LeftOut)?;
+    assert_eq!(rt; parts.blocks.len(), 128usize);
+    Ok(())
+}

@@ -1,0 +1,48 @@
+//! Writes that are refused, and what they leave.
+use super::super::write;
+use super::{Row, byte_at, with_row};
+use device::{Block, Meta};
+use geometry::{Error, Kind};
+use names::VolumeName;
+use opening::{FilePass, Volume};
+use std::alloc::Global;
+use std::process::Abort;
+use std::sync::Wait;
+use std::test::*;
+
+pub(crate) fn write_beside<V: VolumeName, M: Meta, B: Block + Drop, R: Wait + Abort>(
+    rt: &R,
+    alloc: Global,
+    volume: &Volume<V, M, B>,
+) -> Result<Vec<FilePass<V>>, Error> {
+    let mut pass = volume.create(rt, Kind::File)?;
+    assert!(rt; write_bytes(rt, alloc, volume, &mut pass, 63) == Err(Error::BadLength));
+    assert!(rt; write_bytes(rt, alloc, volume, &mut pass, 65) == Err(Error::BadLength));
+    assert_eq!(rt; pass.length(), 0u32);
+    assert!(rt; write(rt, alloc, volume, &mut pass, 1223, &[1]) == Err(Error::TooFar));
+    assert_eq!(rt; pass.length(), 0u32);
+    write(rt, alloc, volume, &mut pass, 1, &[7])?;
+    assert_eq!(rt; byte_at(rt, alloc, volume, &pass, 0), Some(0u8), "a hole");
+    assert_eq!(rt; byte_at(rt, alloc, volume, &pass, 1), Some(7u8));
+    assert_eq!(rt; byte_at(rt, alloc, volume, &pass, 2), None, "untouched");
+    Ok(Vec::from_array(alloc, [pass])?)
+}
+
+// Writes so many bytes as the first block.
+fn write_bytes<V: VolumeName, M: Meta, B: Block + Drop, R: Wait + Abort>(
+    rt: &R,
+    alloc: Global,
+    volume: &Volume<V, M, B>,
+    pass: &mut FilePass<V>,
+    count: usize,
+) -> Result<(), Error> {
+    let bytes = vec![in alloc; 1u8; count].expect(rt, "memory");
+    volume.write(rt, pass, 0, bytes.as_slice(), 0)
+}
+
+#[test]
+fn refused_write_leaves_the_file(rt: HostRuntime) -> Result<(), Fail> {
+    let parts = with_row(&rt, rt.alloc(), Row::RefusedWrites)?;
+    assert_eq!(rt; parts.blocks.len(), 128usize);
+    Ok(())
+}

@@ -1,0 +1,89 @@
+//! Where blocks go, and what is left when they are written.
+use super::super::write;
+use super::{Row, byte_at, counts, find_full, valid, with_row};
+use device::{Block, Meta};
+use geometry::{Error, Kind};
+use names::VolumeName;
+use opening::{FilePass, Volume};
+use std::alloc::Global;
+use std::process::Abort;
+use std::sync::Wait;
+use std::test::*;
+
+// A block of each kind of file: 0x11 of an ordinary one, 0x22 of a directory, 0x33 of media.
+pub(crate) fn write_first_blocks<V: VolumeName, M: Meta, B: Block + Drop, R: Wait + Abort>(
+    rt: &R,
+    alloc: Global,
+    volume: &Volume<V, M, B>,
+) -> Result<Vec<FilePass<V>>, Error> {
+    let mut passes = Vec::new(alloc);
+    for (kind, byte) in [(Kind::File, 0x11u8), (Kind::Dir, 0x22), (Kind::Media, 0x33)] {
+        let mut pass = volume.create(rt, kind)?;
+        write(rt, alloc, volume, &mut pass, 0, &[byte])?;
+        passes.push(pass)?;
+    }
+    Ok(passes)
+}
+
+pub(crate) fn write_nine_times<V: VolumeName, M: Meta, B: Block + Drop, R: Wait + Abort>(
+    rt: &R,
+    alloc: Global,
+    volume: &Volume<V, M, B>,
+) -> Result<Vec<FilePass<V>>, Error> {
+    let mut pass = volume.create(rt, Kind::File)?;
+    for byte in 1..10u8 {
+        write(rt, alloc, volume, &mut pass, 0, &[byte])?;
+    }
+    assert_eq!(rt; counts(volume.status(rt)), (9u32, 1u32, 6u32, 0u32));
+    assert_eq!(rt; byte_at(rt, alloc, volume, &pass, 0), Some(9u8));
+    Ok(Vec::from_array(alloc, [pass])?)
+}
+
+// One block is overwritten until the log and all segments outside of the reserve are full.
+pub(crate) fn write_until_full<V: VolumeName, M: Meta, B: Block + Drop, R: Wait + Abort>(
+    rt: &R,
+    alloc: Global,
+    volume: &Volume<V, M, B>,
+) -> Result<Vec<FilePass<V>>, Error> {
+    let mut pass = volume.create(rt, Kind::Media)?;
+    let mut written = 0u32;
+    for turn in 0..200u32 {
+        match write(rt, alloc, volume, &mut pass, 2, &[turn as u8]) {
+            Ok(()) => written = written.saturating_add(1),
+            Err(error) => assert!(rt; error == Error::NoSpace, "{error}"),
+        }
+    }
+    assert_eq!(rt; written, 56u32);
+    assert_eq!(rt; byte_at(rt, alloc, volume, &pass, 2), Some(55u8));
+    assert_eq!(rt; counts(volume.status(rt)), (4u32, 6u32, 5u32, 1u32));
+    assert_eq!(rt; valid(rt, volume)?, 1u32);
+    Ok(Vec::from_array(alloc, [pass])?)
+}
+
+#[test]
+fn first_block_of_each_kind_goes_to_its_log(rt: HostRuntime) -> Result<(), Fail> {
+    let parts = with_row(&rt, rt.alloc(), Row::FirstAddresses)?;
+    assert_eq!(rt; find_full(&parts, 0x11), (1u32, 33u32));
+    assert_eq!(rt; find_full(&parts, 0x22), (1u32, 25u32));
+    assert_eq!(rt; find_full(&parts, 0x33), (1u32, 41u32));
+    // Nothing else is written.
+    assert_eq!(rt; find_full(&parts, 0).0, 125u32);
+    Ok(())
+}
+
+#[test]
+fn nine_writes_of_a_block_retire_a_segment(rt: HostRuntime) -> Result<(), Fail> {
+    let parts = with_row(&rt, rt.alloc(), Row::NineWrites)?;
+    assert_eq!(rt; find_full(&parts, 1), (1u32, 33u32));
+    assert_eq!(rt; find_full(&parts, 8), (1u32, 40u32));
+    // The logs have segments 0 to 5 and the reserve 6 to 9, so the next is segment 10.
+    assert_eq!(rt; find_full(&parts, 9), (1u32, 81u32));
+    Ok(())
+}
+
+#[test]
+fn full_volume_has_no_space(rt: HostRuntime) -> Result<(), Fail> {
+    let parts = with_row(&rt, rt.alloc(), Row::FullVolume)?;
+    assert_eq!(rt; parts.blocks.len(), 128usize);
+    Ok(())
+}

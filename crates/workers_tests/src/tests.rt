@@ -1,3 +1,0 @@
-//! Workers that wait for each other at a gate.
-mod open;
-mod turns;
