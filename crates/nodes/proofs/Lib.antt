@@ -15,3 +15,4 @@ pub mod Lacking
 pub mod Namers
 pub mod Useful
 pub mod Placing
+pub mod Walking

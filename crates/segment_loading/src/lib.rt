@@ -10,7 +10,8 @@ mod segments;
 mod settling;
 mod table;
 
+pub use loading::free_table;
 pub use segment_rights::SegmentRights;
 pub use segments::load_segments;
 pub use settling::LoadedSegments;
-pub use table::{free_table, new_table, put_at, take_at};
+pub use table::{new_table, put_at, take_at};

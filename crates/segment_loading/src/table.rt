@@ -1,7 +1,5 @@
 //! Tables of rights, each with a place that it has to itself.
 ghost use Rattle.std.specs.Prelude.{◌≡◌, ◌<◌, None, Some, IsSome, length, replicate, slice_index_or, slice_set, IfOk};
-ghost use Rattle.sums.specs.Weights.{weigh};
-ghost use Rattle.loading.specs.Goods.{in_place};
 
 use std::alloc::{AllocError, Global};
 
@@ -38,17 +36,4 @@ pub fn take_at<T>(table: &mut Vec<Option<T>>, place: u32) -> T
         Some(right) => right,
         None => unreachable!(),
     }
-}
-
-/// Frees a table where nothing stands.
-pub fn free_table<T>(mut table: Vec<Option<T>>)
-    requires { weigh (in_place (λ _. 1)) table.items ≡ 0 }
-{
-    while let Some(place) = table.pop() {
-        match place {
-            None => {}
-            Some(_) => unreachable!(),
-        }
-    }
-    table.destroy_empty();
 }

@@ -1,7 +1,7 @@
 use Rattle.std.proofs.Common.{◌≡◌, vec_len}
 use Rattle.sums.specs.Weights.{weigh}
 use Rattle.loading.specs.Goods.{in_place}
-use Rattle.segment_loading.proofs.table.free_table.Given as goal
+use Rattle.loading.proofs.stock.free_table.Given as goal
 
 abbrev pub invariant-loop-place : goal.invariant-loop-place
 invariant-loop-place g l = weigh (in_place (λ _. 1)) l.table.items ≡ 0
