@@ -6,7 +6,7 @@
 mod report;
 mod work;
 
-use crate::closing::close;
+use crate::ending::close;
 use crate::fault::Fault;
 use crate::naming::mounted::measure_mount;
 use crate::task::Task;

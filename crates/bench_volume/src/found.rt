@@ -1,5 +1,5 @@
 //! What was found.
-use crate::{calls, checkpoints, cleaning, mounts, threads};
+use crate::{calls, checkpoints, cleans, mounts, threads};
 use std::io;
 
 /// What was found on one volume.
@@ -8,7 +8,7 @@ pub enum Found {
     Calls(calls::Work),
     Threads(threads::Work),
     Checkpoints(checkpoints::Report),
-    Cleaning(cleaning::Report),
+    Cleaning(cleans::Report),
     Mount(mounts::Report),
 }
 

@@ -13,10 +13,10 @@
 mod asked;
 mod calls;
 mod checkpoints;
-mod cleaning;
-mod closing;
+mod cleans;
 mod depth;
 mod desk;
+mod ending;
 mod fault;
 mod found;
 mod measurement;

@@ -1,6 +1,6 @@
 //! The measurements.
 use crate::task::Task;
-use crate::{calls, checkpoints, cleaning, mounts, threads};
+use crate::{calls, checkpoints, cleans, mounts, threads};
 use std::alloc::{AllocError, Global};
 
 /// What is measured.
@@ -50,7 +50,7 @@ impl Measurement {
             Measurement::Calls => calls::tasks(alloc, is_measure),
             Measurement::Threads => threads::tasks(alloc, is_measure),
             Measurement::Checkpoints => checkpoints::tasks(alloc, is_measure),
-            Measurement::Cleaning => cleaning::tasks(alloc, is_measure),
+            Measurement::Cleaning => cleans::tasks(alloc, is_measure),
             Measurement::Mounts => mounts::tasks(alloc, is_measure),
         }
     }

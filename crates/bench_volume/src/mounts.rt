@@ -8,7 +8,7 @@ mod check;
 mod report;
 mod sparse;
 
-use crate::closing::close;
+use crate::ending::close;
 use crate::fault::Fault;
 use crate::naming::mounted::measure_mount;
 use crate::task::Task;

@@ -1,9 +1,9 @@
 //! What is measured on one volume.
-use crate::cleaning::Load;
+use crate::cleans::Load;
 use crate::depth::Depth;
 use crate::fault::Fault;
 use crate::found::Found;
-use crate::{calls, checkpoints, cleaning, mounts, threads};
+use crate::{calls, checkpoints, cleans, mounts, threads};
 use device::{MemBlock, MemMeta};
 use geometry::{Error, Geometry};
 use opening::{Seat, Volume};
@@ -82,7 +82,7 @@ impl Task {
                 Ok(Found::Checkpoints(report))
             }
             Task::Cleaning(load) => {
-                let report = cleaning::measure(rt, alloc, volume, load)?;
+                let report = cleans::measure(rt, alloc, volume, load)?;
                 Ok(Found::Cleaning(report))
             }
             Task::Mount(size) => {
