@@ -34,7 +34,6 @@ loop-place-preserved c =
     let at = c.loop-place in
     let before = at.invariant in
     let place = at.place in
-    let book = c.args.books.now.book in
     let old = c.args.accounts.now.items in
     let files = length old in
     let within : place < length all = omega arith in
@@ -46,7 +45,7 @@ loop-place-preserved c =
           let accounts = ap (λ v. v.items) w.accounts-is in
           let permit = w.permit-is in
           record {
-            of_book = subst (AreOfBook book) (sym accounts) w.lodge_token.ensures.accounts;
+            of_book = subst (AreOfBook c.args.books.now.book) (sym accounts) w.lodge_token.ensures.accounts;
             lodged = subst (λ xs. Lodges old xs (λ _ _. 0) (λ k h. weigh (in_place (λ (e : Entry). of_file (k + 1) e.inode (h e))) (take (place + 1) all))) (sym accounts)
                 (lodges_both old at.accounts.items w.lodge_token.new.accounts.items (λ _ _. 0) (λ _ _. 0)
                 (λ k h. weigh (in_place (λ (e : Entry). of_file (k + 1) e.inode (h e))) (take place all)) (λ k h. of_file (k + 1) t.inode (h t))
@@ -69,7 +68,7 @@ loop-place-preserved c =
           let accounts = ap (λ v. v.items) w.accounts-is in
           let permit = w.permit-is in
           record {
-            of_book = subst (AreOfBook book) (sym accounts) before.of_book;
+            of_book = subst (AreOfBook c.args.books.now.book) (sym accounts) before.of_book;
             lodged = subst (λ xs. Lodges old xs (λ _ _. 0) (λ k h. weigh (in_place (λ (e : Entry). of_file (k + 1) e.inode (h e))) (take (place + 1) all))) (sym accounts)
                 (lodges_both old at.accounts.items at.accounts.items (λ _ _. 0) (λ _ _. 0)
                 (λ k h. weigh (in_place (λ (e : Entry). of_file (k + 1) e.inode (h e))) (take place all)) (λ _ _. 0)
