@@ -10,7 +10,6 @@
 //! are told. A measurement's name as an argument picks that one alone.
 #![tactic(auto)]
 
-mod asked;
 mod calls;
 mod checkpoints;
 mod cleans;
@@ -23,13 +22,14 @@ mod measurement;
 mod mounts;
 mod naming;
 mod places;
+mod request;
 mod task;
 mod threads;
 
-use asked::{Asked, asked};
 use fault::Fault;
 use measurement::{MEASUREMENTS, Measurement};
 use naming::fresh::measure;
+use request::{Request, read_request};
 use std::alloc::Global;
 use std::fmt::Write;
 use std::io;
@@ -42,7 +42,7 @@ const USAGE: &str =
     "use: bench_volume [--measure] [calls | threads | checkpoints | cleaning | mounts]";
 
 fn main(rt: HostRuntime) -> io::Result<()> {
-    let Some(Asked { is_measure, only }) = asked(&rt)? else {
+    let Some(Request { is_measure, only }) = read_request(&rt)? else {
         eprintln!(rt; "{USAGE}")?;
         return Err(io::Error::from(io::ErrorKind::InvalidInput));
     };

@@ -4,13 +4,13 @@ use std::rt::Runtime;
 use std::{env, io};
 
 /// Whether times are asked for, and the one measurement, if not all of them are.
-pub struct Asked {
+pub struct Request {
     pub is_measure: bool,
     pub only: Option<Measurement>,
 }
 
 /// What the arguments ask for. None where one of them is neither `--measure` nor the name of a measurement.
-pub fn asked<R: Runtime>(rt: &R) -> io::Result<Option<Asked>> {
+pub fn read_request<R: Runtime>(rt: &R) -> io::Result<Option<Request>> {
     let mut is_measure = false;
     let mut only = None;
     for word in env::args(rt)?.skip(1) {
@@ -23,5 +23,5 @@ pub fn asked<R: Runtime>(rt: &R) -> io::Result<Option<Asked>> {
             }
         }
     }
-    Ok(Some(Asked { is_measure, only }))
+    Ok(Some(Request { is_measure, only }))
 }
