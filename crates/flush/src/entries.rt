@@ -9,12 +9,12 @@ ghost use Rattle.flush.specs.Writing.{IsAmong, WritesOne, marked_node};
 use crate::walk::Walk;
 use crate::writer::{NodeBlock, NodeWriter};
 use geometry::{Class, Error, Kind};
-use tree::{Branch, Entries, Subtree};
+use tree::{Branch, Entries, Slots, Subtree};
 
 /// Writes what entries name over as many numbers: the address of a block or the number of a node, 0 where there is nothing.
-pub fn spell_entries<C: Subtree>(slots: &[Option<C>], numbers: &mut [u32])
-    requires { length numbers.old ≡ length slots.now }
-    ensures { numbers.new ≡ map C.number slots.now }
+pub fn spell_entries<C: Subtree>(slots: &Slots<C>, numbers: &mut [u32])
+    requires { length numbers.old ≡ length slots.now.items }
+    ensures { numbers.new ≡ map C.number slots.now.items }
 {
     for place in 0..slots.len() {
         numbers[place] = C::entry(&slots[place]);
@@ -128,7 +128,7 @@ pub fn flush_entries<C: Walk, W: NodeWriter>(
     ensures mark { below.new.dirty ≡ below.old.dirty }
     ensures room { length numbers.new ≡ length numbers.old }
 {
-    for place in 0..count {
+    for place in 0..below.slots.end() {
         if flush_at(below, place, entries, numbers, writer)? {
             return Ok(true);
         }

@@ -59,8 +59,8 @@ impl<B: Block> FileState<B> {
                 names_below(&self.indirect, pointer.saturating_sub(2), a, slot)
             }
             Path::Double(a, b, slot) => match self.double.slots.get(0) {
-                Some(Some(double)) => names_below(&double.entries, a, b, slot),
-                Some(None) | None => None,
+                Some(double) => names_below(&double.entries, a, b, slot),
+                None => None,
             },
         }
     }
@@ -84,8 +84,8 @@ fn names<C>(entries: &Entries<Branch<C>>, at: u32, slot: u32) -> Option<Owner>
     ensures { result ≡ owner_in (entry_at entries.now.slots.items at) slot }
 {
     match entries.slots.get(at as usize) {
-        Some(Some(node)) => Some(Owner::Data(node.token.number(), slot)),
-        Some(None) | None => None,
+        Some(node) => Some(Owner::Data(node.token.number(), slot)),
+        None => None,
     }
 }
 
@@ -99,7 +99,7 @@ fn names_below<C>(
     ensures { result ≡ owner_in (below (entry_at entries.now.slots.items at) below_it) slot }
 {
     match entries.slots.get(at as usize) {
-        Some(Some(node)) => names(&node.entries, below_it, slot),
-        Some(None) | None => None,
+        Some(node) => names(&node.entries, below_it, slot),
+        None => None,
     }
 }

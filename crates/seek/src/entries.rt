@@ -41,7 +41,7 @@ pub fn index_in<C: Seek>(
     ensures entry { IfSome result (λ index. (before : ℕ) → (before * C.span_of entries + index) % entries ≡ at) }
     ensures elsewhere { result ≡ None → weigh (C.weight (each_naming nid at from)) below.now.slots.items ≡ 0 }
 {
-    for place in 0..count {
+    for place in 0..below.slots.end() {
         if let Some(index) = C::index_of(&below.slots[place], entries, nid, at, from) {
             return Some(place * C::span(entries) + index);
         }
@@ -100,7 +100,7 @@ pub fn visit_in<C: Seek, V: NodeVisitor>(
     ensures numbers { map C.number below.new.slots.items ≡ map C.number below.old.slots.items }
     ensures mark { below.new.dirty ≡ below.old.dirty }
 {
-    for place in 0..count {
+    for place in 0..below.slots.end() {
         if visit_at(below, place, entries, nid, visitor)? {
             return Ok(true);
         }

@@ -1,10 +1,11 @@
 -- A change below one entry, as a change of the entries, and as one of their node.
-use Rattle.std.proofs.Common.{◌≡◌, ℕ, suc, ◌+◌, ◌<◌, ◌||◌, Bool, true, false, not, List, [], ◌∷◌, length, get_or, set, map, Option, Some, None, is_some, is_none, refl, sym, ap, ◌∙◌, arith}
+use Rattle.std.proofs.Common.{◌≡◌, ℕ, suc, ◌+◌, ◌<◌, ◌||◌, Bool, true, false, not, List, [], ◌∷◌, length, get_or, set, map, Option, Some, None, is_some, is_none, refl, sym, ap, ◌∙◌, inl, inr, arith}
 use Rattle.std.proofs.Math.Seq.{map-set_same}
+use Rattle.std.proofs.lemmas.Bool.{cases_lt}
 use Rattle.std.proofs.lemmas.List.{get_or_default}
 use Rattle.sums.specs.Weights.{weigh}
 use Rattle.sums.proofs.Weighing.{weigh-set}
-use Rattle.tree.specs.Tree.{entry_at, AreNone}
+use Rattle.tree.specs.Tree.{entry_at, AreNone, EmptyFrom}
 use Rattle.tickets.specs.Entry.{Entry}
 use Rattle.tree.specs.Change.{tree_node, TreeNode, Weighing, Touched, gone, come, MarksOne, Trades, ChangesSlot, ChangesEntries}
 
@@ -30,6 +31,14 @@ weigh_zero f (x ∷ xs) all =
     let here : f x ≡ 0 = all 0 (omega arith) in
     let rest : weigh f xs ≡ 0 = weigh_zero f xs (λ k h. all (suc k) (omega arith)) in
     omega arith
+
+-- the same where only those up to an end are known, and from there on there is nothing
+pub weigh_used : {C : Type 0} (f : Option C → ℕ) (xs : List (Option C)) (end : ℕ) → f None ≡ 0 → EmptyFrom (entry_at xs) end
+    → ((k : ℕ) → k < end → f (entry_at xs k) ≡ 0) → weigh f xs ≡ 0
+weigh_used f xs end none rest used = weigh_zero f xs (λ k _. elim (cases_lt k end) [
+  | inl lt ↦ used k lt
+  | inr ge ↦ ap f (rest k ge) ∙ none
+])
 
 pub none_is : {C : Type 0} (x : Option C) (b : Bool) → is_some x ≡ not b → is_none x ≡ b
 none_is None true e = refl

@@ -1,3 +1,4 @@
+pub mod Padding
 pub mod Same
 pub mod Changes
 pub mod Below

@@ -4,3 +4,5 @@ pub mod Laws
 pub mod Pruned
 pub mod Useful
 pub use Rattle.tickets.specs.Entry
+pub mod Padded
+pub mod Lending

@@ -4,6 +4,7 @@ ghost use Rattle.sums.specs.Weights.{weigh};
 ghost use Rattle.tree.specs.Tree.{find_in, ShapedIn, AreNone, entry_at, number_of};
 ghost use Rattle.tree.specs.Change.{nothing, each_marked};
 
+use crate::slots::Slots;
 use crate::subtree::Subtree;
 use std::alloc::{AllocError, Global};
 use tickets::DeviceError;
@@ -15,7 +16,7 @@ mod migrate;
 /// The entries of a node, each of which names a ticket, a node or nothing, and whether one was changed since they were
 /// written.
 pub struct Entries<C> {
-    pub slots: Vec<Option<C>>,
+    pub slots: Slots<C>,
     pub dirty: bool,
 }
 
@@ -33,10 +34,7 @@ impl<C> Entries<C> {
         ensures nothing { IfOk result (λ entries. AreNone entries.slots.items) }
         ensures marked { IfOk result (λ entries. entries.dirty ≡ true) }
     {
-        let mut slots = Vec::with_capacity(alloc, count)?;
-        for _i in 0..count {
-            slots.push_reserved(None);
-        }
+        let slots = Slots::new(alloc, count)?;
         Ok(Entries { slots, dirty: true })
     }
 
@@ -44,17 +42,8 @@ impl<C> Entries<C> {
     pub fn destroy(self)
         requires { AreNone self.slots.items }
     {
-        let Entries {
-            mut slots,
-            dirty: _,
-        } = self;
-        while let Some(child) = slots.pop() {
-            match child {
-                None => {}
-                Some(_) => unreachable!(),
-            }
-        }
-        slots.destroy_empty();
+        let Entries { slots, dirty: _ } = self;
+        slots.destroy();
     }
 
     // Marks the entries, where one of them was changed.
@@ -68,11 +57,11 @@ impl<C> Entries<C> {
 }
 
 // Whether no entry names anything.
-fn names_nothing<C>(slots: &[Option<C>]) -> bool
-    ensures { IsTrue result ↔ AreNone slots.now }
+fn names_nothing<C>(slots: &Slots<C>) -> bool
+    ensures { IsTrue result ↔ AreNone slots.now.items }
 {
-    for child in slots {
-        if child.is_some() {
+    for at in 0..slots.end() {
+        if slots[at].is_some() {
             return false;
         }
     }
@@ -99,8 +88,8 @@ impl<C: Subtree> Entries<C> {
         if self.dirty {
             return false;
         }
-        for slot in &self.slots {
-            if !C::is_clean(slot) {
+        for at in 0..self.slots.end() {
+            if !C::is_clean(&self.slots[at]) {
                 return false;
             }
         }

@@ -4,11 +4,13 @@
 
 mod branch;
 mod entries;
+mod slots;
 mod spare;
 mod subtree;
 
 pub use branch::Branch;
 pub use entries::{Entries, Pruned};
+pub use slots::Slots;
 pub use spare::Spare;
 pub use subtree::Subtree;
 pub use tickets::{NidToken, Ticket};

@@ -31,7 +31,7 @@ impl<C: Subtree> Entries<C> {
     {
         let span = C::span(entries);
         let first = from / span;
-        let mut at = count;
+        let mut at = self.slots.end();
         while at > first {
             at -= 1;
             if let Some(spare) = self.prune_at(at, entries, from.saturating_sub(at * span)) {

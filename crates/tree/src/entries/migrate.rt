@@ -73,8 +73,9 @@ impl<C: Subtree> Entries<C> {
         ensures back { IfErr result (λ back. back ≡ ticket) }
     {
         let mut ticket = ticket;
+        let end = self.slots.end();
         let mut place = 0;
-        while place < count {
+        while place < end {
             match self.migrate_at(place, entries, nid, at, from, ticket) {
                 Ok(before) => return Ok(before),
                 Err(back) => ticket = back,

@@ -3,7 +3,7 @@ use Rattle.std.proofs.Math.Seq.{map-set_same}
 use Rattle.tree.specs.Change.{each_marked}
 use Rattle.tree.proofs.Changes.{entry_is}
 use Rattle.tree.proofs.Results.{if_ok}
-use Rattle.tree.proofs.Same.{with_item-same}
+use Rattle.tree.proofs.Same.{with_slot-same}
 use Rattle.flush.proofs.Results.{if_err}
 use Rattle.flush.proofs.Walks.{among_entries, writes_entry}
 use Rattle.flush.proofs.entries.flush_at.Goals as goal
@@ -27,7 +27,7 @@ returns-clause-clean g c =
     let xs = c.args.below.now.slots.items in
     let is = entry_is xs c.args.place c.index_mut.result.now c.requires.at c.index_mut.ensures.value in
     if_ok c.flush_next.result c.flush_next.ensures.clean (λ found all no. let clean = all no in
-    let same = with_item-same c.args.below.now.slots c.args.place _ _ clean.1 c.index_mut.ensures.value in (
+    let same = with_slot-same c.args.below.now.slots c.args.place _ _ clean.1 c.index_mut.ensures.value in (
       ap (g.C.Subtree.weight each_marked) is ∙ clean.0,
       λ k. record { dirty = c.args.below.now.dirty; slots = same k },
       clean.2,
@@ -37,7 +37,7 @@ pub returns-clause-refused : goal.returns-clause-refused
 returns-clause-refused g c =
     let xs = c.args.below.now.slots.items in
     if_err c.flush_next.result c.flush_next.ensures.refused (λ e no.
-    let same = with_item-same c.args.below.now.slots c.args.place _ _ no.0 c.index_mut.ensures.value in (
+    let same = with_slot-same c.args.below.now.slots c.args.place _ _ no.0 c.index_mut.ensures.value in (
       λ k. record { dirty = c.args.below.now.dirty; slots = same k },
       no.1,
       no.2,

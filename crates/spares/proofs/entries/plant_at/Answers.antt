@@ -1,7 +1,7 @@
 use Rattle.std.proofs.Common.{true, false, is_some, ap, ◌∙◌}
 use Rattle.tree.specs.Change.{nothing}
 use Rattle.tree.proofs.Changes.{none_is, read_twice, entry_is, slot_change}
-use Rattle.tree.proofs.Same.{with_item-same}
+use Rattle.tree.proofs.Same.{with_slot-same}
 use Rattle.spares.proofs.entries.plant_at.Goals as goal
 
 pub returns-then-fresh-clause-change : goal.returns-then-fresh-clause-change
@@ -35,6 +35,6 @@ returns-else-fresh-clause-change g c =
 pub returns-then-not-plant-clause-none : goal.returns-then-not-plant-clause-none
 returns-then-not-plant-clause-none g c =
     λ _. (let kept = c.plant.ensures.none c.if-not-plant.true in
-    let same = with_item-same c.args.below.now.slots c.args.at _ _ kept.1 c.index_mut.ensures.value in
+    let same = with_slot-same c.args.below.now.slots c.args.at _ _ kept.1 c.index_mut.ensures.value in
     let is = entry_is c.args.below.now.slots.items c.args.at _ c.requires.at c.index_mut.ensures.value in
     (rw is kept.0, (λ k. record { dirty = c.args.below.now.dirty; slots = same k }), kept.2))

@@ -3,5 +3,5 @@ use Rattle.tree.specs.Tree.{entry_at}
 use Rattle.tree.specs.Change.{each_marked}
 use Rattle.tree.proofs.entries.Entries.is_clean.Given as goal
 
-abbrev pub invariant-loop-slot : goal.invariant-loop-slot
-invariant-loop-slot g l = (k : ℕ) → k < l.slot-index → g.C.Subtree.weight each_marked (entry_at l.self.slots.items k) ≡ 0
+abbrev pub invariant-loop-at : goal.invariant-loop-at
+invariant-loop-at g l = (k : ℕ) → k < l.at → g.C.Subtree.weight each_marked (entry_at l.self.slots.items k) ≡ 0

@@ -2,7 +2,7 @@ use Rattle.std.proofs.Common.{◌≡◌, length, None, arith, ap}
 use Rattle.sums.proofs.Weighing.{weigh-at}
 use Rattle.tree.specs.Tree.{entry_at}
 use Rattle.tree.specs.Change.{each_naming}
-use Rattle.tree.proofs.Changes.{weigh_zero}
+use Rattle.tree.proofs.Changes.{weigh_used}
 use Rattle.tree.proofs.Below.{swaps_below, names_some}
 use Rattle.tree.proofs.entries.Entries.migrate.Goals as goal
 
@@ -30,9 +30,9 @@ returns-in-Ok-clause-swaps g c =
 
 pub returns-clause-elsewhere : goal.returns-clause-elsewhere
 returns-clause-elsewhere g c =
-    let xs = c.args.self.now.slots.items in
-    let wide : length xs ≡ c.args.count = c.requires.shaped.0 in
-    weigh_zero (g.C.Subtree.weight (each_naming c.args.nid c.args.at c.args.from)) xs (λ k h. c.loop-place.invariant.unnamed k (omega arith))
+    let asked = each_naming c.args.nid c.args.at c.args.from in
+    weigh_used (g.C.Subtree.weight asked) c.args.self.now.slots.items c.end-end.result (g.met.C.Subtree.weight_none asked) c.end-end.ensures.nothing
+    (λ k h. c.loop-place.invariant.unnamed k (omega arith))
 
 pub returns-in-Ok-clause-some : goal.returns-in-Ok-clause-some
 returns-in-Ok-clause-some g c =

@@ -1,6 +1,6 @@
 use Rattle.std.proofs.Common.{false, refl}
 use Rattle.tree.proofs.Changes.{slot_change}
-use Rattle.tree.proofs.Same.{with_item-same}
+use Rattle.tree.proofs.Same.{with_slot-same}
 use Rattle.tree.proofs.entries.Entries.migrate_at.Goals as goal
 
 pub returns-in-Ok-clause-change : goal.returns-in-Ok-clause-change
@@ -10,5 +10,5 @@ returns-in-Ok-clause-change g c =
 
 pub returns-in-Err-clause-refused : goal.returns-in-Err-clause-refused
 returns-in-Err-clause-refused g c =
-    let same = with_item-same c.args.self.now.slots c.args.place _ _ c.in-Err.ensures.refused c.index_mut.ensures.value in
+    let same = with_slot-same c.args.self.now.slots c.args.place _ _ c.in-Err.ensures.refused c.index_mut.ensures.value in
     λ k. record { dirty = c.args.self.now.dirty; slots = same k }

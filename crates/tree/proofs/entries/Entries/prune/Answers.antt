@@ -35,7 +35,7 @@ returns-else-names_nothing-clause-cases g c =
           let r = div-mul-le_self c.args.from span in
           let m : c.args.from / span ≤ j / span = le-div (c.args.from / span) j span positive (omega arith) in
           c.loop-at.invariant.empty (j / span) (omega arith) (j % span) (rw is (omega arith))),
-      λ z. (let no = c.if-names_nothing.ensures.1 (λ k. rw (c.deref.ensures.value, same) (nothing z k)) in cc),
+      λ z. (let no = c.if-names_nothing.ensures.1 (λ k. rw same (nothing z k)) in cc),
     )
 
 pub returns-else-names_nothing-clause-past : goal.returns-else-names_nothing-clause-past
@@ -61,5 +61,5 @@ returns-else-names_nothing-clause-past g c =
           (λ one end from some a. let more = test one end (omega arith) some a in rw is (omega arith))
     ] in (
       λ asked first test. rw same (useful asked first test),
-      λ none. (let no = c.if-names_nothing.ensures.1 (λ k. rw c.deref.ensures.value (none k)) in cc),
+      λ none. (let no = c.if-names_nothing.ensures.1 none in cc),
     )

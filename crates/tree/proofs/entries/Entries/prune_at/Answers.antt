@@ -2,13 +2,13 @@ use Rattle.std.proofs.Common.{is_some, ap, sym, ◌∙◌}
 use Rattle.std.proofs.lemmas.List.{get_or-set_same}
 use Rattle.tree.specs.Change.{nothing}
 use Rattle.tree.proofs.Changes.{none_is, entry_is, slot_change}
-use Rattle.tree.proofs.Same.{with_item-same}
+use Rattle.tree.proofs.Same.{with_slot-same}
 use Rattle.tree.proofs.entries.Entries.prune_at.Goals as goal
 
 pub returns-in_default-clause-none : goal.returns-in_default-clause-none
 returns-in_default-clause-none g c =
     let kept = c.in_default.ensures.none in
-    let same = with_item-same c.args.self.now.slots c.args.at _ _ kept.0 c.index_mut.ensures.value in
+    let same = with_slot-same c.args.self.now.slots c.args.at _ _ kept.0 c.index_mut.ensures.value in
     let is = entry_is c.args.self.now.slots.items c.args.at _ c.requires.at c.index_mut.ensures.value in
     (λ k. record { dirty = c.args.self.now.dirty; slots = same k }, λ j h. rw is (kept.1 j h), λ h. rw is (kept.2 h))
 
