@@ -11,3 +11,8 @@ pub loop-place-preserved-in-Some-place : goal.loop-place-preserved-in-Some-place
 loop-place-preserved-in-Some-place g c = λ k room e.
     let front = c.pop.new.self.items in
     c.loop-place.invariant k room (ap (λ xs. get_or xs k None) c.in-Some.ensures.items ∙ get_front front c.in-Some.place k room e)
+
+pub loop-place-preserved : goal.loop-place-preserved
+loop-place-preserved g c = λ k room e.
+    let front = c.pop.new.self.items in
+    c.loop-place.invariant k room (ap (λ xs. get_or xs k None) c.in-Some.ensures.items ∙ get_front front c.in-Some.place k room e)
