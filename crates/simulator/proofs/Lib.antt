@@ -1,5 +1,6 @@
 pub mod Texts
 pub mod Known
+mod Memory
 pub mod Runs
 pub mod Going
 pub mod Shown

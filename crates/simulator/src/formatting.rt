@@ -4,12 +4,13 @@ ghost use Rattle.device.specs.Parts.{HasSize};
 ghost use Rattle.session.specs.Files.{AreInOrder};
 ghost use Rattle.simulator.specs.Ending.{LeftSome};
 ghost use Rattle.simulator.specs.Run.{first_opening, names_line};
+ghost use Rattle.volume_names.specs.Picked.{HaveNames};
 
 use crate::disk::Faults;
 use crate::leaving::{Left, run_volume};
 use crate::steps::{Carried, Opening};
 use crate::stop::Stop;
-use device::{Block, Meta, Parts};
+use device::{Meta, Parts};
 use geometry::Geometry;
 use names::{BooksName, GeometryName, PoolName, TurnName, VolumeName, WordsName};
 use opening::{FilePass, Formatted, Opened, format};
@@ -19,6 +20,7 @@ use std::io::Write;
 use std::marker::Brand;
 use std::sync::Wait;
 use std::thread::Threads;
+use workers::SharedBlock;
 
 // How the first volume of a script comes to be.
 const FIRST: Opening = Opening {
@@ -31,12 +33,7 @@ const FIRST: Opening = Opening {
 
 /// Runs the steps on a new volume of these numbers, and leaves it. Nothing is written to `out` where the volume could not be
 /// made.
-pub fn run_formatted<
-    M: Meta + Drop + Send,
-    B: Block + Drop + Send,
-    R: Threads + Wait + Sync,
-    O: Write,
->(
+pub fn run_formatted<M: Meta + Drop + Send, B: SharedBlock, R: Threads + Wait + Sync, O: Write>(
     rt: &R,
     alloc: Global,
     parts: Parts<M, B>,
@@ -45,8 +42,6 @@ pub fn run_formatted<
     faults: &Faults,
     out: &mut O,
 ) -> Result<Left<M, B>, Stop>
-where
-    B::Lease: Send,
     requires size { HasSize M.seen B.address_of B.content_of geometry parts }
     ensures done { IfOk result (λ left. LeftSome M.seen B.address_of B.content_of steps.now geometry [] first_opening left (O.contents out.old) (O.contents out.new)) }
     ensures err { IfErr result (λ stop. names_line stop ≡ false) }
@@ -64,7 +59,7 @@ fn with_tables<
     W: WordsName + Send + Sync,
     N: GeometryName + Send + Sync,
     M: Meta + Drop + Send,
-    B: Block + Drop + Send,
+    B: SharedBlock,
     R: Threads + Wait + Sync,
     O: Write,
 >(
@@ -75,8 +70,6 @@ fn with_tables<
     faults: &Faults,
     out: &mut O,
 ) -> Result<Left<M, B>, Stop>
-where
-    B::Lease: Send,
     requires books { formatted.tables.books ≡ L.books }
     requires words { formatted.tables.words ≡ W.words }
     requires geometry { formatted.tables.geometry ≡ N.geometry }
@@ -98,7 +91,7 @@ fn with_queues<
     P: PoolName + Send + Sync,
     T: TurnName + Send + Sync,
     M: Meta + Drop + Send,
-    B: Block + Drop + Send,
+    B: SharedBlock,
     R: Threads + Wait + Sync,
     O: Write,
 >(
@@ -109,12 +102,7 @@ fn with_queues<
     faults: &Faults,
     out: &mut O,
 ) -> Result<Left<M, B>, Stop>
-where
-    B::Lease: Send,
-    requires ordinary { opened.queues.ordinary ≡ P.ordinary }
-    requires reserve { opened.queues.reserve ≡ P.reserve }
-    requires turns { opened.channel.turns ≡ T.turns }
-    requires key { opened.channel.key ≡ T.key }
+    requires named { HaveNames opened.queues opened.channel P.ordinary P.reserve T.turns T.key }
     ensures done { IfOk result (λ left. LeftSome M.seen B.address_of B.content_of steps.now N.geometry [] first_opening left (O.contents out.old) (O.contents out.new)) }
     ensures err { IfErr result (λ stop. names_line stop ≡ false) }
 {

@@ -10,7 +10,7 @@ use crate::disk::Faults;
 use crate::steps::{Carried, Halt, Opening, run_session};
 use crate::stop::Stop;
 use device::{Block, Meta, Parts};
-use names::{BooksName, GeometryName, Named, PoolName, TurnName, VolumeName, WordsName};
+use names::VolumeName;
 use opening::{CloseFault, Closed, FilePass, Seat, Volume};
 use script::Step;
 use session::lines::tell_unsynced;
@@ -18,6 +18,8 @@ use std::alloc::Global;
 use std::io::Write;
 use std::sync::Wait;
 use std::thread::Threads;
+use volume_names::SharedName;
+use workers::SharedBlock;
 
 /// A device whose volume was left: how many steps were run, and what the script carries on. All were run, or the next one
 /// mounts the device again.
@@ -30,30 +32,24 @@ pub struct Left<M: Meta, B: Block> {
 /// Runs the steps on a volume that was just opened, with its seats and passes, and leaves it: by a close where all were run, and
 /// else as it is.
 pub fn run_volume<
-    L: BooksName + Send + Sync,
-    W: WordsName + Send + Sync,
-    P: PoolName + Send + Sync,
-    T: TurnName + Send + Sync,
-    N: GeometryName + Send + Sync,
+    V: SharedName,
     M: Meta + Drop + Send,
-    B: Block + Drop + Send,
+    B: SharedBlock,
     R: Threads + Wait + Sync,
     O: Write,
 >(
     rt: &R,
     alloc: Global,
-    volume: Volume<Named<L, W, P, T, N>, M, B>,
-    seats: Vec<Seat<Named<L, W, P, T, N>>>,
-    passes: Vec<FilePass<Named<L, W, P, T, N>>>,
+    volume: Volume<V, M, B>,
+    seats: Vec<Seat<V>>,
+    passes: Vec<FilePass<V>>,
     opening: Opening,
     steps: &[Step],
     faults: &Faults,
     out: &mut O,
 ) -> Result<Left<M, B>, Stop>
-where
-    B::Lease: Send,
-    requires in_order { AreInOrder N.geometry.files passes.items }
-    ensures done { IfOk result (λ left. LeftSome M.seen B.address_of B.content_of steps.now N.geometry passes.items opening left (O.contents out.old) (O.contents out.new)) }
+    requires in_order { AreInOrder V.Numbers.geometry.files passes.items }
+    ensures done { IfOk result (λ left. LeftSome M.seen B.address_of B.content_of steps.now V.Numbers.geometry passes.items opening left (O.contents out.old) (O.contents out.new)) }
     ensures err { IfErr result (λ stop. names_line stop ≡ false) }
 {
     match run_session(

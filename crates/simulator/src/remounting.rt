@@ -9,12 +9,13 @@ ghost use Rattle.node_reading.specs.Blocks.{bytes_at};
 ghost use Rattle.session.specs.Files.{AreInOrder};
 ghost use Rattle.simulator.specs.Ending.{WentOn, WentOnWith};
 ghost use Rattle.simulator.specs.Run.{names_line};
+ghost use Rattle.volume_names.specs.Picked.{HaveNames};
 
 use crate::disk::Faults;
 use crate::leaving::{Left, run_volume};
 use crate::steps::{Carried, Opening};
 use crate::stop::Stop;
-use device::{Block, Meta, Parts};
+use device::{Meta, Parts};
 use mounting::{Mounted, MountedQueues, mount};
 use names::{BooksName, GeometryName, PoolName, TurnName, VolumeName, WordsName};
 use opening::FilePass;
@@ -24,14 +25,10 @@ use std::io::Write;
 use std::marker::Brand;
 use std::sync::Wait;
 use std::thread::Threads;
+use workers::SharedBlock;
 
 /// Mounts the parts of a device, runs the steps on its volume, and leaves it.
-pub fn run_mounted<
-    M: Meta + Drop + Send,
-    B: Block + Drop + Send,
-    R: Threads + Wait + Sync,
-    O: Write,
->(
+pub fn run_mounted<M: Meta + Drop + Send, B: SharedBlock, R: Threads + Wait + Sync, O: Write>(
     rt: &R,
     alloc: Global,
     parts: Parts<M, B>,
@@ -40,8 +37,6 @@ pub fn run_mounted<
     faults: &Faults,
     out: &mut O,
 ) -> Result<Left<M, B>, Stop>
-where
-    B::Lease: Send,
     requires run { (bytes : ℕ) × IsBlockRun B.address_of B.content_of bytes 1 parts.blocks.items }
     ensures done { IfOk result (λ left. WentOn M.seen B.address_of B.content_of (M.seen parts.meta) steps.now carried left (O.contents out.old) (O.contents out.new)) }
     ensures err { IfErr result (λ stop. names_line stop ≡ false) }
@@ -59,7 +54,7 @@ fn on_mounted<
     W: WordsName + Send + Sync,
     N: GeometryName + Send + Sync,
     M: Meta + Drop + Send,
-    B: Block + Drop + Send,
+    B: SharedBlock,
     R: Threads + Wait + Sync,
     O: Write,
 >(
@@ -71,8 +66,6 @@ fn on_mounted<
     faults: &Faults,
     out: &mut O,
 ) -> Result<Left<M, B>, Stop>
-where
-    B::Lease: Send,
     requires books { mounted.books ≡ L.books }
     requires words { mounted.words ≡ W.words }
     requires geometry { mounted.geometry ≡ N.geometry }
@@ -94,7 +87,7 @@ fn on_opened<
     P: PoolName + Send + Sync,
     T: TurnName + Send + Sync,
     M: Meta + Drop + Send,
-    B: Block + Drop + Send,
+    B: SharedBlock,
     R: Threads + Wait + Sync,
     O: Write,
 >(
@@ -106,12 +99,7 @@ fn on_opened<
     faults: &Faults,
     out: &mut O,
 ) -> Result<Left<M, B>, Stop>
-where
-    B::Lease: Send,
-    requires ordinary { opened.queues.ordinary ≡ P.ordinary }
-    requires reserve { opened.queues.reserve ≡ P.reserve }
-    requires turns { opened.channel.turns ≡ T.turns }
-    requires key { opened.channel.key ≡ T.key }
+    requires named { HaveNames opened.queues opened.channel P.ordinary P.reserve T.turns T.key }
     ensures done { IfOk result (λ left. WentOnWith M.seen B.address_of B.content_of opened.named.mounted.geometry opened.named.mounted.image (bytes_at B.content_of opened.named.mounted.parts.blocks.items) steps.now carried left (O.contents out.old) (O.contents out.new)) }
     ensures err { IfErr result (λ stop. names_line stop ≡ false) }
 {

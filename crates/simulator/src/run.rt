@@ -20,6 +20,7 @@ use std::alloc::Global;
 use std::io::{Read, Write};
 use std::sync::Wait;
 use std::thread::Threads;
+use workers::SharedBlock;
 
 /// Reads a script to its end, and runs it on a new volume in memory: each command writes its line to `out`. Behind the last
 /// one the readers that are open are closed, and the volume is closed with a checkpoint. A wounded volume has none: it is left
@@ -99,7 +100,7 @@ fn run_whole<T: Threads + Wait + Sync, W: Write>(
 
 // Runs all steps, each on the volume that the last one before it mounted, and leaves the last of these volumes: the parts of its
 // device.
-fn run_volumes<M: Meta + Drop + Send, B: Block + Drop + Send, T: Threads + Wait + Sync, W: Write>(
+fn run_volumes<M: Meta + Drop + Send, B: SharedBlock, T: Threads + Wait + Sync, W: Write>(
     rt: &T,
     alloc: Global,
     parts: Parts<M, B>,
@@ -108,8 +109,6 @@ fn run_volumes<M: Meta + Drop + Send, B: Block + Drop + Send, T: Threads + Wait 
     faults: &Faults,
     out: &mut W,
 ) -> Result<Parts<M, B>, Stop>
-where
-    B::Lease: Send,
     requires size { HasSize M.seen B.address_of B.content_of geometry parts }
     ensures done { IfOk result (λ parts. LeftScript M.seen B.address_of B.content_of steps.now parts (W.contents out.old) (W.contents out.new)) }
     ensures err { IfErr result (λ stop. names_line stop ≡ false) }

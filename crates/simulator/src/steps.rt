@@ -10,7 +10,7 @@ use crate::disk::Faults;
 use crate::stop::Stop;
 use device::{Block, Meta};
 use geometry::Error;
-use names::{BooksName, GeometryName, Named, PoolName, TurnName, VolumeName, WordsName};
+use names::VolumeName;
 use opening::{FilePass, Seat, Volume};
 use script::{Command, Step};
 use session::lines::{tell_created, tell_done, tell_refusal, tell_status, tell_taken};
@@ -20,7 +20,8 @@ use std::io;
 use std::io::Write;
 use std::sync::Wait;
 use std::thread::Threads;
-use workers::{OpenGate, run_part};
+use volume_names::SharedName;
+use workers::{OpenGate, SharedBlock, run_part};
 
 /// What a script carries from one volume to the next: the time that was set, and how many readers were taken.
 #[derive(Clone, Copy, Debug, PartialEq, Eq)]
@@ -60,30 +61,24 @@ impl Opening {
 
 /// Tells that a volume is there, and runs the steps on it, up to one that mounts it again.
 pub fn run_session<
-    L: BooksName + Send + Sync,
-    W: WordsName + Send + Sync,
-    P: PoolName + Send + Sync,
-    T: TurnName + Send + Sync,
-    N: GeometryName + Send + Sync,
+    V: SharedName,
     M: Meta + Send,
-    B: Block + Drop + Send,
+    B: SharedBlock,
     R: Threads + Wait + Sync,
     O: Write,
 >(
     rt: &R,
     alloc: Global,
-    volume: &Volume<Named<L, W, P, T, N>, M, B>,
-    seats: Vec<Seat<Named<L, W, P, T, N>>>,
-    passes: Vec<FilePass<Named<L, W, P, T, N>>>,
+    volume: &Volume<V, M, B>,
+    seats: Vec<Seat<V>>,
+    passes: Vec<FilePass<V>>,
     opening: Opening,
     steps: &[Step],
     faults: &Faults,
     out: &mut O,
-) -> Result<Halt<Named<L, W, P, T, N>>, Stop>
-where
-    B::Lease: Send,
-    requires in_order { AreInOrder N.geometry.files passes.items }
-    ensures done { IfOk result (λ halt. RanSome steps.now N.geometry passes.items opening halt.passes.items halt.run halt.carried (O.contents out.old) (O.contents out.new)) }
+) -> Result<Halt<V>, Stop>
+    requires in_order { AreInOrder V.Numbers.geometry.files passes.items }
+    ensures done { IfOk result (λ halt. RanSome steps.now V.Numbers.geometry passes.items opening halt.passes.items halt.run halt.carried (O.contents out.old) (O.contents out.new)) }
     ensures err { IfErr result (λ stop. names_line stop ≡ false) }
 {
     let Carried { time, readers } = opening.carried;
@@ -105,26 +100,14 @@ where
 }
 
 // Runs the steps in order, up to one that mounts the volume again, and answers how many were run.
-fn run_steps<
-    L: BooksName + Send + Sync,
-    W: WordsName + Send + Sync,
-    P: PoolName + Send + Sync,
-    T: TurnName + Send + Sync,
-    N: GeometryName + Send + Sync,
-    M: Meta + Send,
-    B: Block + Drop + Send,
-    R: Threads + Wait + Sync,
-    O: Write,
->(
+fn run_steps<V: SharedName, M: Meta + Send, B: SharedBlock, R: Threads + Wait + Sync, O: Write>(
     rt: &R,
     alloc: Global,
-    session: &mut Session<'_, Named<L, W, P, T, N>, M, B>,
+    session: &mut Session<'_, V, M, B>,
     steps: &[Step],
     faults: &Faults,
     out: &mut O,
 ) -> Result<usize, Stop>
-where
-    B::Lease: Send,
     ensures done { IfOk result (λ run. WroteSteps (take run steps.now) session.old session.new [] (O.contents out.old) (O.contents out.new)) }
     ensures halted { IfOk result (λ run. IsHalted steps.now run session.new.readers) }
     ensures err { IfErr result (λ stop. names_line stop ≡ false) }
@@ -154,26 +137,14 @@ fn is_remount(step: &Step) -> bool
 }
 
 // Runs a step that leaves the volume mounted.
-fn run_step<
-    L: BooksName + Send + Sync,
-    W: WordsName + Send + Sync,
-    P: PoolName + Send + Sync,
-    T: TurnName + Send + Sync,
-    N: GeometryName + Send + Sync,
-    M: Meta + Send,
-    B: Block + Drop + Send,
-    R: Threads + Wait + Sync,
-    O: Write,
->(
+fn run_step<V: SharedName, M: Meta + Send, B: SharedBlock, R: Threads + Wait + Sync, O: Write>(
     rt: &R,
     alloc: Global,
-    session: &mut Session<'_, Named<L, W, P, T, N>, M, B>,
+    session: &mut Session<'_, V, M, B>,
     step: &Step,
     faults: &Faults,
     out: &mut O,
 ) -> Result<(), Stop>
-where
-    B::Lease: Send,
     requires stays { is_remount step.now ≡ true → 0 < open_count session.old.readers }
     ensures done { OnOk result (Wrote (StepWrites step.now session.old session.new) (O.contents out.old) (O.contents out.new)) }
     ensures err { IfErr result (λ stop. names_line stop ≡ false) }

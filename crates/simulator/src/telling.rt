@@ -8,6 +8,7 @@ ghost use Rattle.node_reading.specs.Blocks.{bytes_at};
 ghost use Rattle.simulator.specs.Ending.{ToldParts};
 ghost use Rattle.session.specs.Lines.{block_text, file_line, image_lines, lines_of, total_line};
 ghost use Rattle.simulator.specs.Run.{names_line};
+ghost use Rattle.volume_names.specs.Picked.{HaveNames};
 
 use crate::stop::Stop;
 use device::{Block, Meta, Parts};
@@ -71,10 +72,7 @@ fn tell_opened<
     R: Wait,
     O: Write,
 >(rt: &R, alloc: Global, opened: MountedQueues<L, W, N, M, B>, out: &mut O) -> Result<(), Stop>
-    requires ordinary { opened.queues.ordinary ≡ P.ordinary }
-    requires reserve { opened.queues.reserve ≡ P.reserve }
-    requires turns { opened.channel.turns ≡ T.turns }
-    requires key { opened.channel.key ≡ T.key }
+    requires named { HaveNames opened.queues opened.channel P.ordinary P.reserve T.turns T.key }
     ensures told { OnOk result (Appends (O.contents out.old) (O.contents out.new) (image_lines opened.named.mounted.geometry opened.named.mounted.image (bytes_at B.content_of opened.named.mounted.parts.blocks.items))) }
     ensures err { IfErr result (λ stop. names_line stop ≡ false) }
 {

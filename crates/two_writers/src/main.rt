@@ -8,16 +8,18 @@
 ghost use Rattle.std.specs.Prelude.{◌≡◌, replicate, length, IfOk};
 ghost use Rattle.geometry.specs.File.{written};
 ghost use Rattle.geometry.specs.Shape.{block_bytes};
+ghost use Rattle.volume_names.specs.Picked.{HaveNames};
 
 use device::{MemBlock, MemDevice, MemMeta};
 use geometry::{Error, Geometry, Kind, Shape};
-use names::{BooksName, GeometryName, Named, PoolName, TurnName, VolumeName, WordsName};
+use names::{BooksName, GeometryName, PoolName, TurnName, VolumeName, WordsName};
 use opening::{FilePass, Formatted, Opened, Volume, format};
 use std::alloc::Global;
 use std::marker::Brand;
 use std::sync::Wait;
 use std::thread::Threads;
 use std::{io, thread};
+use volume_names::SharedName;
 
 fn main(rt: HostRuntime) -> io::Result<()> {
     match write_two_files(&rt, rt.alloc()) {
@@ -63,10 +65,7 @@ fn with_queues<
     T: TurnName + Send + Sync,
     R: Threads + Wait + Sync,
 >(rt: &R, alloc: Global, opened: Opened<L, W, N, MemMeta, MemBlock>) -> Result<(u8, u8), Error>
-    requires ordinary { opened.queues.ordinary ≡ P.ordinary }
-    requires reserve { opened.queues.reserve ≡ P.reserve }
-    requires turns { opened.channel.turns ≡ T.turns }
-    requires key { opened.channel.key ≡ T.key }
+    requires named { HaveNames opened.queues opened.channel P.ordinary P.reserve T.turns T.key }
 {
     match opened.name::<P, T, R>(rt) {
         Ok((volume, _seats)) => {
@@ -79,17 +78,10 @@ fn with_queues<
     }
 }
 
-fn write_both<
-    L: BooksName + Send + Sync,
-    W: WordsName + Send + Sync,
-    N: GeometryName + Send + Sync,
-    P: PoolName + Send + Sync,
-    T: TurnName + Send + Sync,
-    R: Threads + Wait + Sync,
->(
+fn write_both<V: SharedName, R: Threads + Wait + Sync>(
     rt: &R,
     alloc: Global,
-    volume: &Volume<Named<L, W, P, T, N>, MemMeta, MemBlock>,
+    volume: &Volume<V, MemMeta, MemBlock>,
 ) -> Result<(u8, u8), Error> {
     // A pass is the one right to change its file, so each thread is given one, and hands it back.
     let one = volume.create(rt, Kind::File)?;

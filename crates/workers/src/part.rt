@@ -5,12 +5,13 @@ ghost use Rattle.session.specs.Work.{Wrote};
 ghost use Rattle.workers.specs.Duties.{AreBack, AreGiven, told_text};
 ghost use Rattle.workers.specs.Part.{PartWrites};
 
+use crate::block::SharedBlock;
 use crate::duty::{Done, Duty};
 use crate::gate::Gate;
 use crate::tell::tell_end;
 use device::{Block, Meta};
 use jobs::run_side_by_side;
-use names::{BooksName, GeometryName, Named, PoolName, TurnName, VolumeName, WordsName};
+use names::VolumeName;
 use script::Worker;
 use session::Session;
 use std::alloc::Global;
@@ -18,6 +19,7 @@ use std::io;
 use std::io::{ErrorKind, Write};
 use std::sync::Wait;
 use std::thread::Threads;
+use volume_names::SharedName;
 
 /// Runs a parallel part: each worker has a session over the same volume to which the passes and the readers that its tasks name have
 /// moved, and a thread of its own, where one can be made. Once all workers have ended each of them tells its lines, in their order:
@@ -27,26 +29,20 @@ use std::thread::Threads;
 /// in memory until all have ended. Where memory is refused, or `out` can't be written, the part ends with that error, and nothing is
 /// said of the session any more.
 pub fn run_part<
-    L: BooksName + Send + Sync,
-    W: WordsName + Send + Sync,
-    P: PoolName + Send + Sync,
-    T: TurnName + Send + Sync,
-    N: GeometryName + Send + Sync,
+    V: SharedName,
     M: Meta + Send,
-    B: Block + Drop + Send,
+    B: SharedBlock,
     R: Threads + Wait + Sync,
     G: Gate + Sync,
     O: Write,
 >(
     rt: &R,
     alloc: Global,
-    session: &mut Session<'_, Named<L, W, P, T, N>, M, B>,
+    session: &mut Session<'_, V, M, B>,
     workers: &[Worker],
     gate: &G,
     out: &mut O,
 ) -> io::Result<()>
-where
-    B::Lease: Send,
     ensures { OnOk result (Wrote (PartWrites 0 workers.now session.old session.new) (O.contents out.old) (O.contents out.new)) }
 {
     let duties = give_shares(alloc, session, workers, gate)?;

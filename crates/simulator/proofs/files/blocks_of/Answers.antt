@@ -3,17 +3,10 @@ use Rattle.std.proofs.Math.Nat.{mul-le-mul_right, suc-mul}
 use Rattle.std.proofs.Math.Seq.{take-add}
 use Rattle.std.proofs.lemmas.List.Concat.{flat_map-append}
 use Rattle.std.specs.List.{flat_map}
-use Rattle.std.specs.Arc.{arc_value}
-use Rattle.device.specs.declared.memory.block.MemBlock.{MemBlock}
 use Rattle.device.specs.Parts.{IsBlockRun}
 use Rattle.device.proofs.BlockRuns.{run_push}
+use Rattle.simulator.proofs.Memory.{address, content}
 use Rattle.simulator.proofs.files.blocks_of.Goals as goal
-
-abbrev address : MemBlock → ℕ
-address block = block.address
-
-abbrev content : MemBlock → List ℕ
-content block = (arc_value block.bytes).items
 
 pub loop-place-preserved : goal.loop-place-preserved
 loop-place-preserved c =

@@ -1,16 +1,9 @@
 use Rattle.std.proofs.Common.{◌≡◌, ◌∙◌, ℕ, List, ◌++◌, ap, ap₂, arith, drop, length, subst, sym, take}
 use Rattle.std.proofs.lemmas.List.{length-take-le, take-append-drop, take-append-le}
-use Rattle.std.specs.Arc.{arc_value}
 use Rattle.geometry.specs.Area.{meta_bytes}
-use Rattle.device.specs.declared.memory.block.MemBlock.{MemBlock}
 use Rattle.device.specs.Parts.{IsBlockRun}
+use Rattle.simulator.proofs.Memory.{address, content}
 use Rattle.simulator.proofs.files.parts_of.Goals as goal
-
-abbrev address : MemBlock → ℕ
-address block = block.address
-
-abbrev content : MemBlock → List ℕ
-content block = (arc_value block.bytes).items
 
 pub returns-clause-device : goal.returns-clause-device
 returns-clause-device c =

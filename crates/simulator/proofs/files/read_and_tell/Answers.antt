@@ -1,21 +1,10 @@
-use Rattle.std.proofs.Common.{ℕ, List, subst}
-use Rattle.std.specs.Arc.{arc_value}
-use Rattle.device.specs.declared.memory.block.MemBlock.{MemBlock}
-use Rattle.device.specs.declared.memory.meta.MemMeta.{MemMeta}
+use Rattle.std.proofs.Common.{List, ℕ, subst}
 use Rattle.session.proofs.OnOk.{on_ok}
 use Rattle.simulator.specs.Checking.{IsDeviceOf, TellsFiles}
 use Rattle.simulator.specs.Ending.{ToldParts}
 use Rattle.simulator.proofs.Known.{known}
+use Rattle.simulator.proofs.Memory.{address, content, seen}
 use Rattle.simulator.proofs.files.read_and_tell.Goals as goal
-
-abbrev seen : MemMeta → List ℕ
-seen meta = meta.bytes.items
-
-abbrev address : MemBlock → ℕ
-address block = block.address
-
-abbrev content : MemBlock → List ℕ
-content block = (arc_value block.bytes).items
 
 pub returns-clause-told : goal.returns-clause-told
 returns-clause-told g c =

@@ -10,7 +10,7 @@ returns-after-run-steps-clause-done g c =
     let seen = g.M.Meta.seen in
     let address_of = g.B.Block.address_of in
     let content_of = g.B.Block.content_of in
-    let geometry = g.N.GeometryName.geometry in
+    let geometry = g.V.Numbers.GeometryName.geometry in
     let ended = c.in-Ok.halt.passes.items in
     let middle = contents c.run_session.new.out in
     record {

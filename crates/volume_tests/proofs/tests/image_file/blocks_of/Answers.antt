@@ -1,15 +1,7 @@
-use Rattle.std.proofs.Common.{◌≡◌, ◌∙◌, ◌+◌, ◌*◌, ◌≤◌, ℕ, List, ap, arith, drop, length, length-drop, length-take-le, subst, sym, take}
-use Rattle.std.specs.Arc.{arc_value}
-use Rattle.device.specs.declared.memory.block.MemBlock.{MemBlock}
+use Rattle.std.proofs.Common.{◌≡◌, ◌∙◌, ◌+◌, ◌*◌, ◌≤◌, ap, arith, drop, length, length-drop, length-take-le, subst, sym, take}
 use Rattle.device.specs.Parts.{IsBlockRun}
 use Rattle.device.proofs.BlockRuns.{run_push}
 use Rattle.volume_tests.proofs.tests.image_file.blocks_of.Goals as goal
-
-abbrev address : MemBlock → ℕ
-address block = block.address
-
-abbrev content : MemBlock → List ℕ
-content block = (arc_value block.bytes).items
 
 pub loop-place-preserved : goal.loop-place-preserved
 loop-place-preserved c =
@@ -20,9 +12,9 @@ loop-place-preserved c =
     let made = c.in_ok-new.ensures in
     let own : c.in_ok-own.own.items ≡ take 64 (drop (place * 64) bytes) = c.in_ok-own.ensures.items ∙ ap (λ n. take n (drop (place * 64) bytes)) {y = 64} (omega arith) in
     let rest : 64 ≤ length (drop (place * 64) bytes) = let whole = c.requires in let low = c.loop-place-test.true in omega (arith, length-drop (place * 64) bytes) in
-    let long : length (content block) ≡ 64 = ap length (made.content ∙ own) ∙ length-take-le 64 (drop (place * 64) bytes) rest in
+    let long = ap length (made.content ∙ own) ∙ length-take-le 64 (drop (place * 64) bytes) rest in
     let pushed = c.in_ok-push.ensures in record {
-      run = subst (IsBlockRun address content 64 1) (sym pushed.items)
-          (run_push address content 64 1 c.loop-place.blocks.items block before.run (let count = before.count in let at = made.address in omega arith) long);
+      run = subst (IsBlockRun _ _ 64 1) (sym pushed.items)
+          (run_push _ _ 64 1 c.loop-place.blocks.items block before.run (let count = before.count in let at = made.address in omega arith) long);
       count = let count = before.count in let l = pushed.len in omega arith;
     }
