@@ -15,6 +15,7 @@ use names::{BooksName, GeometryName, WordsName};
 use std::alloc::Global;
 use std::marker::{Model, PhantomData};
 use turnstile::OpenedTurnstile;
+use volume_names::open_queues;
 
 /// A device that holds a lawful image, and all that is made for its volume and has no name, `{ geometry; books; words; image;
 /// parts }` to contracts: names are picked by the first three, and `parts` is the device.
@@ -151,18 +152,4 @@ impl<M: Meta, B: Block + Drop> Mounted<M, B> {
         free_memory(&device.packs.geometry, &device.image, memory);
         device.into_parts()
     }
-}
-
-// The channel of permits, and the two queues for the slips of so many segments.
-fn open_queues<L: BooksName, W: WordsName>(
-    alloc: Global,
-    segments: u32,
-) -> Result<(OpenedTurnstile<L>, pool::Opened<W>), Error>
-    requires some { 0 < segments }
-    ensures slots { IfOk result (λ opened. opened.1.ordinary.slots ≡ segments) }
-    ensures error { IfErr result (λ error. error ≡ NoMemory) }
-{
-    let channel = OpenedTurnstile::new(alloc)?;
-    let queues = pool::Opened::new(alloc, segments)?;
-    Ok((channel, queues))
 }

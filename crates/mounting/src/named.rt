@@ -3,6 +3,7 @@ ghost use Rattle.std.specs.Prelude.{◌≡◌, ◌≤◌, map, vec_len, IfOk, If
 ghost use Rattle.geometry.specs.declared.error.Error.TheVariants.{NoMemory};
 ghost use Rattle.image.specs.Files.{files as image_files};
 ghost use Rattle.node_reading.specs.Blocks.{bytes_at};
+ghost use Rattle.volume_names.specs.Picked.{HaveNames};
 
 use crate::area::lock_area;
 use crate::files::lock_loaded_files;
@@ -40,10 +41,7 @@ impl<L: BooksName, W: WordsName, N: GeometryName, M: Meta, B: Block + Drop> Moun
         ),
         OpenFault<M, B>,
     >
-        requires ordinary { self.queues.ordinary ≡ P.ordinary }
-        requires reserve { self.queues.reserve ≡ P.reserve }
-        requires turns { self.channel.turns ≡ T.turns }
-        requires key { self.channel.key ≡ T.key }
+        requires named { HaveNames self.queues self.channel P.ordinary P.reserve T.turns T.key }
         ensures seats { IfOk result (λ opened. vec_len opened.1 ≡ 64) }
         ensures base { IfOk result (λ opened. opened.0.base ≡ record { version = self.named.mounted.image.version; total = self.named.mounted.image.total }) }
         ensures passes { IfOk result (λ opened. map (λ pass. (pass.number, pass.file)) opened.2.items

@@ -1,5 +1,5 @@
 //! A new volume, while its tables have no name.
-ghost use Rattle.std.specs.Prelude.{◌≡◌, ◌<◌, IfOk, IfErr};
+ghost use Rattle.std.specs.Prelude.{◌≡◌, IfOk, IfErr};
 ghost use Rattle.device.specs.Parts.{HasSize};
 ghost use Rattle.geometry.specs.declared.error.Error.TheVariants.{NoMemory};
 
@@ -10,7 +10,7 @@ use geometry::{Error, Geometry};
 use names::{BooksName, GeometryName, WordsName};
 use std::alloc::Global;
 use std::marker::PhantomData;
-use turnstile::OpenedTurnstile;
+use volume_names::open_queues;
 
 /// Why a volume was not opened, with the device as it was.
 #[derive(Drop)]
@@ -89,18 +89,4 @@ impl<M: Meta, B: Block + Drop> Formatted<M, B> {
             Err(error) => Err(OpenFault { parts, error }),
         }
     }
-}
-
-// The channel of permits, and the two queues for the slips of so many segments.
-fn open_queues<L: BooksName, W: WordsName>(
-    alloc: Global,
-    segments: u32,
-) -> Result<(OpenedTurnstile<L>, pool::Opened<W>), Error>
-    requires some { 0 < segments }
-    ensures slots { IfOk result (λ opened. opened.1.ordinary.slots ≡ segments) }
-    ensures error { IfErr result (λ error. error ≡ NoMemory) }
-{
-    let channel = OpenedTurnstile::new(alloc)?;
-    let queues = pool::Opened::new(alloc, segments)?;
-    Ok((channel, queues))
 }

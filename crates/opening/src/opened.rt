@@ -2,6 +2,7 @@
 ghost use Rattle.std.specs.Prelude.{◌≡◌, ◌<◌, ◌⊎◌, vec_len, IfOk, IfErr};
 ghost use Rattle.device.specs.Parts.{HasSize};
 ghost use Rattle.geometry.specs.declared.error.Error.TheVariants.{NoMemory, Device};
+ghost use Rattle.volume_names.specs.Picked.{HaveNames};
 
 use crate::formatted::OpenFault;
 use crate::frames::VolumeFrames;
@@ -53,10 +54,7 @@ impl<L: BooksName, W: WordsName, N: GeometryName, M: Meta, B: Block + Drop> Open
         ),
         OpenFault<M, B>,
     >
-        requires ordinary { self.queues.ordinary ≡ P.ordinary }
-        requires reserve { self.queues.reserve ≡ P.reserve }
-        requires turns { self.channel.turns ≡ T.turns }
-        requires key { self.channel.key ≡ T.key }
+        requires named { HaveNames self.queues self.channel P.ordinary P.reserve T.turns T.key }
         ensures seats { IfOk result (λ opened. vec_len opened.1 ≡ 64) }
         ensures base { IfOk result (λ opened. opened.0.base ≡ record { version = 1; total = 0 }) }
         ensures back { IfErr result (λ fault. HasSize M.seen B.address_of B.content_of N.geometry fault.parts) }

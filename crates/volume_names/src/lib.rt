@@ -4,7 +4,10 @@
 //! names that are picked last are those of the queues and the channel that were just made, which `HaveNames` says in one clause.
 #![tactic(auto)]
 
+mod queues;
+
 use names::VolumeName;
+pub use queues::open_queues;
 
 /// Names all tables of one volume, and is one that threads may tell each other.
 pub trait SharedName: VolumeName<
