@@ -159,6 +159,24 @@ fn versions_after(
     Ok(versions)
 }
 
+// A device with these bytes that keeps what is not settled and fails where the fuse says so, if they have the area's length.
+fn recorded(
+    geometry: &Geometry,
+    area: Vec<u8>,
+    fuse: &Arc<Fuse>,
+) -> Result<Option<Faulty<Recorder<MemMeta>>>, AllocError>
+    ensures { IfOk result (λ found. IfSome found (λ meta. length meta.inner.inner.bytes.items ≡ meta_bytes geometry.now)) }
+{
+    let Some(inner) = device_with(geometry, area) else {
+        return Ok(None);
+    };
+    let recorder = Recorder {
+        inner,
+        unsettled: None,
+    };
+    Ok(Some(Faulty::new(recorder, Arc::try_clone(fuse)?)))
+}
+
 // The next version is written beside these packs, and the n-th call of the device fails.
 fn crash_in_write(
     alloc: Global,
@@ -168,15 +186,11 @@ fn crash_in_write(
     late: bool,
 ) -> Result<Option<Outcome>, AllocError> {
     let old = area_with(alloc, geometry, slots)?;
-    let Some(inner) = device_with(geometry, old.clone()?) else {
+    let fuse = Arc::new(alloc, Fuse::new(alloc, 1)?)?;
+    let Some(meta) = recorded(geometry, old.clone()?, &fuse)? else {
         return Ok(None);
     };
-    let fuse = Arc::new(alloc, Fuse::new(alloc, 1)?)?;
-    let recorder = Recorder {
-        inner,
-        unsettled: None,
-    };
-    let Ok(mut packs) = Packs::open(Faulty::new(recorder, Arc::try_clone(&fuse)?), geometry) else {
+    let Ok(mut packs) = Packs::open(meta, geometry) else {
         return Ok(None);
     };
     let mut done = false;
@@ -222,16 +236,12 @@ fn crash_in_open(
     late: bool,
 ) -> Result<Option<Outcome>, AllocError> {
     let old = area_with(alloc, geometry, [(2, 0x22, footer), (1, 0x11, 1)])?;
-    let Some(inner) = device_with(geometry, old.clone()?) else {
+    let fuse = Arc::new(alloc, Fuse::new(alloc, 1)?)?;
+    let Some(meta) = recorded(geometry, old.clone()?, &fuse)? else {
         return Ok(None);
     };
-    let fuse = Arc::new(alloc, Fuse::new(alloc, 1)?)?;
-    let recorder = Recorder {
-        inner,
-        unsettled: None,
-    };
     fuse.arm(nth, late);
-    let (done, meta) = match Packs::open(Faulty::new(recorder, Arc::try_clone(&fuse)?), geometry) {
+    let (done, meta) = match Packs::open(meta, geometry) {
         Ok(packs) => (true, packs.meta),
         Err((_, meta)) => (false, meta),
     };

@@ -89,18 +89,19 @@ module _ {M B L : Type 0} (seen : M → List ℕ) (address_of : B → ℕ) (cont
     pub left_so : ((left.run ≡ length rest) × WasLeft seen address_of content_of geometry ended left.parts middle now)
         ⊎ ((left.run < length rest) × AreLeft seen address_of content_of geometry left.parts × (now ≡ middle))
 
-  -- on the first volume
-  pub begun : (steps : List Step) (geometry : Geometry) (left : Left M B L) (old now : Option (List ℕ))
-      → LeftSome seen address_of content_of steps geometry [] first_opening left old now → Gone steps steps left old now
-  begun steps geometry left old now some = record {
-    done = [];
-    are = refl;
-    first = geometry;
+  -- the last volume that was left, with what all steps before it wrote
+  gone_so : (steps rest done : List Step) (first geometry : Geometry) (passes : List Pass) (opening : Opening) (left : Left M B L) (old start now : Option (List ℕ))
+      → steps ≡ done ++ rest → (some : LeftSome seen address_of content_of rest geometry passes opening left start now)
+      → WroteSteps (done ++ take left.run rest) (no_files first) some.ran.end format_line old some.middle → Gone steps rest left old now
+  gone_so steps rest done first geometry passes opening left old start now are some ran = record {
+    done = done;
+    are = are;
+    first = first;
     geometry = geometry;
     end = some.ran.end;
     ended = some.ended;
     middle = some.middle;
-    ran = subst (λ files. WroteSteps (take left.run steps) files some.ran.end format_line old some.middle) (opened_none geometry some.ran.begun some.ran.opened) some.ran.ran;
+    ran = ran;
     placed = some.ran.placed;
     numbers = some.ran.numbers;
     passes_are = some.ran.passes_are;
@@ -109,6 +110,12 @@ module _ {M B L : Type 0} (seen : M → List ℕ) (address_of : B → ℕ) (cont
     halted = some.ran.halted;
     left_so = some.left_so;
   }
+
+  -- on the first volume
+  pub begun : (steps : List Step) (geometry : Geometry) (left : Left M B L) (old now : Option (List ℕ))
+      → LeftSome seen address_of content_of steps geometry [] first_opening left old now → Gone steps steps left old now
+  begun steps geometry left old now some = gone_so steps steps [] geometry geometry [] first_opening left old old now refl some
+      (subst (λ files. WroteSteps (take left.run steps) files some.ran.end format_line old some.middle) (opened_none geometry some.ran.begun some.ran.opened) some.ran.ran)
 
   -- the blocks of a device that is to be mounted again are a run
   pub run_of_gone : (steps rest : List Step) (left : Left M B L) (old now : Option (List ℕ)) → left.run < length rest → Gone steps rest left old now
@@ -177,35 +184,22 @@ module _ {M B L : Type 0} (seen : M → List ℕ) (address_of : B → ℕ) (cont
 
     -- on the volume that was mounted again
     pub went_on : Gone steps (drop (left.run + 1) rest) new old last
-    went_on = record {
-      done = behind;
-      are = gone.are
-          ∙ ap (λ xs. gone.done ++ xs) (sym (split_at rest left.run halt.0 halt.1) ∙ ap (λ n. take left.run rest ++ halt.0 ∷ drop n rest) next ∙ sym (append_assoc (take left.run rest) (halt.0 ∷ []) (drop (left.run + 1) rest)))
-          ∙ sym (append_assoc gone.done (take left.run rest ++ halt.0 ∷ []) (drop (left.run + 1) rest));
-      first = gone.first;
-      geometry = went.geometry;
-      end = some.ran.end;
-      ended = some.ended;
-      middle = some.middle;
-      ran = record {
-        lines = (gone.ran.lines ++ line) ++ some.ran.ran.lines;
-        run = more behind (take new.run (drop (left.run + 1) rest)) (no_files gone.first) again some.ran.end (gone.ran.lines ++ line) some.ran.ran.lines
-            (subst (λ xs. StepsWrite xs (no_files gone.first) again (gone.ran.lines ++ line)) (append_assoc gone.done (take left.run rest) (halt.0 ∷ []))
-            (one_more (gone.done ++ take left.run rest) halt.0 (no_files gone.first) gone.end again gone.ran.lines line gone.ran.run (remount_step halt.0 gone.end again line halt.2 remounted)))
-            some.ran.ran.run;
-        told = subst (Appends old some.middle)
-            (append_assoc format_line gone.ran.lines (line ++ some.ran.ran.lines) ∙ ap (λ xs. format_line ++ xs) (sym (append_assoc gone.ran.lines line some.ran.ran.lines)))
-            (Appends-trans old gone.middle some.middle (format_line ++ gone.ran.lines) (line ++ some.ran.ran.lines) gone.ran.told
-            (subst (λ c. Appends c some.middle (line ++ some.ran.ran.lines)) quiet some.ran.ran.told));
-      };
-      placed = some.ran.placed;
-      numbers = some.ran.numbers;
-      passes_are = some.ran.passes_are;
-      time_is = some.ran.time_is;
-      readers_are = some.ran.readers_are;
-      halted = some.ran.halted;
-      left_so = some.left_so;
-    }
+    went_on = gone_so steps (drop (left.run + 1) rest) behind gone.first went.geometry went.on.passes (record { mounted = Some went.image.version; carried = left.carried }) new old now last
+        (gone.are
+        ∙ ap (λ xs. gone.done ++ xs) (sym (split_at rest left.run halt.0 halt.1) ∙ ap (λ n. take left.run rest ++ halt.0 ∷ drop n rest) next ∙ sym (append_assoc (take left.run rest) (halt.0 ∷ []) (drop (left.run + 1) rest)))
+        ∙ sym (append_assoc gone.done (take left.run rest ++ halt.0 ∷ []) (drop (left.run + 1) rest)))
+        some
+        (record {
+          lines = (gone.ran.lines ++ line) ++ some.ran.ran.lines;
+          run = more behind (take new.run (drop (left.run + 1) rest)) (no_files gone.first) again some.ran.end (gone.ran.lines ++ line) some.ran.ran.lines
+              (subst (λ xs. StepsWrite xs (no_files gone.first) again (gone.ran.lines ++ line)) (append_assoc gone.done (take left.run rest) (halt.0 ∷ []))
+              (one_more (gone.done ++ take left.run rest) halt.0 (no_files gone.first) gone.end again gone.ran.lines line gone.ran.run (remount_step halt.0 gone.end again line halt.2 remounted)))
+              some.ran.ran.run;
+          told = subst (Appends old some.middle)
+              (append_assoc format_line gone.ran.lines (line ++ some.ran.ran.lines) ∙ ap (λ xs. format_line ++ xs) (sym (append_assoc gone.ran.lines line some.ran.ran.lines)))
+              (Appends-trans old gone.middle some.middle (format_line ++ gone.ran.lines) (line ++ some.ran.ran.lines) gone.ran.told
+              (subst (λ c. Appends c some.middle (line ++ some.ran.ran.lines)) quiet some.ran.ran.told));
+        })
 
   -- all steps were run, and the last volume was left
   pub ended : (steps rest : List Step) (left : Left M B L) (old now : Option (List ℕ)) → length rest ≤ left.run → Gone steps rest left old now

@@ -1,113 +1,121 @@
 //! A device of which a call fails while it is mounted, or while a checkpoint is written.
-ghost use Rattle.std.specs.Prelude.{◌≡◌, ◌+◌, map, IfOk};
+ghost use Rattle.std.specs.Prelude.{◌≡◌, ◌+◌, map, IfErr, IfOk, OnOk};
 
 use super::damage::refused;
 use super::image_file::device_of;
 use super::{Device, End, Step, mount_again};
-use device::{Block, DeviceError, Failures, Fuse, MemBlock, MemMeta, Meta, Parts};
+use device::{Block, DeviceError, Faulty, Fuse, MemBlock, MemMeta, Meta, Parts};
 use geometry::Error;
 use sample_images::base_file;
 use std::alloc::{AllocError, Global};
 use std::sync::Arc;
 use std::test::*;
 
-// A meta area, or a block, of which a call fails where its fuse says so. A call that fails is not done.
+// A meta area, or a block, of which a call fails where its fuse says so. A call that fails is not done. A faulty part counts its writes
+// and syncs alone: by the same fuse, this one counts its reads and leases too.
 #[derive(Drop)]
 struct Failing<P> {
-    inner: P,
+    part: Faulty<P>,
     fuse: Arc<Fuse>,
-    failures: Failures,
+}
+
+impl<P: Drop> Failing<P> {
+    fn new(inner: P, fuse: &Arc<Fuse>) -> Result<Failing<P>, AllocError>
+        ensures { IfOk result (λ failing. failing.part.inner ≡ inner) }
+    {
+        let (one, other) = (Arc::try_clone(fuse)?, Arc::try_clone(fuse)?);
+        Ok(Failing {
+            part: Faulty::new(inner, one),
+            fuse: other,
+        })
+    }
+}
+
+impl<P> Failing<P> {
+    // Counts a read or a lease, which fails where the fuse says so.
+    fn count(&mut self) -> Result<(), DeviceError>
+        ensures inner { self.new.part.inner ≡ self.old.part.inner }
+        ensures ok { OnOk result (self.new.part.failures.total.count ≡ self.old.part.failures.total.count) }
+        ensures err { IfErr result (λ _. self.new.part.failures.total.count ≡ self.old.part.failures.total.count + 1) }
+    {
+        match self.fuse.burn() {
+            None => Ok(()),
+            Some(_) => {
+                self.part.failures.count();
+                Err(DeviceError)
+            }
+        }
+    }
 }
 
 impl<M: Meta> Meta for Failing<M> {
-    ghost seen = { λ f. M.Meta.seen f.inner };
+    ghost seen = { λ f. ⟦<Faulty<M> as Meta>⟧.seen f.part };
 
-    ghost may_leave = { λ f. M.Meta.may_leave f.inner };
+    ghost may_leave = { λ f. ⟦<Faulty<M> as Meta>⟧.may_leave f.part };
 
-    ghost moment = { λ f. M.Meta.moment f.inner };
+    ghost moment = { λ f. ⟦<Faulty<M> as Meta>⟧.moment f.part };
 
-    ghost left_since = { λ f. M.Meta.left_since f.inner };
+    ghost left_since = { λ f. ⟦<Faulty<M> as Meta>⟧.left_since f.part };
 
-    ghost failed = { λ f. M.Meta.failed f.inner + f.failures.total.count };
+    ghost failed = { λ f. ⟦<Faulty<M> as Meta>⟧.failed f.part };
 
-    ghost seen_is_left = { λ f. M.Meta.seen_is_left f.inner };
+    ghost seen_is_left = { λ f. M.Meta.seen_is_left f.part.inner };
 
-    ghost counts_now = { λ f. M.Meta.counts_now f.inner };
+    ghost counts_now = { λ f. M.Meta.counts_now f.part.inner };
 
-    ghost only_now = { λ f. M.Meta.only_now f.inner };
+    ghost only_now = { λ f. M.Meta.only_now f.part.inner };
 
     fn read(&mut self, at: u64, out: &mut [u8]) -> Result<(), DeviceError> {
-        if self.fuse.burn().is_some() {
-            self.failures.count();
-            return Err(DeviceError);
-        }
-        self.inner.read(at, out)
+        self.count()?;
+        self.part.read(at, out)
     }
 
     fn write(&mut self, at: u64, bytes: &[u8]) -> Result<(), DeviceError> {
-        if self.fuse.burn().is_some() {
-            self.failures.count();
-            return Err(DeviceError);
-        }
-        self.inner.write(at, bytes)
+        self.part.write(at, bytes)
     }
 
     fn sync(&mut self) -> Result<(), DeviceError> {
-        if self.fuse.burn().is_some() {
-            self.failures.count();
-            return Err(DeviceError);
-        }
-        self.inner.sync()
+        self.part.sync()
     }
 
     fn len(&self) -> u64 {
-        self.inner.len()
+        self.part.len()
     }
 
     fn failures(&self) -> u64 {
-        self.inner.failures().saturating_add(self.failures.told())
+        self.part.failures()
     }
 }
 
 impl<B: Block> Block for Failing<B> {
     type Lease = B::Lease;
 
-    ghost address_of = { λ f. B.Block.address_of f.inner };
+    ghost address_of = { λ f. ⟦<Faulty<B> as Block>⟧.address_of f.part };
 
-    ghost content_of = { λ f. B.Block.content_of f.inner };
+    ghost content_of = { λ f. ⟦<Faulty<B> as Block>⟧.content_of f.part };
 
-    ghost failed = { λ f. B.Block.failed f.inner + f.failures.total.count };
+    ghost failed = { λ f. ⟦<Faulty<B> as Block>⟧.failed f.part };
 
     fn address(&self) -> u32 {
-        self.inner.address()
+        self.part.address()
     }
 
     fn write(&mut self, bytes: &[u8]) -> Result<(), DeviceError> {
-        if self.fuse.burn().is_some() {
-            self.failures.count();
-            return Err(DeviceError);
-        }
-        self.inner.write(bytes)
+        self.part.write(bytes)
     }
 
     fn read(&mut self, out: &mut [u8]) -> Result<(), DeviceError> {
-        if self.fuse.burn().is_some() {
-            self.failures.count();
-            return Err(DeviceError);
-        }
-        self.inner.read(out)
+        self.count()?;
+        self.part.read(out)
     }
 
     fn lend(&mut self) -> Result<B::Lease, DeviceError> {
-        if self.fuse.burn().is_some() {
-            self.failures.count();
-            return Err(DeviceError);
-        }
-        self.inner.lend()
+        self.count()?;
+        self.part.lend()
     }
 
     fn failures(&self) -> u64 {
-        self.failures.told().saturating_add(self.inner.failures())
+        self.part.failures()
     }
 }
 
@@ -119,15 +127,11 @@ fn wrap(
     blocks: Vec<MemBlock>,
     fuse: &Arc<Fuse>,
 ) -> Result<Vec<Failing<MemBlock>>, AllocError>
-    ensures { IfOk result (λ failing. map (λ block. block.inner) failing.items ≡ blocks.items) }
+    ensures { IfOk result (λ failing. map (λ block. block.part.inner) failing.items ≡ blocks.items) }
 {
     let mut failing = Vec::with_capacity(alloc, blocks.len())?;
     for block in blocks {
-        failing.push_reserved(Failing {
-            inner: block,
-            fuse: Arc::try_clone(fuse)?,
-            failures: Failures::none(),
-        });
+        failing.push_reserved(Failing::new(block, fuse)?);
     }
     Ok(failing)
 }
@@ -140,11 +144,7 @@ fn with_fuse(
 ) -> Result<FailingDevice, AllocError> {
     let Device { parts } = device;
     let Parts { meta, blocks } = parts;
-    let meta = Failing {
-        inner: meta,
-        fuse: Arc::try_clone(fuse)?,
-        failures: Failures::none(),
-    };
+    let meta = Failing::new(meta, fuse)?;
     let blocks = wrap(alloc, blocks, fuse)?;
     Ok(Device {
         parts: Parts { meta, blocks },

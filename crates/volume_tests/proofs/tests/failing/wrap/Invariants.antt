@@ -5,5 +5,5 @@ use Rattle.volume_tests.proofs.tests.failing.wrap.Given as goal
 -- the blocks inside, and those that are left
 abbrev pub invariant-loop-block : goal.invariant-loop-block
 invariant-loop-block l =
-    (map (λ block. block.inner) l.failing.items ++ into_iter_items l.block-iterator ≡ l.fn.blocks.items)
+    (map (λ block. block.part.inner) l.failing.items ++ into_iter_items l.block-iterator ≡ l.fn.blocks.items)
     × (vec_len l.failing + length (into_iter_items l.block-iterator) ≤ vec_capacity l.failing)

@@ -1,4 +1,4 @@
-use Rattle.std.proofs.Common.{◌≡◌, ◌∙◌, ◌+◌, ◌*◌, ◌≤◌, ap, arith, drop, length, length-drop, length-take-le, subst, sym, take}
+use Rattle.std.proofs.Common.{◌≡◌, ◌∙◌, ◌*◌, ◌≤◌, ap, arith, drop, length, length-drop, length-take-le, subst, sym, take}
 use Rattle.device.specs.Parts.{IsBlockRun}
 use Rattle.device.proofs.BlockRuns.{run_push}
 use Rattle.volume_tests.proofs.tests.image_file.blocks_of.Goals as goal
