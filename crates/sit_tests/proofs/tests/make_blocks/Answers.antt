@@ -1,4 +1,4 @@
-use Rattle.std.proofs.Common.{◌≡◌, ◌++◌, [], ◌∷◌, sym, subst, ap, ◌∙◌, arith, length}
+use Rattle.std.proofs.Common.{sym, subst, ap, ◌∙◌, arith, length}
 use Rattle.device.specs.Parts.{IsBlockRun}
 use Rattle.device.proofs.BlockRuns.{run_push}
 use Rattle.sit_tests.proofs.tests.make_blocks.Goals as goal
