@@ -1,1 +1,2 @@
 pub mod Spares
+pub mod Written
