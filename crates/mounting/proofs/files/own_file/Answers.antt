@@ -11,3 +11,9 @@ returns-in-Some-clause-pass g c =
       (c.requires.found.right file c.in-Some.is).0.taken,
       c.load-cell.ensures.pass ∙ pass_is c.args.geometry.now (image_view c.args.image.now) c.args.number file tell.number tell.shape tell.file tell.kind tell.size tell.slots bytes (tell.contents bytes goods),
     )
+
+pub tell_file-requires-clause-has : goal.tell_file-requires-clause-has
+tell_file-requires-clause-has g c = (c.requires.found.right c.in-Some.file c.in-Some.is).0
+
+pub tell_file-requires-clause-loaded : goal.tell_file-requires-clause-loaded
+tell_file-requires-clause-loaded g c = (c.requires.found.right c.in-Some.file c.in-Some.is).1
