@@ -12,7 +12,7 @@ use crate::steps::{Carried, Opening};
 use crate::stop::Stop;
 use device::{Meta, Parts};
 use geometry::Geometry;
-use names::{BooksName, GeometryName, PoolName, TurnName, VolumeName, WordsName};
+use names::{PoolName, TurnName, VolumeName};
 use opening::{FilePass, Formatted, Opened, format};
 use script::Step;
 use std::alloc::Global;
@@ -20,6 +20,7 @@ use std::io::Write;
 use std::marker::Brand;
 use std::sync::Wait;
 use std::thread::Threads;
+use table_names::{BooksOf, NumbersOf, TablesName, WordsOf};
 use workers::SharedBlock;
 
 // How the first volume of a script comes to be.
@@ -47,17 +48,13 @@ pub fn run_formatted<M: Meta + Drop + Send, B: SharedBlock, R: Threads + Wait + 
     ensures err { IfErr result (λ stop. names_line stop ≡ false) }
 {
     match format(alloc, parts, geometry) {
-        Ok(formatted) => with_tables::<Brand, Brand, Brand, M, B, R, O>(
-            rt, alloc, formatted, steps, faults, out,
-        ),
+        Ok(formatted) => with_tables::<Brand, M, B, R, O>(rt, alloc, formatted, steps, faults, out),
         Err(fault) => Err(Stop::Refused(fault.error)),
     }
 }
 
 fn with_tables<
-    L: BooksName + Send + Sync,
-    W: WordsName + Send + Sync,
-    N: GeometryName + Send + Sync,
+    K: TablesName + Send + Sync,
     M: Meta + Drop + Send,
     B: SharedBlock,
     R: Threads + Wait + Sync,
@@ -70,14 +67,14 @@ fn with_tables<
     faults: &Faults,
     out: &mut O,
 ) -> Result<Left<M, B>, Stop>
-    requires books { formatted.tables.books ≡ L.books }
-    requires words { formatted.tables.words ≡ W.words }
-    requires geometry { formatted.tables.geometry ≡ N.geometry }
-    ensures done { IfOk result (λ left. LeftSome M.seen B.address_of B.content_of steps.now N.geometry [] first_opening left (O.contents out.old) (O.contents out.new)) }
+    requires books { formatted.tables.books ≡ K.books }
+    requires words { formatted.tables.words ≡ K.words }
+    requires geometry { formatted.tables.geometry ≡ K.geometry }
+    ensures done { IfOk result (λ left. LeftSome M.seen B.address_of B.content_of steps.now K.geometry [] first_opening left (O.contents out.old) (O.contents out.new)) }
     ensures err { IfErr result (λ stop. names_line stop ≡ false) }
 {
-    match formatted.name::<L, W, N>() {
-        Ok(opened) => with_queues::<L, W, N, Brand, Brand, M, B, R, O>(
+    match formatted.name::<BooksOf<K>, WordsOf<K>, NumbersOf<K>>() {
+        Ok(opened) => with_queues::<K, Brand, Brand, M, B, R, O>(
             rt, alloc, opened, steps, faults, out,
         ),
         Err(fault) => Err(Stop::Refused(fault.error)),
@@ -85,9 +82,7 @@ fn with_tables<
 }
 
 fn with_queues<
-    L: BooksName + Send + Sync,
-    W: WordsName + Send + Sync,
-    N: GeometryName + Send + Sync,
+    K: TablesName + Send + Sync,
     P: PoolName + Send + Sync,
     T: TurnName + Send + Sync,
     M: Meta + Drop + Send,
@@ -97,13 +92,13 @@ fn with_queues<
 >(
     rt: &R,
     alloc: Global,
-    opened: Opened<L, W, N, M, B>,
+    opened: Opened<BooksOf<K>, WordsOf<K>, NumbersOf<K>, M, B>,
     steps: &[Step],
     faults: &Faults,
     out: &mut O,
 ) -> Result<Left<M, B>, Stop>
     requires named { HaveNames opened.queues opened.channel P.ordinary P.reserve T.turns T.key }
-    ensures done { IfOk result (λ left. LeftSome M.seen B.address_of B.content_of steps.now N.geometry [] first_opening left (O.contents out.old) (O.contents out.new)) }
+    ensures done { IfOk result (λ left. LeftSome M.seen B.address_of B.content_of steps.now K.geometry [] first_opening left (O.contents out.old) (O.contents out.new)) }
     ensures err { IfErr result (λ stop. names_line stop ≡ false) }
 {
     match opened.name::<P, T, R>(rt) {

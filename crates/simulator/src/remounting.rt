@@ -17,7 +17,7 @@ use crate::steps::{Carried, Opening};
 use crate::stop::Stop;
 use device::{Meta, Parts};
 use mounting::{Mounted, MountedQueues, mount};
-use names::{BooksName, GeometryName, PoolName, TurnName, VolumeName, WordsName};
+use names::{PoolName, TurnName, VolumeName};
 use opening::FilePass;
 use script::Step;
 use std::alloc::Global;
@@ -25,6 +25,7 @@ use std::io::Write;
 use std::marker::Brand;
 use std::sync::Wait;
 use std::thread::Threads;
+use table_names::{BooksOf, NumbersOf, TablesName, WordsOf};
 use workers::SharedBlock;
 
 /// Mounts the parts of a device, runs the steps on its volume, and leaves it.
@@ -42,7 +43,7 @@ pub fn run_mounted<M: Meta + Drop + Send, B: SharedBlock, R: Threads + Wait + Sy
     ensures err { IfErr result (λ stop. names_line stop ≡ false) }
 {
     match mount(alloc, parts) {
-        Ok(mounted) => on_mounted::<Brand, Brand, Brand, M, B, R, O>(
+        Ok(mounted) => on_mounted::<Brand, M, B, R, O>(
             rt, alloc, mounted, carried, steps, faults, out,
         ),
         Err(fault) => Err(Stop::Refused(fault.error)),
@@ -50,9 +51,7 @@ pub fn run_mounted<M: Meta + Drop + Send, B: SharedBlock, R: Threads + Wait + Sy
 }
 
 fn on_mounted<
-    L: BooksName + Send + Sync,
-    W: WordsName + Send + Sync,
-    N: GeometryName + Send + Sync,
+    K: TablesName + Send + Sync,
     M: Meta + Drop + Send,
     B: SharedBlock,
     R: Threads + Wait + Sync,
@@ -66,14 +65,14 @@ fn on_mounted<
     faults: &Faults,
     out: &mut O,
 ) -> Result<Left<M, B>, Stop>
-    requires books { mounted.books ≡ L.books }
-    requires words { mounted.words ≡ W.words }
-    requires geometry { mounted.geometry ≡ N.geometry }
+    requires books { mounted.books ≡ K.books }
+    requires words { mounted.words ≡ K.words }
+    requires geometry { mounted.geometry ≡ K.geometry }
     ensures done { IfOk result (λ left. WentOnWith M.seen B.address_of B.content_of mounted.geometry mounted.image (bytes_at B.content_of mounted.parts.blocks.items) steps.now carried left (O.contents out.old) (O.contents out.new)) }
     ensures err { IfErr result (λ stop. names_line stop ≡ false) }
 {
-    match mounted.name::<L, W, N>() {
-        Ok(opened) => on_opened::<L, W, N, Brand, Brand, M, B, R, O>(
+    match mounted.name::<BooksOf<K>, WordsOf<K>, NumbersOf<K>>() {
+        Ok(opened) => on_opened::<K, Brand, Brand, M, B, R, O>(
             rt, alloc, opened, carried, steps, faults, out,
         ),
         Err(fault) => Err(Stop::Refused(fault.error)),
@@ -81,9 +80,7 @@ fn on_mounted<
 }
 
 fn on_opened<
-    L: BooksName + Send + Sync,
-    W: WordsName + Send + Sync,
-    N: GeometryName + Send + Sync,
+    K: TablesName + Send + Sync,
     P: PoolName + Send + Sync,
     T: TurnName + Send + Sync,
     M: Meta + Drop + Send,
@@ -93,7 +90,7 @@ fn on_opened<
 >(
     rt: &R,
     alloc: Global,
-    opened: MountedQueues<L, W, N, M, B>,
+    opened: MountedQueues<BooksOf<K>, WordsOf<K>, NumbersOf<K>, M, B>,
     carried: Carried,
     steps: &[Step],
     faults: &Faults,

@@ -12,13 +12,14 @@ ghost use Rattle.volume_names.specs.Picked.{HaveNames};
 
 use device::{MemBlock, MemDevice, MemMeta};
 use geometry::{Error, Geometry, Kind, Shape};
-use names::{BooksName, GeometryName, PoolName, TurnName, VolumeName, WordsName};
+use names::{PoolName, TurnName, VolumeName};
 use opening::{FilePass, Formatted, Opened, Volume, format};
 use std::alloc::Global;
 use std::marker::Brand;
 use std::sync::Wait;
 use std::thread::Threads;
 use std::{io, thread};
+use table_names::{BooksOf, NumbersOf, TablesName, WordsOf};
 use volume_names::SharedName;
 
 fn main(rt: HostRuntime) -> io::Result<()> {
@@ -35,36 +36,37 @@ fn write_two_files<R: Threads + Wait + Sync>(rt: &R, alloc: Global) -> Result<(u
     let parts = MemDevice::new(alloc, &geometry)?.split();
     // Only tables are made here. The device is written once they have their names.
     match format(alloc, parts, geometry) {
-        Ok(formatted) => with_tables::<Brand, Brand, Brand, R>(rt, alloc, formatted),
+        Ok(formatted) => with_tables::<Brand, R>(rt, alloc, formatted),
         Err(fault) => Err(fault.error),
     }
 }
 
 // The names ask for `Send` and `Sync` since threads share the volume that has them in its type.
-fn with_tables<
-    L: BooksName + Send + Sync,
-    W: WordsName + Send + Sync,
-    N: GeometryName + Send + Sync,
-    R: Threads + Wait + Sync,
->(rt: &R, alloc: Global, formatted: Formatted<MemMeta, MemBlock>) -> Result<(u8, u8), Error>
-    requires books { formatted.tables.books ≡ L.books }
-    requires words { formatted.tables.words ≡ W.words }
-    requires geometry { formatted.tables.geometry ≡ N.geometry }
+fn with_tables<K: TablesName + Send + Sync, R: Threads + Wait + Sync>(
+    rt: &R,
+    alloc: Global,
+    formatted: Formatted<MemMeta, MemBlock>,
+) -> Result<(u8, u8), Error>
+    requires books { formatted.tables.books ≡ K.books }
+    requires words { formatted.tables.words ≡ K.words }
+    requires geometry { formatted.tables.geometry ≡ K.geometry }
 {
-    match formatted.name::<L, W, N>() {
-        Ok(opened) => with_queues::<L, W, N, Brand, Brand, R>(rt, alloc, opened),
+    match formatted.name::<BooksOf<K>, WordsOf<K>, NumbersOf<K>>() {
+        Ok(opened) => with_queues::<K, Brand, Brand, R>(rt, alloc, opened),
         Err(fault) => Err(fault.error),
     }
 }
 
 fn with_queues<
-    L: BooksName + Send + Sync,
-    W: WordsName + Send + Sync,
-    N: GeometryName + Send + Sync,
+    K: TablesName + Send + Sync,
     P: PoolName + Send + Sync,
     T: TurnName + Send + Sync,
     R: Threads + Wait + Sync,
->(rt: &R, alloc: Global, opened: Opened<L, W, N, MemMeta, MemBlock>) -> Result<(u8, u8), Error>
+>(
+    rt: &R,
+    alloc: Global,
+    opened: Opened<BooksOf<K>, WordsOf<K>, NumbersOf<K>, MemMeta, MemBlock>,
+) -> Result<(u8, u8), Error>
     requires named { HaveNames opened.queues opened.channel P.ordinary P.reserve T.turns T.key }
 {
     match opened.name::<P, T, R>(rt) {

@@ -6,13 +6,14 @@ use crate::fault::Fault;
 use crate::found::Found;
 use crate::task::Task;
 use device::{MemBlock, MemDevice, MemMeta};
-use names::{BooksName, GeometryName, PoolName, TurnName, WordsName};
+use names::{PoolName, TurnName};
 use opening::{Formatted, Opened, format};
 use std::alloc::Global;
 use std::marker::Brand;
 use std::rt::Runtime;
 use std::sync::Wait;
 use std::thread::Threads;
+use table_names::{BooksOf, NumbersOf, TablesName, WordsOf};
 
 /// Measures on a new volume, and leaves it.
 pub fn measure<R: Runtime + Threads + Wait + Sync>(
@@ -23,44 +24,37 @@ pub fn measure<R: Runtime + Threads + Wait + Sync>(
     let geometry = task.geometry()?;
     let parts = MemDevice::new(alloc, &geometry)?.split();
     match format(alloc, parts, geometry) {
-        Ok(formatted) => with_tables::<Brand, Brand, Brand, R>(rt, alloc, formatted, task),
+        Ok(formatted) => with_tables::<Brand, R>(rt, alloc, formatted, task),
         Err(fault) => Err(Fault::Refused(fault.error)),
     }
 }
 
 // The names ask for `Send` and `Sync` since threads share the volume that has them in its type.
-fn with_tables<
-    L: BooksName + Send + Sync,
-    W: WordsName + Send + Sync,
-    N: GeometryName + Send + Sync,
-    R: Runtime + Threads + Wait + Sync,
->(
+fn with_tables<K: TablesName + Send + Sync, R: Runtime + Threads + Wait + Sync>(
     rt: &R,
     alloc: Global,
     formatted: Formatted<MemMeta, MemBlock>,
     task: Task,
 ) -> Result<Found, Fault>
-    requires books { formatted.tables.books ≡ L.books }
-    requires words { formatted.tables.words ≡ W.words }
-    requires geometry { formatted.tables.geometry ≡ N.geometry }
+    requires books { formatted.tables.books ≡ K.books }
+    requires words { formatted.tables.words ≡ K.words }
+    requires geometry { formatted.tables.geometry ≡ K.geometry }
 {
-    match formatted.name::<L, W, N>() {
-        Ok(opened) => with_queues::<L, W, N, Brand, Brand, R>(rt, alloc, opened, task),
+    match formatted.name::<BooksOf<K>, WordsOf<K>, NumbersOf<K>>() {
+        Ok(opened) => with_queues::<K, Brand, Brand, R>(rt, alloc, opened, task),
         Err(fault) => Err(Fault::Refused(fault.error)),
     }
 }
 
 fn with_queues<
-    L: BooksName + Send + Sync,
-    W: WordsName + Send + Sync,
-    N: GeometryName + Send + Sync,
+    K: TablesName + Send + Sync,
     P: PoolName + Send + Sync,
     T: TurnName + Send + Sync,
     R: Runtime + Threads + Wait + Sync,
 >(
     rt: &R,
     alloc: Global,
-    opened: Opened<L, W, N, MemMeta, MemBlock>,
+    opened: Opened<BooksOf<K>, WordsOf<K>, NumbersOf<K>, MemMeta, MemBlock>,
     task: Task,
 ) -> Result<Found, Fault>
     requires named { HaveNames opened.queues opened.channel P.ordinary P.reserve T.turns T.key }

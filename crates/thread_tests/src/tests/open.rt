@@ -7,7 +7,7 @@ use super::waits::{GatedBlock, Gates, gated_parts};
 use super::{Row, run_alone};
 use device::MemMeta;
 use geometry::{Error, Geometry, Shape};
-use names::{BooksName, GeometryName, PoolName, TurnName, VolumeName, WordsName};
+use names::{PoolName, TurnName, VolumeName};
 use opening::{CloseFault, Closed, FilePass, Formatted, Opened, Seat, Volume, format};
 use std::alloc::Global;
 use std::marker::Brand;
@@ -15,6 +15,7 @@ use std::process::Abort;
 use std::sync::{Arc, Wait};
 use std::test::*;
 use std::thread::Threads;
+use table_names::{BooksOf, NumbersOf, TablesName, WordsOf};
 use workers::run_part;
 
 /// Does a row on a new volume of so many segments of 8 blocks, with at most 8 files, on a device with gates. Closes the volume,
@@ -29,44 +30,37 @@ pub(crate) fn with_volume<R: Threads + Wait + Abort + Sync>(
     let geometry = Geometry::new(Shape::TINY, segments, 1, 8, 128)?;
     let parts = gated_parts(alloc, &geometry, gates)?;
     match format(alloc, parts, geometry) {
-        Ok(formatted) => { with_tables::<Brand, Brand, Brand, R>(rt, alloc, formatted, gates, row) }
+        Ok(formatted) => { with_tables::<Brand, R>(rt, alloc, formatted, gates, row) }
         Err(fault) => Err(fault.error),
     }
 }
 
-fn with_tables<
-    L: BooksName + Send + Sync,
-    W: WordsName + Send + Sync,
-    N: GeometryName + Send + Sync,
-    R: Threads + Wait + Abort + Sync,
->(
+fn with_tables<K: TablesName + Send + Sync, R: Threads + Wait + Abort + Sync>(
     rt: &R,
     alloc: Global,
     formatted: Formatted<MemMeta, GatedBlock>,
     gates: &Gates,
     row: Row<'_>,
 ) -> Result<u32, Error>
-    requires books { formatted.tables.books ≡ L.books }
-    requires words { formatted.tables.words ≡ W.words }
-    requires geometry { formatted.tables.geometry ≡ N.geometry }
+    requires books { formatted.tables.books ≡ K.books }
+    requires words { formatted.tables.words ≡ K.words }
+    requires geometry { formatted.tables.geometry ≡ K.geometry }
 {
-    match formatted.name::<L, W, N>() {
-        Ok(opened) => with_queues::<L, W, N, Brand, Brand, R>(rt, alloc, opened, gates, row),
+    match formatted.name::<BooksOf<K>, WordsOf<K>, NumbersOf<K>>() {
+        Ok(opened) => with_queues::<K, Brand, Brand, R>(rt, alloc, opened, gates, row),
         Err(fault) => Err(fault.error),
     }
 }
 
 fn with_queues<
-    L: BooksName + Send + Sync,
-    W: WordsName + Send + Sync,
-    N: GeometryName + Send + Sync,
+    K: TablesName + Send + Sync,
     P: PoolName + Send + Sync,
     T: TurnName + Send + Sync,
     R: Threads + Wait + Abort + Sync,
 >(
     rt: &R,
     alloc: Global,
-    opened: Opened<L, W, N, MemMeta, GatedBlock>,
+    opened: Opened<BooksOf<K>, WordsOf<K>, NumbersOf<K>, MemMeta, GatedBlock>,
     gates: &Gates,
     row: Row<'_>,
 ) -> Result<u32, Error>

@@ -7,12 +7,13 @@ use super::{Device, End, Left, Step, run_volume};
 use device::{Block, MemBlock, MemDevice, MemMeta, Meta};
 use geometry::{Error, Geometry};
 use mounting::{Mounted, MountedQueues, mount};
-use names::{BooksName, GeometryName, PoolName, TurnName, WordsName};
+use names::{PoolName, TurnName};
 use opening::{Formatted, Opened, format};
 use std::alloc::Global;
 use std::marker::Brand;
 use std::process::Abort;
 use std::sync::Wait;
+use table_names::{BooksOf, NumbersOf, TablesName, WordsOf};
 
 // What a new volume of these numbers leaves after the steps.
 pub(crate) fn on_new_volume<R: Wait + Abort>(
@@ -24,39 +25,32 @@ pub(crate) fn on_new_volume<R: Wait + Abort>(
 ) -> Result<Left<MemMeta, MemBlock>, Error> {
     let parts = MemDevice::new(alloc, &geometry)?.split();
     match format(alloc, parts, geometry) {
-        Ok(formatted) => with_tables::<Brand, Brand, Brand, R>(rt, alloc, formatted, steps, end),
+        Ok(formatted) => with_tables::<Brand, R>(rt, alloc, formatted, steps, end),
         Err(fault) => Err(fault.error),
     }
 }
 
-fn with_tables<L: BooksName, W: WordsName, N: GeometryName, R: Wait + Abort>(
+fn with_tables<K: TablesName, R: Wait + Abort>(
     rt: &R,
     alloc: Global,
     formatted: Formatted<MemMeta, MemBlock>,
     steps: &[Step<'_>],
     end: End,
 ) -> Result<Left<MemMeta, MemBlock>, Error>
-    requires books { formatted.tables.books ≡ L.books }
-    requires words { formatted.tables.words ≡ W.words }
-    requires geometry { formatted.tables.geometry ≡ N.geometry }
+    requires books { formatted.tables.books ≡ K.books }
+    requires words { formatted.tables.words ≡ K.words }
+    requires geometry { formatted.tables.geometry ≡ K.geometry }
 {
-    match formatted.name::<L, W, N>() {
-        Ok(opened) => with_queues::<L, W, N, Brand, Brand, R>(rt, alloc, opened, steps, end),
+    match formatted.name::<BooksOf<K>, WordsOf<K>, NumbersOf<K>>() {
+        Ok(opened) => with_queues::<K, Brand, Brand, R>(rt, alloc, opened, steps, end),
         Err(fault) => Err(fault.error),
     }
 }
 
-fn with_queues<
-    L: BooksName,
-    W: WordsName,
-    N: GeometryName,
-    P: PoolName,
-    T: TurnName,
-    R: Wait + Abort,
->(
+fn with_queues<K: TablesName, P: PoolName, T: TurnName, R: Wait + Abort>(
     rt: &R,
     alloc: Global,
-    opened: Opened<L, W, N, MemMeta, MemBlock>,
+    opened: Opened<BooksOf<K>, WordsOf<K>, NumbersOf<K>, MemMeta, MemBlock>,
     steps: &[Step<'_>],
     end: End,
 ) -> Result<Left<MemMeta, MemBlock>, Error>
@@ -80,21 +74,12 @@ pub(crate) fn with_mounted<M: Meta, B: Block + Drop, R: Wait + Abort>(
 ) -> Result<Left<M, B>, (Device<M, B>, Error)> {
     let Device { parts } = device;
     match mount(alloc, parts) {
-        Ok(mounted) => {
-            mounted_tables::<Brand, Brand, Brand, M, B, R>(rt, alloc, mounted, steps, end)
-        }
+        Ok(mounted) => { mounted_tables::<Brand, M, B, R>(rt, alloc, mounted, steps, end) }
         Err(fault) => Err((Device { parts: fault.parts }, fault.error)),
     }
 }
 
-fn mounted_tables<
-    L: BooksName,
-    W: WordsName,
-    N: GeometryName,
-    M: Meta,
-    B: Block + Drop,
-    R: Wait + Abort,
->(
+fn mounted_tables<K: TablesName, M: Meta, B: Block + Drop, R: Wait + Abort>(
     rt: &R,
     alloc: Global,
     mounted: Mounted<M, B>,
@@ -102,22 +87,18 @@ fn mounted_tables<
     end: End,
 ) -> Result<Left<M, B>, (Device<M, B>, Error)>
     requires run { IsBlockRun B.address_of B.content_of 64 1 mounted.parts.blocks.items }
-    requires books { mounted.books ≡ L.books }
-    requires words { mounted.words ≡ W.words }
-    requires geometry { mounted.geometry ≡ N.geometry }
+    requires books { mounted.books ≡ K.books }
+    requires words { mounted.words ≡ K.words }
+    requires geometry { mounted.geometry ≡ K.geometry }
 {
-    match mounted.name::<L, W, N>() {
-        Ok(opened) => {
-            mounted_queues::<L, W, N, Brand, Brand, M, B, R>(rt, alloc, opened, steps, end)
-        }
+    match mounted.name::<BooksOf<K>, WordsOf<K>, NumbersOf<K>>() {
+        Ok(opened) => { mounted_queues::<K, Brand, Brand, M, B, R>(rt, alloc, opened, steps, end) }
         Err(fault) => Err((Device { parts: fault.parts }, fault.error)),
     }
 }
 
 fn mounted_queues<
-    L: BooksName,
-    W: WordsName,
-    N: GeometryName,
+    K: TablesName,
     P: PoolName,
     T: TurnName,
     M: Meta,
@@ -126,7 +107,7 @@ fn mounted_queues<
 >(
     rt: &R,
     alloc: Global,
-    opened: MountedQueues<L, W, N, M, B>,
+    opened: MountedQueues<BooksOf<K>, WordsOf<K>, NumbersOf<K>, M, B>,
     steps: &[Step<'_>],
     end: End,
 ) -> Result<Left<M, B>, (Device<M, B>, Error)>

@@ -1,11 +1,5 @@
 use Rattle.simulator.proofs.formatting.run_formatted.Given as goal
 
 -- the tables that were just made, and the numbers of the volume
-abbrev pub ghosts-with_tables-L-BooksName : goal.ghosts-with_tables-L-BooksName
-ghosts-with_tables-L-BooksName g a = record { books = a.formatted.tables.books }
-
-abbrev pub ghosts-with_tables-W-WordsName : goal.ghosts-with_tables-W-WordsName
-ghosts-with_tables-W-WordsName g a = record { words = a.formatted.tables.words }
-
-abbrev pub ghosts-with_tables-N-GeometryName : goal.ghosts-with_tables-N-GeometryName
-ghosts-with_tables-N-GeometryName g a = record { geometry = a.formatted.tables.geometry }
+abbrev pub ghosts-with_tables : goal.ghosts-with_tables
+ghosts-with_tables g a = record { books = a.formatted.tables.books; words = a.formatted.tables.words; geometry = a.formatted.tables.geometry }

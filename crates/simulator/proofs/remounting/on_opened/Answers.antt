@@ -18,5 +18,5 @@ returns-in-Ok-clause-done g c =
     let mounted = c.args.opened.named.mounted in
     let blocks = bytes_at g.B.Block.content_of mounted.parts.blocks.items in
     let opened = ap (λ version. record { mounted = Some version; carried = c.args.carried }) (ap (λ base. base.version) (c.base.ensures ∙ c.in-Ok.ensures.base)) in
-    went_so _ _ _ mounted.geometry g.N.GeometryName.geometry mounted.image blocks c.args.steps.now c.args.carried c.in-Ok.passes.items _ c.run_volume.result
+    went_so _ _ _ mounted.geometry g.K.TablesName.geometry mounted.image blocks c.args.steps.now c.args.carried c.in-Ok.passes.items _ c.run_volume.result
     (g.O.Write.contents c.args.out.now) (g.O.Write.contents c.run_volume.new.out) c.args.opened.named.of_geometry c.in-Ok.ensures.passes opened c.run_volume.ensures.done
