@@ -3,6 +3,7 @@ ghost use Rattle.std.specs.Prelude.{◌≡◌, vec_len};
 ghost use Rattle.device.specs.Parts.{IsBlockRun};
 ghost use Rattle.geometry.specs.Area.{block_count};
 ghost use Rattle.geometry.specs.Shape.{block_bytes};
+ghost use Rattle.held_area_tests.specs.Stocked.{HasNames};
 
 use super::stock::Stock;
 use super::{Rights, Row, run_row};
@@ -31,9 +32,7 @@ fn with_tables<L: BooksName, W: WordsName, N: GeometryName, R: Wait + Abort>(
     blocks: Vec<MemBlock>,
     row: Row,
 ) -> Result<(), Error>
-    requires books { stock.books ≡ L.books }
-    requires words { stock.words ≡ W.words }
-    requires geometry { stock.geometry ≡ N.geometry }
+    requires names { HasNames stock L.books W.words N.geometry }
     requires run { IsBlockRun ⟦<MemBlock as Block>⟧.address_of ⟦<MemBlock as Block>⟧.content_of (block_bytes N.geometry.shape) 1 blocks.items }
     requires count { vec_len blocks ≡ block_count N.geometry }
 {
@@ -58,9 +57,7 @@ fn with_queues<
     queues: pool::Opened<W>,
     row: Row,
 ) -> Result<(), Error>
-    requires books { stock.books ≡ L.books }
-    requires words { stock.words ≡ W.words }
-    requires geometry { stock.geometry ≡ N.geometry }
+    requires names { HasNames stock L.books W.words N.geometry }
     requires run { IsBlockRun ⟦<MemBlock as Block>⟧.address_of ⟦<MemBlock as Block>⟧.content_of (block_bytes N.geometry.shape) 1 blocks.items }
     requires count { vec_len blocks ≡ block_count N.geometry }
     requires slots { queues.ordinary.slots ≡ N.geometry.segments }

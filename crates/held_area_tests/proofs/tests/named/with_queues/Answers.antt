@@ -7,10 +7,10 @@ use Rattle.held_area_tests.proofs.tests.named.with_queues.Goals as goal
 
 pub new-requires-clause-empty : goal.new-requires-clause-empty
 new-requires-clause-empty g c =
-    let named = ap (λ (t : Stocked). t.books) c.stock.view_is ∙ c.requires.books in
+    let named = ap (λ (t : Stocked). t.books) c.stock.view_is ∙ c.requires.names.of_books in
     subst (λ (b : Ruled Layout). AreEmptyShards b.book c.stock.inside.shards.items) named c.stock.invariant.5
 
 pub run_row-done-requires-clause-files : goal.run_row-done-requires-clause-files
 run_row-done-requires-clause-files g c =
-    let named = ap (λ (t : Stocked). t.books) c.stock.view_is ∙ c.requires.books in
+    let named = ap (λ (t : Stocked). t.books) c.stock.view_is ∙ c.requires.names.of_books in
     subst (λ (b : Ruled Layout). AreEmptyFiles b.book c.stock.inside.files.items) named c.stock.invariant.3
