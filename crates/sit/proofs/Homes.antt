@@ -1,9 +1,9 @@
 -- The blocks at home, of which one leaves or comes.
-use Rattle.std.proofs.Common.{◌≡◌, ℕ, ◌+◌, ◌<◌, List, Option, Some, None, Bool, length, get_or, map, set, replicate, ap, sym, ◌∙◌, refl}
+use Rattle.std.proofs.Common.{◌≡◌, ℕ, zero, suc, ◌+◌, ◌<◌, List, Option, Some, None, Bool, length, get_or, map, set, replicate, ap, sym, ◌∙◌, refl}
 use Rattle.std.proofs.lemmas.List.{map-set, get_or-map}
 use Rattle.std.specs.Prelude.{is_some, false}
 use Rattle.sums.proofs.Weighing.{weigh-set, weigh-replicate}
-use Rattle.sit.specs.Home.{Home, failed_at, failures_of}
+use Rattle.sit.specs.Home.{Home, AreAtHome, failed_at, failures_of}
 
 abbrev pub home_of : ℕ → ℕ → List Bool → List (List ℕ) → ℕ → Home
 home_of first block_bytes present contents failed = record { first = first; block_bytes = block_bytes; present = present; contents = contents; failed = failed }
@@ -25,6 +25,18 @@ failures-set failed blocks o x within = weigh-set (failed_at failed) blocks o x 
 
 pub failures-none : {B : Type 0} (failed : B → ℕ) (n : ℕ) → failures_of failed (replicate {A = Option B} n None) ≡ 0
 failures-none {B} failed n = weigh-replicate (failed_at failed) n None refl
+
+-- where no block is there, each that is there is at its place
+pub nobody-home : {B : Type 0} (address_of : B → ℕ) (content_of : B → List ℕ) (first bytes n : ℕ) → AreAtHome address_of content_of first bytes (replicate n None)
+nobody-home {B} address_of content_of first bytes n = record {
+  addresses = λ o block is. absurd (let no : ◌≡◌ {A = Option B} None (Some block) = sym (away n o) ∙ is in cc);
+  lengths = λ o block is. absurd (let no : ◌≡◌ {A = Option B} None (Some block) = sym (away n o) ∙ is in cc);
+}
+  where
+    away : (n o : ℕ) → get_or (replicate {A = Option B} n None) o None ≡ None
+    away zero o = refl
+    away (suc n) zero = refl
+    away (suc n) (suc o) = away n o
 
 -- where no block is there, none has failed
 pub failed-away : {B : Type 0} (failed : B → ℕ) (blocks : List (Option B)) (o : ℕ) → o < length blocks → get_or (map is_some blocks) o false ≡ false

@@ -1,6 +1,20 @@
-use Rattle.std.proofs.Common.{rules, ◌≡◌, ◌∙◌, ◌+◌, ◌<◌, length, subst, sym, arith}
-use Rattle.sit.proofs.Filling.{IsEmptying, emptying_goes_on}
+use Rattle.std.proofs.Common.{rules, ◌≡◌, ◌∙◌, ◌+◌, ◌<◌, length, subst, refl, sym, arith}
+use Rattle.sit.proofs.Filling.{IsEmptying, emptying_begins, emptying_goes_on, emptied_contents}
 use Rattle.sit.proofs.blocks.Blocks.empty_into.Goals as goal
+
+pub loop-offset-init : goal.loop-offset-init
+loop-offset-init g c =
+    let count = c.len-offset-end.ensures in (
+      emptying_begins g.B.Block.address_of g.B.Block.content_of c.args.self c.args.all.now.items c.requires.whole (sym count.contents ∙ count.present) c.requires.run,
+      refl,
+    )
+
+pub returns-clause-contents : goal.returns-clause-contents
+returns-clause-contents g c =
+    let end = c.loop-offset.auto in
+    let test = c.loop-offset-test.false in
+    let count = c.len-offset-end.ensures.present in
+    emptied_contents g.B.Block.address_of g.B.Block.content_of c.args.self c.loop-offset.self c.args.all.now.items c.loop-offset.offset c.loop-offset.all.items c.loop-offset.invariant.0 (omega arith)
 
 pub loop-offset-preserved : goal.loop-offset-preserved
 loop-offset-preserved g c =

@@ -1,9 +1,26 @@
-use Rattle.std.proofs.Common.{◌≡◌, ap, ◌∙◌, [], false, None, map, replicate, arith}
+use Rattle.std.proofs.Common.{◌≡◌, ◌++◌, ◌∷◌, ap, sym, subst, ◌∙◌, [], false, None, map, replicate, arith}
+use Rattle.std.proofs.lemmas.List.{replicate-append-replicate}
 use Rattle.std.specs.Prelude.{is_some}
-use Rattle.sit.specs.Home.{content_at, contents_of, failures_of}
+use Rattle.sit.specs.Home.{AreAtHome, content_at, contents_of, failures_of}
 use Rattle.sit.proofs.Lists.{map_replicate}
-use Rattle.sit.proofs.Homes.{failures-none}
+use Rattle.sit.proofs.Homes.{failures-none, nobody-home}
 use Rattle.sit.proofs.blocks.Blocks.new.Goals as goal
+
+pub loop-place-init : goal.loop-place-init
+loop-place-init g c = (c.in_ok-blocks.ensures.items, c.in_ok-blocks.ensures.capacity)
+
+pub loop-place-preserved : goal.loop-place-preserved
+loop-place-preserved g c =
+    let room = c.push_reserved.ensures.capacity in
+    let enough = c.loop-place.invariant.1 in (
+      c.push_reserved.ensures.items ∙ (ap (λ xs. xs ++ None ∷ []) c.loop-place.invariant.0 ∙ replicate-append-replicate c.loop-place._place 1 None),
+      omega arith,
+    )
+
+pub invariant_of-result : goal.invariant_of-result
+invariant_of-result g c =
+    subst (AreAtHome g.B.Block.address_of g.B.Block.content_of c.args.first c.args.block_bytes) (sym c.loop-place.invariant.0)
+        (nobody-home g.B.Block.address_of g.B.Block.content_of c.args.first c.args.block_bytes c.loop-place._place)
 
 pub returns-clause-ok : goal.returns-clause-ok
 returns-clause-ok g c =
