@@ -1,15 +1,24 @@
 -- What a change below one entry does to the map of the whole node.
-use Rattle.std.proofs.Common.{◌≡◌, ◌≢◌, ℕ, ◌+◌, ◌-◌, ◌*◌, ◌/◌, ◌%◌, ◌<◌, ◌≤◌, List, set, Option, Some, None, arith, ap, sym, inl, inr}
+use Rattle.std.proofs.Common.{Bool, ◌≡◌, ◌≢◌, ℕ, ◌+◌, ◌-◌, ◌*◌, ◌/◌, ◌%◌, ◌<◌, ◌≤◌, List, set, Option, Some, None, arith, ap, sym, inl, inr}
 use Rattle.std.proofs.lemmas.List.{get_or-set_other}
 use Rattle.std.proofs.lemmas.Nat.{div-mul-add, mod-mul-add, div-add-mod'}
 use Rattle.std.proofs.lemmas.Bool.{cases_eq, cases_lt}
 use Rattle.tree.specs.declared.spare.Spare.{Spare}
 use Rattle.tree.specs.declared.spare.Spare.TheVariants.{Ticket, Token}
-use Rattle.tree.specs.Tree.{Same, SetsAt, SwapsOne, HandsOut, AreNone, entry_at}
+use Rattle.tree.specs.Tree.{Same, SetsAt, SwapsOne, HandsOut, AreNone, UsefulIn, entry_at}
 
 -- the entries but one stay
 pub others_stay : {C : Type 0} (xs ys : List (Option C)) (at j : ℕ) (y : Option C) → ys ≡ set xs at y → j ≢ at → entry_at ys j ≡ entry_at xs j
 others_stay xs ys at j y e ne = rw e (get_or-set_other xs at j y None ne)
+
+-- what each node names below the entries, where one entry has changed and names as much as before
+pub useful_below : {C : Type 0} (Useful : (ℕ → ℕ → Bool) → ℕ → Option C → Type 0) (span : ℕ) (asked : ℕ → ℕ → Bool) (first at : ℕ) (xs ys : List (Option C))
+    → ys ≡ set xs at (entry_at ys at) → (Useful asked (first + at * span) (entry_at xs at) → Useful asked (first + at * span) (entry_at ys at))
+    → UsefulIn Useful span asked first xs → UsefulIn Useful span asked first ys
+useful_below Useful span asked first at xs ys set_at kept useful k = elim (cases_eq k at) [
+  | inl e ↦ rw e (kept (useful at))
+  | inr ne ↦ rw (others_stay xs ys at k (entry_at ys at) set_at ne) (useful k)
+]
 
 module _ {C L : Type 0} (find : Option C → ℕ → Option L) (span : ℕ) (xs ys : List (Option C)) (at : ℕ)
     (set_at : ys ≡ set xs at (entry_at ys at)) where

@@ -1,11 +1,49 @@
-use Rattle.std.proofs.Common.{Bool, false, ◌≡◌, ℕ, ◌+◌, ◌*◌, ◌-◌, ◌<◌, ◌≤◌, ◌/◌, ◌%◌, None, arith, ap, inl, inr}
+use Rattle.std.proofs.Common.{Bool, false, ◌≡◌, ℕ, ◌+◌, ◌*◌, ◌-◌, ◌<◌, ◌≤◌, ◌/◌, ◌%◌, None, arith, ap, ◌∙◌, inl, inr}
 use Rattle.std.proofs.lemmas.Nat.{div-add-mod', le-div}
 use Rattle.std.proofs.lemmas.Bool.{cases_lt}
-use Rattle.std.proofs.Math.Nat.{div-mul-le_self, div-le_self}
+use Rattle.std.proofs.Math.Nat.{div-mul-le_self, div-le_self, lt-div-mul-add}
 use Rattle.tree.specs.Tree.{entry_at, UsefulIn, AsksPast}
 use Rattle.tree.specs.Useful.{within}
-use Rattle.tree.proofs.Below.{hands_below}
+use Rattle.tree.proofs.Below.{useful_below, hands_below}
 use Rattle.tree.proofs.entries.Entries.prune.Goals as goal
+
+pub loop-at-preserved : goal.loop-at-preserved
+loop-at-preserved g c =
+    let before = c.loop-at.invariant in
+    let items : c.loop-at.self.slots.items ≡ c.args.self.now.slots.items = ap (λ b. b.slots.items) before.same in
+    let same = c.in_default.ensures.none.0 ∙ before.same in
+    let empty = rw (items, c.saturating_sub.ensures) at c.in_default.ensures.none.1 in
+    let nothing = rw (items, c.saturating_sub.ensures) at c.in_default.ensures.none.2 in
+    let past = rw (ap (λ b. b.slots.items) same, c.saturating_sub.ensures) at c.in_default.ensures.past in record {
+      same = same;
+      bound = let b = before.bound in omega arith;
+      empty = λ m le. elim (cases_lt m c.loop-at.at) [ inl lt ↦ (let here : m ≡ c.loop-at.at - 1 = omega arith in rw here empty) | inr ge ↦ before.empty m ge ];
+      useful = λ m le. elim (cases_lt m c.loop-at.at) [ inl lt ↦ (let here : m ≡ c.loop-at.at - 1 = omega arith in rw here past) | inr ge ↦ before.useful m ge ];
+      nothing = λ m le. elim (cases_lt m c.loop-at.at) [ inl lt ↦ (let here : m ≡ c.loop-at.at - 1 = omega arith in rw here nothing) | inr ge ↦ before.nothing m ge ];
+    }
+
+pub returns-in-Some-clause-useful : goal.returns-in-Some-clause-useful
+returns-in-Some-clause-useful g c =
+    let C = g.C.Subtree in
+    let e = c.args.entries in
+    let span = C.span_of e in
+    let at = c.loop-at.at - 1 in
+    let xs = c.args.self.now.slots.items in
+    let same : c.loop-at.self.slots.items ≡ xs = ap (λ b. b.slots.items) c.loop-at.invariant.same in
+    let entry = rw same at c.prune_at.ensures.entry in
+    let kept = rw (same, c.saturating_sub.ensures, c.span-span.ensures) at c.prune_at.ensures.useful in
+    λ asked first spares. useful_below (C.useful e) span asked first at xs c.prune_at.new.self.slots.items entry
+        (kept asked (first + at * span) (λ start end past. spares start end (omega arith)))
+
+pub returns-in-Some-clause-past : goal.returns-in-Some-clause-past
+returns-in-Some-clause-past g c =
+    let span = g.C.Subtree.span_of c.args.entries in
+    let is : c.span-span.result ≡ span = c.span-span.ensures in
+    let positive : 0 < span = g.met.C.Subtree.span_positive c.args.entries c.requires.some in
+    let start : c.args.from / span < c.loop-at.at = rw is at c.loop-at-test.true in
+    let bound = c.loop-at.invariant.bound in
+    let far = within (c.args.from / span) c.args.count span (omega arith) in
+    let low : c.args.from < c.args.from / span * span + span = lt-div-mul-add positive in omega arith
 
 pub returns-in-Some-clause-cases : goal.returns-in-Some-clause-cases
 returns-in-Some-clause-cases g c =
