@@ -168,21 +168,18 @@ impl<C: Subtree> Subtree for Branch<C> {
         from: u32,
         ticket: C::Leaf,
     ) -> Result<C::Leaf, C::Leaf> {
+        let Some(branch) = slot else {
+            return Err(ticket);
+        };
         if !C::is_leaf() {
-            return match slot {
-                Some(branch) => branch
-                    .entries
-                    .migrate(entries, entries, nid, at, from, ticket),
-                None => Err(ticket),
-            };
+            return branch
+                .entries
+                .migrate(entries, entries, nid, at, from, ticket);
         }
-        if Self::entry(slot) != nid {
+        if branch.token.number() != nid {
             return Err(ticket);
         }
-        match slot {
-            Some(branch) => branch.entries.swap(entries, entries, at, from, ticket),
-            None => Err(ticket),
-        }
+        branch.entries.swap(entries, entries, at, from, ticket)
     }
 
     fn read(

@@ -20,7 +20,7 @@ loop-place-preserved g c =
 pub invariant_of-result : goal.invariant_of-result
 invariant_of-result g c =
     subst (AreAtHome g.B.Block.address_of g.B.Block.content_of c.args.first c.args.block_bytes) (sym c.loop-place.invariant.0)
-        (nobody-home g.B.Block.address_of g.B.Block.content_of c.args.first c.args.block_bytes c.loop-place._place)
+    (nobody-home g.B.Block.address_of g.B.Block.content_of c.args.first c.args.block_bytes c.loop-place._place)
 
 pub returns-clause-ok : goal.returns-clause-ok
 returns-clause-ok g c =

@@ -33,7 +33,7 @@ returns-in-Some-clause-useful g c =
     let entry = rw same at c.prune_at.ensures.entry in
     let kept = rw (same, c.saturating_sub.ensures, c.span-span.ensures) at c.prune_at.ensures.useful in
     λ asked first spares. useful_below (C.useful e) span asked first at xs c.prune_at.new.self.slots.items entry
-        (kept asked (first + at * span) (λ start end past. spares start end (omega arith)))
+    (kept asked (first + at * span) (λ start end past. spares start end (omega arith)))
 
 pub returns-in-Some-clause-past : goal.returns-in-Some-clause-past
 returns-in-Some-clause-past g c =
