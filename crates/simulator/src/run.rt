@@ -1,5 +1,6 @@
 //! Runs a script.
 ghost use Rattle.std.specs.Prelude.{◌≡◌, ◌≢◌, ◌⊎◌, true, false, IfErr, IfOk, OnOk};
+ghost use Rattle.std.specs.Io.KnownBytes.{IsAtEnd};
 ghost use Rattle.device.specs.Parts.{HasSize};
 ghost use Rattle.simulator.specs.Ending.{LeftScript};
 ghost use Rattle.simulator.specs.Run.{WroteScript, WroteSomeScript, names_line};
@@ -40,6 +41,7 @@ pub fn run_script<T: Threads + Wait + Sync, R: Read, W: Write, E: Write>(
     saved: Option<&mut Vec<u8>>,
 ) -> u8
     ensures status { (result ≡ 0) ⊎ ((result ≡ 1) ⊎ ((result ≡ 3) ⊎ (result ≡ 4))) }
+    ensures read { result ≡ 0 → IsAtEnd (R.remaining input.new) }
     ensures done { result ≡ 0 → (out.new ≡ out.old) ⊎ WroteSomeScript (W.contents out.old) (W.contents out.new) }
     ensures bad_line { result ≡ 3 → out.new ≡ out.old }
     ensures quiet { result ≢ 3 → result ≢ 4 → errors.new ≡ errors.old }
@@ -57,6 +59,7 @@ fn read_and_run<T: Threads + Wait + Sync, R: Read, W: Write>(
     out: &mut W,
     saved: Option<&mut Vec<u8>>,
 ) -> Result<(), Stop>
+    ensures read { OnOk result (IsAtEnd (R.remaining input.new)) }
     ensures done { OnOk result ((out.new ≡ out.old) ⊎ WroteSomeScript (W.contents out.old) (W.contents out.new)) }
     ensures bad_line { IfErr result (λ stop. names_line stop ≡ true → out.new ≡ out.old) }
 {

@@ -11,6 +11,6 @@ returns-clause-lawful g c =
     record {
       geometry = tells.geometry;
       image = tells.image;
-      held = known P (g.R.Read.remaining c.args.input.now) c.in_ok-file.file.items c.in_ok-file.ensures (subst P c.as_slice.ensures.value tells.held);
+      held = known P (g.R.Read.remaining c.args.input.now) c.in_ok-file.file.items c.in_ok-file.ensures.bytes (subst P c.as_slice.ensures.value tells.held);
       told = tells.told;
     }

@@ -16,6 +16,6 @@ returns-clause-told g c =
     on_ok c.tell_parts.result (ToldParts seen content parts old new) (TellsFiles seen address content input old new)
     (λ told. record {
       parts = parts;
-      device = known P input c.in_ok-file.file.items c.in_ok-file.ensures (subst P c.as_slice.ensures.value c.in_ok-parts.ensures.device);
+      device = known P input c.in_ok-file.file.items c.in_ok-file.ensures.bytes (subst P c.as_slice.ensures.value c.in_ok-parts.ensures.device);
       told = told;
     }) c.tell_parts.ensures.told
