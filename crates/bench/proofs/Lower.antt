@@ -4,10 +4,10 @@ use Rattle.std.specs.List.{All}
 use Rattle.atomic_table.specs.Seated.{TableId}
 use Rattle.geometry.specs.declared.owner.Mark.{Mark}
 use Rattle.geometry.specs.Mark.{same_mark}
-use Rattle.books.specs.Lists.{without}
-use Rattle.books.proofs.Steps as steps
+use Rattle.rights_books.specs.Lists.{without}
+use Rattle.rights_books.proofs.Steps as steps
 use Rattle.words.specs.Tokens.{fresh_slips}
-use Rattle.pooled_slips.proofs.Fresh as fresh
+use Rattle.test_support.proofs.Fresh as fresh
 
 pub without_mark_first : (m : Mark) (ms : List Mark) → without same_mark m (m ∷ ms) ≡ ms
 without_mark_first = steps.without_mark_first

@@ -19,7 +19,6 @@ mod tests;
 mod turns;
 
 use geometry::Error;
-use measuring::is_measure;
 use std::alloc::Global;
 use std::fmt::Write;
 use std::io;
@@ -27,6 +26,7 @@ use std::rt::Runtime;
 use std::sync::Wait;
 use std::thread::Threads;
 use std::time::{Duration, Instant};
+use test_support::is_measure;
 
 const SHOWN: u32 = 10;
 

@@ -2,8 +2,8 @@
 ghost use Rattle.std.specs.Prelude.{◌≡◌, ◌-◌, ◌/◌, ◌<◌, IfOk, IsOkUnless};
 ghost use Rattle.geometry.specs.declared.error.Error.TheVariants.{NoMemory};
 
-use books::{Books, Layout, Permit, SegmentAccount};
 use geometry::{Error, Mark, Owner};
+use rights_books::{Books, Layout, Permit, SegmentAccount};
 use std::alloc::Global;
 use std::thread;
 use std::thread::Threads;

@@ -6,14 +6,14 @@ ghost use Rattle.pool.specs.Law.{all_parts};
 ghost use Rattle.words.specs.Tokens.{fresh_slips};
 
 use geometry::Error;
-use names::{PoolName, WordsName};
 use pool::{Opened, Pool, PoolPass};
-use pooled_slips::{discard, fill, put};
+use rights_names::{PoolName, WordsName};
 use std::alloc::Global;
 use std::marker::Brand;
 use std::sync::Wait;
 use std::thread;
 use std::thread::Threads;
+use test_support::{discard, fill, put};
 use words::{Dealt, FreeSlip, Words};
 
 const SEGMENTS: u32 = 16;

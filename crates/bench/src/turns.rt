@@ -2,17 +2,17 @@
 //! another.
 ghost use Rattle.std.specs.Prelude.{◌≡◌, IfOk, IsOkUnless};
 ghost use Rattle.geometry.specs.declared.error.Error.TheVariants.{NoMemory};
-ghost use Rattle.turnstile.specs.Turns.{all_permits};
+ghost use Rattle.rights_permits.specs.Turns.{all_permits};
 
-use books::{Books, Layout, Permits};
 use geometry::Error;
-use names::{BooksName, TurnName};
+use rights_books::{Books, Layout, Permits};
+use rights_names::{BooksName, TurnName};
+use rights_permits::{OpenedTurnstile, Turnstile};
 use std::alloc::Global;
 use std::marker::Brand;
 use std::sync::Wait;
 use std::thread;
 use std::thread::Threads;
-use turnstile::{OpenedTurnstile, Turnstile};
 
 const LAYOUT: Layout = Layout {
     segments: 1,

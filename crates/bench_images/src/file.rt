@@ -4,11 +4,11 @@ ghost use Rattle.geometry.specs.Area.{block_count};
 ghost use Rattle.geometry.specs.Shape.{segment_blocks};
 
 use crate::volume::Volume;
-use codec::encode_node;
 use geometry::{Error, Geometry, Summary};
 use image::{Image, NodeEntry, Place, SegmentInfo};
+use image_codec::encode_node;
+use packs_format::{encode, file_bytes, write_super};
 use std::alloc::{AllocError, Global};
-use tables::{encode, file_bytes, write_super};
 
 // The version of the one pack, which stands in the second slot.
 const VERSION: u32 = 1;

@@ -17,13 +17,13 @@ mod volume;
 use file::image_file;
 use geometry::{Error, Geometry, Shape};
 use image::Image;
-use measuring::{is_measure, tell_time};
+use packs_format::ReadImage;
 use std::alloc::Global;
 use std::fmt::Write;
 use std::io;
 use std::rt::Runtime;
 use std::time::{Duration, Instant};
-use tables::ReadImage;
+use test_support::{is_measure, tell_time};
 use volume::{Content, Volume};
 
 // What a read of an image file answers.

@@ -1,9 +1,9 @@
 //! How long the calls of a volume's files take on one thread.
 //!
-//! At each depth of the index tree a new volume of 16 segments gets a file whose first blocks are appended, then written
-//! again at indexes in no order, and then read; then readers of it are taken and closed, and one shows its blocks. In a small
-//! volume what was done is counted. Otherwise the nanoseconds a call are told, beside those of one copy of as many bytes, and of
-//! finding the path to an index.
+//! At each depth of the index tree a new volume gets a file whose first blocks are appended, then written again at indexes in no
+//! order, and then read; then readers of it are taken and closed, and one shows its blocks. At last the blocks are written again
+//! until no segment is free, and then into the holes of used ones. In a small volume what was done is counted. Otherwise the
+//! nanoseconds a call are told, beside those of one copy of as many bytes, and of finding the path to an index.
 mod bare;
 mod looking;
 mod work;
@@ -14,11 +14,11 @@ use crate::fault::Fault;
 use crate::task::Task;
 use device::{MemBlock, MemMeta};
 use geometry::{Error, Kind, Shape};
-use names::VolumeName;
-use opening::{Seat, Volume};
+use rights_names::VolumeName;
 use std::alloc::{AllocError, Global};
 use std::rt::Runtime;
 use std::sync::Wait;
+use volume::{Seat, Volume};
 pub use work::Work;
 use work::measure_on;
 
@@ -26,6 +26,7 @@ use work::measure_on;
 #[derive(Clone, Copy)]
 pub struct Size {
     pub shape: Shape,
+    pub segments: u32,
     pub blocks: u32,
     pub calls: u32,
     pub readers: u32,
@@ -33,6 +34,7 @@ pub struct Size {
 
 const SHOWN: Size = Size {
     shape: Shape::TINY,
+    segments: 16,
     blocks: 3,
     calls: 10,
     readers: 2,
@@ -40,6 +42,7 @@ const SHOWN: Size = Size {
 
 const MEASURED: Size = Size {
     shape: Shape::KERNEL,
+    segments: 24,
     blocks: 900,
     calls: 4000,
     readers: 200,

@@ -12,15 +12,15 @@ use crate::naming::mounted::measure_mount;
 use crate::task::Task;
 use device::{MemBlock, MemMeta};
 use geometry::Shape;
-use names::VolumeName;
-use opening::{Closed, FilePass, Seat, Volume};
 use report::Checkpoints;
 pub use report::Report;
+use rights_names::VolumeName;
 use std::alloc::{AllocError, Global};
 use std::io;
 use std::rt::Runtime;
 use std::sync::Wait;
 use std::time::{Duration, Instant};
+use volume::{Closed, FilePass, Seat, Volume};
 use work::run_checkpoints;
 
 /// What is measured: a volume of so many segments, and a file of so many blocks.
@@ -37,16 +37,29 @@ const SHOWN: Size = Size {
     blocks: 20,
 };
 
-const MEASURED: Size = Size {
-    shape: Shape::KERNEL,
-    segments: 64,
-    blocks: 20_000,
-};
+const MEASURED: [Size; 2] = [
+    Size {
+        shape: Shape::KERNEL,
+        segments: 64,
+        blocks: 20_000,
+    },
+    Size {
+        shape: Shape::KERNEL,
+        segments: 512,
+        blocks: 20_000,
+    },
+];
 
-/// One volume.
+/// A volume for each size.
 pub fn tasks(alloc: Global, is_measure: bool) -> Result<Vec<Task>, AllocError> {
-    let size = if is_measure { MEASURED } else { SHOWN };
-    Ok(Vec::from_array(alloc, [Task::Checkpoints(size)])?)
+    if !is_measure {
+        return Ok(Vec::from_array(alloc, [Task::Checkpoints(SHOWN)])?);
+    }
+    let mut tasks = Vec::new(alloc);
+    for size in MEASURED {
+        tasks.push(Task::Checkpoints(size))?;
+    }
+    Ok(tasks)
 }
 
 /// Measures checkpoints, a close and a mount on a new volume, which is left.

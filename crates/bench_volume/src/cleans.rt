@@ -1,9 +1,11 @@
 //! How many blocks a clean moves for each block that is written.
 //!
 //! A file takes a part of a volume, and its blocks are written again and again: all of them equally often, or nine writes of
-//! ten to a tenth of them. Where no segment is free any more, sections are cleaned by one of the two policies. What was moved
-//! is told beside what it cost, as Rosenblum and Ousterhout (1991) count it: the blocks of the cleaned sections and those that
-//! were moved and written, a block written. Their formula for it is 2/(1-u), where u is the part of a section that was valid.
+//! ten to a tenth of them. Where no segment is free any more, sections are cleaned by one of the two policies; or writes go on
+//! into the holes of used segments, and sections are cleaned only where no hole is left. After each so many writes there is a
+//! checkpoint, which no hole may overwrite. What was moved is told beside what it cost, as Rosenblum and Ousterhout (1991) count
+//! it: the blocks of the cleaned sections and those that were moved and written, a block written. Their formula for it is
+//! 2/(1-u), where u is the part of a section that was valid.
 mod counts;
 mod load;
 mod run;
@@ -15,12 +17,12 @@ pub use counts::Report;
 use device::{MemBlock, MemMeta};
 use geometry::{Error, Shape};
 pub use load::Load;
-use load::{PATTERNS, POLICIES, Size};
-use names::VolumeName;
-use opening::Volume;
+use load::{PATTERNS, POLICIES, ROOMS, Size};
+use rights_names::VolumeName;
 use run::Run;
 use std::alloc::{AllocError, Global};
 use std::sync::Wait;
+use volume::Volume;
 
 const SHOWN: Size = Size {
     shape: Shape::TINY,
@@ -29,6 +31,7 @@ const SHOWN: Size = Size {
     least: 5,
     most: 6,
     writes: 400,
+    period: 8,
 };
 
 const MEASURED: Size = Size {
@@ -38,21 +41,25 @@ const MEASURED: Size = Size {
     least: 5,
     most: 9,
     writes: 120_000,
+    period: 4096,
 };
 
-/// A volume for each utilization, pattern and policy.
+/// A volume for each utilization, pattern and policy, and for both ways to find room.
 pub fn tasks(alloc: Global, is_measure: bool) -> Result<Vec<Task>, AllocError> {
     let size = if is_measure { MEASURED } else { SHOWN };
     let mut tasks = Vec::new(alloc);
     for utilization in size.least..size.most + 1 {
         for pattern in PATTERNS {
             for policy in POLICIES {
-                tasks.push(Task::Cleaning(Load {
-                    size,
-                    utilization,
-                    pattern,
-                    policy,
-                }))?;
+                for room in ROOMS {
+                    tasks.push(Task::Cleaning(Load {
+                        size,
+                        utilization,
+                        pattern,
+                        policy,
+                        room,
+                    }))?;
+                }
             }
         }
     }

@@ -15,13 +15,13 @@ use crate::task::Task;
 use check::check_device;
 use device::{MemBlock, MemDevice, MemMeta};
 use geometry::Shape;
-use names::VolumeName;
-use opening::{Closed, Seat, Volume};
 pub use report::Report;
+use rights_names::VolumeName;
 use sparse::make_files;
 use std::alloc::{AllocError, Global};
 use std::rt::Runtime;
 use std::sync::Wait;
+use volume::{Closed, Seat, Volume};
 
 /// A volume of so many segments and node numbers, with so many files, each of which has so many direct nodes.
 #[derive(Clone, Copy)]

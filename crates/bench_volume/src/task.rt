@@ -6,14 +6,13 @@ use crate::found::Found;
 use crate::{calls, checkpoints, cleans, mounts, threads};
 use device::{MemBlock, MemMeta};
 use geometry::{Error, Geometry};
-use opening::{Seat, Volume};
 use std::alloc::Global;
 use std::fmt::Write;
 use std::io;
 use std::rt::Runtime;
 use std::sync::Wait;
 use std::thread::Threads;
-use volume_names::SharedName;
+use volume::{Seat, SharedName, Volume};
 
 /// A measurement on one new volume.
 #[derive(Clone, Copy)]
@@ -31,7 +30,7 @@ impl Task {
     /// The numbers of the volume.
     pub fn geometry(self) -> Result<Geometry, Error> {
         match self {
-            Task::Calls(size, _) => Geometry::new(size.shape, 16, 1, 1, 32),
+            Task::Calls(size, _) => Geometry::new(size.shape, size.segments, 1, 1, 32),
             Task::Threads(size, _, _) => Geometry::new(size.shape, size.segments, 1, 4, 64),
             Task::Checkpoints(size) => Geometry::new(size.shape, size.segments, 1, 4, 1024),
             Task::Cleaning(Load { size, .. }) => {

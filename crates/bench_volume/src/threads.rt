@@ -13,14 +13,13 @@ use crate::fault::Fault;
 use crate::task::Task;
 use device::{MemBlock, MemMeta};
 use geometry::Shape;
-use opening::Volume;
 pub use side::Work;
 use side::measure_on;
 use std::alloc::{AllocError, Global};
 use std::rt::Runtime;
 use std::sync::Wait;
 use std::thread::Threads;
-use volume_names::SharedName;
+use volume::{SharedName, Volume};
 
 /// What is measured: so many blocks of each file, and so many overwrites by each thread.
 #[derive(Clone, Copy)]

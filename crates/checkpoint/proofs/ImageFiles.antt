@@ -1,4 +1,5 @@
--- The file that a state shows is the image's, where the main blocks hold what its tickets show.
+-- A state's tickets name the addresses where the main blocks hold their contents: so what an image reads there, block
+-- by block, is the file that the state shows.
 use Rattle.std.proofs.Common.{◌≡◌, ◌≢◌, ℕ, zero, suc, ◌<◌, ◌≤◌, List, [], ◌∷◌, ◌++◌, append-nil, Option, Some, None, cond, inl, inr, refl, sym, ap, subst, ◌∙◌, eq-eqb, ne_eqb, arith}
 use Rattle.std.proofs.lemmas.Bool.{cases_eq, cases_lt}
 use Rattle.std.proofs.lemmas.List.Elements.{filter_map-append}

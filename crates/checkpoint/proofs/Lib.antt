@@ -1,2 +1,4 @@
-pub mod Bodies
 pub mod ImageFiles
+pub mod Bodies
+pub mod Versions
+pub mod Counting

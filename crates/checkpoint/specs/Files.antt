@@ -1,14 +1,17 @@
 -- Whether a state is an image's file, and the files that states show (Linux filesystems/f2fs, index structure).
-use Rattle.std.specs.Prelude.{◌≡◌, ◌<◌, ℕ, List, map, Some}
+use Rattle.std.specs.Prelude.{◌≡◌, ◌<◌, ℕ, List, map, Some, true}
 use Rattle.geometry.specs.File.{File, Block}
 use Rattle.tickets.specs.Placed.{Placed}
 use Rattle.image.specs.Image.{Image, node_of}
 use Rattle.image.specs.Files.{data_address}
+use Rattle.image.specs.Walk.{is_taken}
 use Rattle.nodes.specs.declared.file.FileState.{FileState}
 use Rattle.nodes.specs.File.{ticket_at, address_of, file_of}
 
--- a state is the image's file of its number: the same kind and length, and the same address at each index
+-- a state is the image's file of its number: the number is taken there, with the same kind and length, and the same address
+-- at each index
 pub record IsStateOf {B L : Type 0} (image : Image) (state : FileState B L) : Type 0 where
+  pub there : is_taken image state.token.number ≡ true
   pub kind : state.kind ≡ (node_of image state.token.number).kind
   pub length : state.length ≡ (node_of image state.token.number).length
   pub slots : (index : ℕ) → index < state.length → address_of (ticket_at state index) ≡ data_address state.shape image state.token.number index

@@ -1,2 +1,3 @@
 pub mod Files
 pub mod Holding
+pub mod Standing

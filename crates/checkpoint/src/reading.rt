@@ -3,21 +3,18 @@ ghost use Rattle.std.specs.Prelude.{◌≡◌, ◌⊎◌, ◌<◌, [], OnErr, If
 ghost use Rattle.geometry.specs.declared.error.Error.TheVariants.{NoMemory, Device, BadImage};
 ghost use Rattle.device.specs.Disk.{IsQuiet};
 ghost use Rattle.image.specs.View.{image_view};
-ghost use Rattle.image.specs.Slots.{slot_of};
-ghost use Rattle.packs.specs.Area.{slot_at};
-ghost use Rattle.tables.specs.Grammar.{SpellsTables, SpellsNoTables};
+ghost use Rattle.packs.specs.Parts.{format_of};
+ghost use Rattle.packs_format.specs.Grammar.{SpellsTables, SpellsNoTables};
 ghost use Rattle.checkpoint.specs.Holding.{AreWhole, counting_body};
 
 use crate::ImagePacks;
 use device::Meta;
 use geometry::Error;
 use image::Image;
+use packs_format::decode;
 use std::alloc::Global;
-use tables::decode;
 
-// The bytes in front of the slots, and those of a footer.
-const SUPERBLOCK: u64 = 64;
-
+// The bytes of a footer.
 const FOOTER: u64 = 4;
 
 impl<M: Meta> ImagePacks<M> {
@@ -37,20 +34,19 @@ impl<M: Meta> ImagePacks<M> {
         ensures same { self.new ≡ record self.old { area = record self.old.area { meta = self.new.area.meta } } }
         ensures quiet { IsQuiet M.seen M.may_leave M.moment M.left_since self.old.area.meta self.new.area.meta }
     {
-        let mut body = vec![in alloc; 0u8; self.area.len as usize]?;
-        let at = self.body_at();
-        match self.area.meta.read(at, body.as_mut_slice()) {
-            Ok(()) => decode(alloc, &self.geometry, body.as_slice()),
+        let len = self.geometry.pack_bytes() - FOOTER;
+        let mut body = vec![in alloc; 0u8; len as usize]?;
+        match self.area.read(body.as_mut_slice()) {
+            Ok(true) => decode(alloc, &self.geometry, body.as_slice()),
+            Ok(false) => Err(Error::BadImage(1)),
             Err(_) => Err(Error::Device),
         }
     }
 
-    // Where the body of the pack that counts begins.
-    fn body_at(&self) -> u64
-        requires { AreWhole M.seen M.may_leave self.now }
-        ensures { result ≡ slot_at self.now.area.len (slot_of self.now.area.version) }
+    /// The format of the pack that counts: 1 where it was written whole, 2 where in parts.
+    pub fn format(&self) -> u32
+        ensures { result ≡ format_of self.now.area.map }
     {
-        let slot = u64::from(self.area.version % 2);
-        SUPERBLOCK + slot * (self.area.len + FOOTER)
+        self.area.format()
     }
 }

@@ -19,7 +19,7 @@ pub struct Stored<M: Meta, B: Block> {
     pub(crate) taken: Taken<B>,
     pub(crate) geometry: Geometry,
     pub(crate) pack: packs::Stored<M>,
-    ghost written: { All (λ entry. body_of (reading_of entry.0.len) M.seen entry.0
+    ghost written: { All (λ entry. body_of (reading_of entry.0.geometry) M.seen entry.0
         ≡ pack_body geometry.shape (image_view taken.image)) pack.shown.items },
 }
 

@@ -10,18 +10,19 @@ ghost use Rattle.image.specs.View.{image_view};
 ghost use Rattle.packs.specs.Pack.{Between};
 ghost use Rattle.packs.specs.Area.{reading_of};
 ghost use Rattle.packs.specs.Device.{IsSameArea, KeepsArea};
-ghost use Rattle.tables.specs.Grammar.{SpellsTables};
-ghost use Rattle.checkpoint.specs.Holding.{AreWhole, HoldsTables, counting_body, read_with};
+ghost use Rattle.packs_format.specs.Grammar.{SpellsTables};
+ghost use Rattle.checkpoint.specs.Holding.{AreWhole, counting_body, read_with};
+ghost use Rattle.packs_format.specs.Holding.{HoldsTables};
 
 use crate::{ImagePacks, Stored, Taken};
 use device::{Block, Meta};
 use geometry::Error;
 use image::Image;
+use packs_format::encode;
 use std::alloc::Global;
-use tables::encode;
 
 impl<M: Meta> ImagePacks<M> {
-    /// Writes an image as the next pack, by four calls of the device. After an Ok it is the one that counts whatever crash
+    /// Writes an image as the next pack: of its two tables only the parts that changed. After an Ok it is the one that counts whatever crash
     /// comes.
     ///
     /// Answers NoMemory before any call of the device, and then nothing has changed; and Device where the device failed:
@@ -40,7 +41,7 @@ impl<M: Meta> ImagePacks<M> {
 
         // A crash at any moment of the call leaves the old pack or the new one, also where it fails.
         ensures any_moment { LeavesOnly M.moment M.left_since self.old.area.meta self.new.area.meta
-            (KeepsArea (M.seen self.old.area.meta) (Between (reading_of self.old.area.len)
+            (KeepsArea (M.seen self.old.area.meta) (Between (reading_of self.old.area.geometry)
             (counting_body M.seen self.old) (pack_body self.old.geometry.shape (image_view taken.image)))) }
 
         ensures errors { IfErr result (λ e. (e ≡ NoMemory) ⊎ (e ≡ Device)) }
@@ -48,7 +49,7 @@ impl<M: Meta> ImagePacks<M> {
         ensures device { IfErr result (λ e. e ≡ Device → M.failed self.old.area.meta < M.failed self.new.area.meta) }
         ensures same { IsSameArea (M.seen self.old.area.meta) (M.seen self.new.area.meta) }
         ensures geometry { self.new.geometry ≡ self.old.geometry }
-        ensures len { self.new.area.len ≡ self.old.area.len }
+        ensures numbers { self.new.area.geometry ≡ self.old.area.geometry }
     {
         let pack = self.store(alloc, &taken.image)?;
         let geometry = self.geometry;
@@ -69,7 +70,7 @@ impl<M: Meta> ImagePacks<M> {
         ensures spelled { OnOk result (SpellsTables self.old.geometry (counting_body M.seen self.new) (image_view image.now)) }
         ensures stored { IfOk result (λ stored. stored.shown.items ≡ (self.new.area, self.new.area.version) ∷ []) }
         ensures any_moment { LeavesOnly M.moment M.left_since self.old.area.meta self.new.area.meta
-            (KeepsArea (M.seen self.old.area.meta) (Between (reading_of self.old.area.len)
+            (KeepsArea (M.seen self.old.area.meta) (Between (reading_of self.old.area.geometry)
             (counting_body M.seen self.old) (pack_body self.old.geometry.shape (image_view image.now)))) }
 
         ensures errors { IfErr result (λ e. (e ≡ NoMemory) ⊎ (e ≡ Device)) }
@@ -77,7 +78,7 @@ impl<M: Meta> ImagePacks<M> {
         ensures device { IfErr result (λ e. e ≡ Device → M.failed self.old.area.meta < M.failed self.new.area.meta) }
         ensures same { IsSameArea (M.seen self.old.area.meta) (M.seen self.new.area.meta) }
         ensures geometry { self.new.geometry ≡ self.old.geometry }
-        ensures len { self.new.area.len ≡ self.old.area.len }
+        ensures numbers { self.new.area.geometry ≡ self.old.area.geometry }
     {
         // A version fits its field.
         let _version = image.version;

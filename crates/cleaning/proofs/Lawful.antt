@@ -1,21 +1,22 @@
--- The law of a file's state, where the block of one of its nodes was moved.
+-- Only one token changes, which tells another address and the same bytes: each other node is as it was, so the law
+-- holds of all, and a block that spelled its node spells it elsewhere.
 use Rattle.std.proofs.Common.{◌≡◌, ℕ, ◌<◌, ◌==◌, ◌&&◌, ◌||◌, nat_lt, Bool, true, false, if◌then◌else◌, length, refl, sym, ap, subst, ◌∙◌, inl, inr, eq-eqb, ne_eqb, eqb-true, arith}
 use Rattle.std.specs.Prelude.{◌⊎◌}
 use Rattle.geometry.specs.declared.shape.Shape.{Shape}
 use Rattle.geometry.specs.Shape.{block_bytes}
-use Rattle.books.specs.declared.claim.Entry.{Entry}
-use Rattle.books.specs.Rules.{moved_to}
+use Rattle.rights_books.specs.declared.claim.Entry.{Entry}
+use Rattle.rights_books.specs.Rules.{moved_to}
 use Rattle.tree.specs.Change.{TreeNode, of_tickets, of_tokens}
-use Rattle.seek.specs.Moving.{MovesOne, moved_node}
+use Rattle.tree_walks.specs.Moving.{MovesOne, moved_node}
 use Rattle.nodes.specs.declared.file.FileState.{FileState}
 use Rattle.nodes.specs.File.{inode_of, below_weight, weight_of}
-use Rattle.assembly.specs.Items.{Among}
-use Rattle.file_law.specs.Nodes.{of_nodes, nodes_of}
-use Rattle.file_law.specs.Law.{strange, ragged, unplaced, IsSpelled, SpellsUnmarked, HasOwnTokens, FileStateLaw}
-use Rattle.file_law.proofs.Sameness.{same_node, node_eq}
-use Rattle.file_law.proofs.Listing.{nodes_weigh}
-use Rattle.file_law.proofs.Keeping.{is_it, it_is, among_list, list_among}
-use Rattle.file_law.proofs.Owning.{own_each}
+use Rattle.image_law.specs.Items.{Among}
+use Rattle.nodes_law.specs.Nodes.{of_nodes, nodes_of}
+use Rattle.nodes_law.specs.Law.{strange, ragged, unplaced, IsSpelled, SpellsUnmarked, HasOwnTokens, FileStateLaw}
+use Rattle.nodes_law.proofs.Sameness.{same_node, node_eq}
+use Rattle.nodes_law.proofs.Listing.{nodes_weigh}
+use Rattle.nodes_law.proofs.Keeping.{is_it, it_is, among_list, list_among}
+use Rattle.nodes_law.proofs.Owning.{own_each}
 
 -- a token tells what it told, or that its node's block, which it has, stands elsewhere with its bytes
 abbrev pub Carries : Entry → Entry → Type 0

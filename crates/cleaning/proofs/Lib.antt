@@ -1,6 +1,6 @@
 pub mod Lawful
 pub mod Moving
-pub use Rattle.shared_files.proofs.Serving
-pub use Rattle.shared_files.proofs.Names
-pub use Rattle.shared_files.proofs.Born
-pub use Rattle.file_law.proofs.Lasting
+pub use Rattle.file_calls.proofs.Serving
+pub use Rattle.file_calls.proofs.Names
+pub use Rattle.file_calls.proofs.Born
+pub use Rattle.nodes_law.proofs.Lasting

@@ -1,4 +1,5 @@
--- What a move of one block of a file leaves as it was.
+-- The new block has the bytes of the old, in the same entry, and the hand changes by the same ticket or token as the
+-- file: so the file is what it was, and holds what it has.
 use Rattle.std.proofs.Common.{◌≡◌, ℕ, ◌+◌, ◌-◌, ◌*◌, ◌/◌, ◌%◌, ◌<◌, ◌==◌, max, cond, nat_lt, List, [], ◌∷◌, Option, Some, None, Bool, true, false, if◌then◌else◌, length, refl, sym, ap, subst, ◌∙◌, inl, inr, eq-eqb, ne_eqb, arith}
 use Rattle.std.specs.Prelude.{◌⊎◌, ◌≢◌, ◌≤◌, MatchOption, replicate}
 use Rattle.geometry.specs.declared.owner.Owner.{Owner}
@@ -7,24 +8,24 @@ use Rattle.tree.specs.declared.branch.Branch.{Branch}
 use Rattle.std.proofs.lemmas.Bool.{cases_eq}
 use Rattle.sums.specs.Weights.{weigh}
 use Rattle.geometry.specs.Shape.{block_bytes}
-use Rattle.books.specs.Accounts.{HandView}
-use Rattle.books.specs.declared.claim.Entry.{Entry}
-use Rattle.books.specs.Lists.{times, without}
-use Rattle.books.specs.Rules.{moved_to, with_lodged}
-use Rattle.books.specs.Weights.{mark_of}
+use Rattle.rights_books.specs.Accounts.{HandView}
+use Rattle.rights_books.specs.declared.claim.Entry.{Entry}
+use Rattle.rights_books.specs.Lists.{times, without}
+use Rattle.rights_books.specs.Rules.{moved_to, with_lodged}
+use Rattle.rights_books.specs.Weights.{mark_of}
 use Rattle.nat.specs.Taken.{placed_of}
 use Rattle.geometry.specs.declared.owner.Mark.{Mark}
-use Rattle.books.specs.Sameness.{same_entry}
-use Rattle.books.proofs.Sameness.{entry_self}
-use Rattle.books.proofs.Steps.{without_entry, without_mark_first}
+use Rattle.rights_books.specs.Sameness.{same_entry}
+use Rattle.rights_books.proofs.Sameness.{entry_self}
+use Rattle.rights_books.proofs.Steps.{without_entry, without_mark_first}
 use Rattle.tickets.specs.Placed.{Placed}
 use Rattle.tree.specs.Tree.{SetsAt, Same, only_at_zero, entry_at, find_below, missing_below, missing_in}
 use Rattle.nodes.specs.Marks.{MarksNode, lengthened}
 use Rattle.geometry.specs.Mark.{same_mark}
 use Rattle.geometry.specs.File.{written}
 use Rattle.tree.specs.Change.{TreeNode, ticket_weight, of_tickets, of_tokens, unnumbered}
-use Rattle.flush.specs.Writing.{IsAmong}
-use Rattle.seek.specs.Moving.{MovesOne}
+use Rattle.tree_walks.specs.Writing.{IsAmong}
+use Rattle.tree_walks.specs.Moving.{MovesOne}
 use Rattle.nodes.specs.declared.file.FileState.{FileState}
 use Rattle.nodes.specs.File.{IsFile, Shows, ticket_at, address_of, missing_to, content_of, weight_of, file_of, joined, find_direct, find_indirect, find_double, missing_direct, missing_indirect, missing_double, in_tickets, in_direct, in_indirect, in_double}
 use Rattle.nodes.specs.Held.{Others}
@@ -34,10 +35,10 @@ use Rattle.nodes.proofs.Files.{shows_file_of, only_file}
 use Rattle.geometry.specs.Owner.{IsOwner}
 use Rattle.nodes.specs.Owners.{owner_at, namer_at, HasNumbers}
 use Rattle.nodes.proofs.Numbered.{owner_valid}
-use Rattle.file_law.specs.Law.{ragged, FileStateLaw}
-use Rattle.shared_files.specs.Contents.{IsStored, InHand, Serves}
-use Rattle.shared_files.proofs.Names.{named_still}
-use Rattle.shared_files.proofs.Serving.{stored_same, serves_not, first_ticket, with_ticket, less_ticket, serves_over, over_there}
+use Rattle.nodes_law.specs.Law.{ragged, FileStateLaw}
+use Rattle.file_calls.specs.Contents.{IsStored, InHand, Serves}
+use Rattle.file_calls.proofs.Names.{named_still}
+use Rattle.file_calls.proofs.Serving.{stored_same, serves_not, first_ticket, with_ticket, less_ticket, serves_over, over_there}
 use Rattle.cleaning.specs.declared.fate.Fate.{Fate}
 use Rattle.cleaning.specs.declared.fate.Fate.TheVariants.{Moved, Gone}
 use Rattle.cleaning.specs.Moves.{IsMovable, MovesToken, MovesAt, KeepsWeights}

@@ -1,4 +1,4 @@
 pub mod Moves
 pub mod Cleaning
-pub use Rattle.shared_files.specs.Contents
-pub use Rattle.file_law.specs.Law
+pub use Rattle.file_calls.specs.Contents
+pub use Rattle.nodes_law.specs.Law

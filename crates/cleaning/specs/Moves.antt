@@ -4,19 +4,19 @@ use Rattle.std.specs.Prelude.{◌≡◌, ◌≢◌, ◌<◌, ◌+◌, ◌⊎◌,
 use Rattle.geometry.specs.declared.owner.Mark.{Mark}
 use Rattle.geometry.specs.declared.owner.Owner.{Owner}
 use Rattle.geometry.specs.declared.owner.Owner.TheVariants.{Data, Node}
-use Rattle.books.specs.declared.claim.Entry.{Entry}
-use Rattle.books.specs.Accounts.{HandView}
-use Rattle.books.specs.Lists.{times, without}
-use Rattle.books.specs.Sameness.{same_entry}
-use Rattle.books.specs.Rules.{moved_to}
+use Rattle.rights_books.specs.declared.claim.Entry.{Entry}
+use Rattle.rights_books.specs.Accounts.{HandView}
+use Rattle.rights_books.specs.Lists.{times, without}
+use Rattle.rights_books.specs.Sameness.{same_entry}
+use Rattle.rights_books.specs.Rules.{moved_to}
 use Rattle.tickets.specs.Placed.{Placed}
 use Rattle.tree.specs.Tree.{SetsAt}
 use Rattle.tree.specs.Change.{TreeNode, Weighing, of_tickets, each_naming}
-use Rattle.flush.specs.Writing.{IsAmong}
-use Rattle.seek.specs.Moving.{MovesOne, each_numbered}
+use Rattle.tree_walks.specs.Writing.{IsAmong}
+use Rattle.tree_walks.specs.Moving.{MovesOne, each_numbered}
 use Rattle.nodes.specs.declared.file.FileState.{FileState}
 use Rattle.nodes.specs.File.{ticket_at, weight_of}
-use Rattle.file_law.specs.Law.{ragged}
+use Rattle.nodes_law.specs.Law.{ragged}
 
 -- a block that had this mark stands at another address, with the bytes and the owner that it had
 pub record IsElsewhere (mark : Mark) (before after : Placed) : Type 0 where

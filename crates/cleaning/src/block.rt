@@ -9,20 +9,20 @@ ghost use Rattle.nodes.specs.File.{address_of, ticket_at, file_of};
 ghost use Rattle.nodes.specs.Held.{Others};
 ghost use Rattle.nodes.specs.Owners.{owner_at};
 ghost use Rattle.nodes.specs.Useful.{IsUseful, each_node};
-ghost use Rattle.file_law.specs.Law.{FileStateLaw};
-ghost use Rattle.shared_files.specs.Contents.{IsStored, InHand, Serves};
+ghost use Rattle.nodes_law.specs.Law.{FileStateLaw};
+ghost use Rattle.file_calls.specs.Contents.{IsStored, InHand, Serves};
 ghost use Rattle.cleaning.specs.Moves.{HasMoved, IsGone, MovesAt};
 ghost use Rattle.cleaning.specs.declared.fate.Fate.TheVariants.{Moved, Gone};
 
 use crate::fate::Fate;
 use crate::place::append_elsewhere;
-use books::Permit;
+use area::{Log, MainArea};
 use device::Block;
-use file_seek::index_of;
 use geometry::{Error, Mark, Owner};
-use names::VolumeName;
 use nodes::FileState;
-use shared_area::{Log, MainArea};
+use nodes_seek::index_of;
+use rights_books::Permit;
+use rights_names::VolumeName;
 use std::sync::Wait;
 
 /// Moves a data block of a file, where the node `nid` still names this address at this slot: its bytes are read and appended to

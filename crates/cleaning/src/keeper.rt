@@ -5,21 +5,21 @@ ghost use Rattle.geometry.specs.Shape.{block_bytes};
 ghost use Rattle.nodes.specs.File.{file_of};
 ghost use Rattle.nodes.specs.Held.{Others};
 ghost use Rattle.nodes.specs.Useful.{IsUseful, each_node};
-ghost use Rattle.file_law.specs.Law.{FileStateLaw};
-ghost use Rattle.shared_files.specs.Contents.{IsStored, InHand, Serves};
-ghost use Rattle.turnstile.specs.Turns.{at_home};
+ghost use Rattle.nodes_law.specs.Law.{FileStateLaw};
+ghost use Rattle.file_calls.specs.Contents.{IsStored, InHand, Serves};
+ghost use Rattle.rights_permits.specs.Turns.{at_home};
 ghost use Rattle.cleaning.specs.Moves.{HasMoved, IsGone, KeepsWeights};
 ghost use Rattle.cleaning.specs.declared.fate.Fate.TheVariants.{Moved, Gone};
 
 use crate::block::migrate_block;
 use crate::fate::Fate;
 use crate::node::migrate_node;
-use books::Permit;
+use area::MainArea;
 use device::Block;
 use geometry::{Error, Owner};
-use names::VolumeName;
 use nodes::FileState;
-use shared_area::MainArea;
+use rights_books::Permit;
+use rights_names::VolumeName;
 use std::sync::Wait;
 
 /// The files of a volume, each under a lock of its own.

@@ -15,9 +15,9 @@ mod survey;
 
 pub use block::migrate_block;
 pub use fate::{Counts, Fate};
+pub use file_calls::{cut_blocks, give_node, give_up, write_block};
 pub use keeper::{Files, migrate};
 pub use node::migrate_node;
 pub use policy::{Policy, choose};
 pub use section::{Cleaned, clean};
-pub use shared_files::{cut_blocks, give_node, give_up, write_block};
 pub use survey::Survey;

@@ -3,28 +3,28 @@ ghost use Rattle.std.specs.Prelude.{◌≡◌, ◌≢◌, ◌<◌, ◌∷◌, �
 ghost use Rattle.geometry.specs.declared.error.Error.TheVariants.{NoSpace, Device};
 ghost use Rattle.geometry.specs.declared.owner.Owner.TheVariants.{Node};
 ghost use Rattle.geometry.specs.Shape.{block_bytes};
-ghost use Rattle.books.specs.Lists.{times};
-ghost use Rattle.books.specs.Sameness.{same_entry};
+ghost use Rattle.rights_books.specs.Lists.{times};
+ghost use Rattle.rights_books.specs.Sameness.{same_entry};
 ghost use Rattle.nodes.specs.File.{file_of};
 ghost use Rattle.nodes.specs.Held.{Others};
 ghost use Rattle.nodes.specs.Useful.{IsUseful, each_node};
-ghost use Rattle.file_law.specs.Law.{FileStateLaw};
-ghost use Rattle.shared_files.specs.Contents.{IsStored, InHand, Serves};
+ghost use Rattle.nodes_law.specs.Law.{FileStateLaw};
+ghost use Rattle.file_calls.specs.Contents.{IsStored, InHand, Serves};
 ghost use Rattle.cleaning.specs.Moves.{HasMoved, IsGone, MovesToken, KeepsWeights};
 ghost use Rattle.cleaning.specs.declared.fate.Fate.TheVariants.{Moved, Gone};
 
 use crate::fate::Fate;
 use crate::place::append_elsewhere;
-use books::Permit;
+use area::{Log, MainArea, log_for};
 use device::Block;
-use file_seek::visit_node;
 use geometry::{Class, Error, Kind, Mark, Owner};
-use names::VolumeName;
 use nodes::FileState;
-use seek::NodeVisitor;
-use shared_area::{Log, MainArea, log_for};
+use nodes_seek::visit_node;
+use rights_books::Permit;
+use rights_names::VolumeName;
 use std::sync::Wait;
 use tickets::NidToken;
+use tree_walks::NodeVisitor;
 
 /// Moves the block of a node of a file, where the file still has a node of this number and its block is at this address:
 /// the bytes are read and appended to the log of the node's class, and the node's entry and token get the new block; the

@@ -4,11 +4,11 @@ ghost use Rattle.geometry.specs.declared.error.Error.TheVariants.{NoSpace, Devic
 ghost use Rattle.geometry.specs.Owner.{IsOwner};
 ghost use Rattle.geometry.specs.Shape.{block_bytes};
 
-use books::Permit;
+use area::{Log, MainArea, Who};
 use device::Block;
 use geometry::{Error, Mark};
-use names::VolumeName;
-use shared_area::{Log, MainArea, Who};
+use rights_books::Permit;
+use rights_names::VolumeName;
 use std::sync::Wait;
 use tickets::Ticket;
 

@@ -2,18 +2,18 @@
 ghost use Rattle.std.specs.Prelude.{◌≡◌, ◌+◌, ◌*◌, ◌<◌, ◌≤◌, ◌⊎◌, length, vec_len, MatchOption, IfOk, IfErr};
 ghost use Rattle.geometry.specs.declared.error.Error.TheVariants.{NoMemory, NoSpace, Device};
 ghost use Rattle.geometry.specs.Shape.{block_bytes, segment_blocks};
-ghost use Rattle.turnstile.specs.Turns.{at_home};
+ghost use Rattle.rights_permits.specs.Turns.{at_home};
 ghost use Rattle.cleaning.specs.Cleaning.{IsCleaned, section_count, section_blocks};
 
 use crate::fate::{Counts, Fate};
 use crate::keeper::Files;
 use crate::policy::{Policy, choose};
 use crate::survey::Survey;
-use books::Permit;
+use area::MainArea;
 use device::Block;
 use geometry::{Error, Owner};
-use names::VolumeName;
-use shared_area::MainArea;
+use rights_books::Permit;
+use rights_names::VolumeName;
 use std::alloc::Global;
 use std::sync::Wait;
 use victim::Row;

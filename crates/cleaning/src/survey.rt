@@ -4,10 +4,10 @@ ghost use Rattle.geometry.specs.declared.error.Error.TheVariants.{NoMemory};
 ghost use Rattle.geometry.specs.Shape.{segment_blocks};
 ghost use Rattle.cleaning.specs.Cleaning.{AreRows, IsRowOf, section_count};
 
+use area::MainArea;
 use device::Block;
 use geometry::{Error, State};
-use names::VolumeName;
-use shared_area::MainArea;
+use rights_names::VolumeName;
 use sit::SegmentRow;
 use std::alloc::Global;
 use std::sync::Wait;
@@ -22,8 +22,8 @@ pub struct Survey {
 
 impl Survey {
     /// Looks at all segments, each under its own lock, one after another: one row for each section, ascending. A section is
-    /// ready where one of its segments is sealed, all are sealed or free, and not all of its blocks are valid. The only error
-    /// is NoMemory.
+    /// ready where one of its segments is sealed, all are sealed or free, no log fills holes of one, and not all of its blocks are
+    /// valid. The only error is NoMemory.
     pub fn take<V: VolumeName, B: Block + Drop, R: Wait>(
         rt: &R,
         alloc: Global,
@@ -81,7 +81,8 @@ fn row_of<V: VolumeName, B: Block + Drop, R: Wait>(
         valid += segment.valid;
         mtime = segment.mtime.max(mtime);
         some = some || is_sealed;
-        all = all && (is_sealed || segment.state == State::Free);
+        let is_threaded = segment.threaded;
+        all = all && !is_threaded && (is_sealed || segment.state == State::Free);
     }
     let size = geometry.per_section * geometry.shape.segment_blocks();
     Row {

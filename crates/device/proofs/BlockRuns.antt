@@ -1,4 +1,5 @@
--- Runs of blocks are joined, parted, and walked from the front.
+-- A run's block at place k has the address first + k: so where one run ends the next begins, and a front and what is
+-- behind it are runs again.
 use Rattle.std.proofs.Common.{◌≡◌, ⊎_elim, ℕ, zero, suc, ◌+◌, ◌-◌, ◌<◌, List, [], ◌∷◌, ◌++◌, length, get_or, refl, ap, sym, subst, ◌∙◌, arith}
 use Rattle.std.proofs.lemmas.Bool.{cases_lt}
 use Rattle.std.proofs.lemmas.List.{length-append, get_or_append_left, get_or-append_right, get_or-append-add}

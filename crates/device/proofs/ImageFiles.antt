@@ -1,4 +1,5 @@
--- A device's image file, as far as it is gone through.
+-- An image file is the meta area and the blocks behind it, so a walk that adds the next block's bytes has the file's
+-- front, which is never longer than the file.
 use Rattle.std.proofs.Common.{◌≡◌, ℕ, ◌+◌, ◌<◌, ◌≤◌, List, ◌++◌, length, get_or, take, ◌∙◌, sym, ap, subst, arith}
 use Rattle.std.proofs.lemmas.List.{length-append, take_more, flat_map_more, take_all}
 use Rattle.std.proofs.lemmas.List.Folds.{length-flat_map-take}

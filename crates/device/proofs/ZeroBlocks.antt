@@ -1,4 +1,5 @@
--- The blocks of a new device, as far as they are made.
+-- Each new block has the next address, zeros for bytes and no failure: so the list with it behind is one of such
+-- blocks, one longer.
 use Rattle.std.proofs.Common.{◌≡◌, ℕ, ◌+◌, List, [], ◌∷◌, ◌++◌, length, All, replicate, ◌∙◌, ap, arith}
 use Rattle.std.proofs.lemmas.List.{length-append, length-replicate}
 use Rattle.std.proofs.lemmas.List.Elements.{All-nil, All-push}

@@ -1,10 +1,10 @@
 //! The program: it runs a script, checks an image file, or tells the files of one.
 #![tactic(auto)]
 
-use script::words::USAGE;
-use script::{Words, WordsError};
-use simulator::status::MISUSED;
-use simulator::{check_image, run_script, tell_failure, tell_files, tell_no_memory};
+use program_run::status::MISUSED;
+use program_run::{check_image, run_script, tell_failure, tell_files, tell_no_memory};
+use program_script::words::USAGE;
+use program_script::{Words, WordsError};
 use std::fs::File;
 use std::io::Write;
 use std::process::ExitCode;

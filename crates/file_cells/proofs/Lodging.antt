@@ -1,4 +1,5 @@
--- What a call has in hand that works on a file whose tickets and tokens are lodged in its account.
+-- Taking all that is lodged into an empty hand and lodging it again loses nothing: so what a call makes of the hand is
+-- what the account has after it, and the hand is empty again.
 use Rattle.std.proofs.Common.{◌≡◌, ◌<◌, ℕ, true, Option, Some, None, List, [], ◌∷◌, ◌++◌, refl, sym, ap, subst, ◌∙◌, arith}
 use Rattle.std.specs.Prelude.{is_some, MatchOption, unwrap_or, replicate}
 use Rattle.tickets.specs.Placed.{Placed}
@@ -8,13 +9,13 @@ use Rattle.sums.specs.Weights.{weigh}
 use Rattle.geometry.specs.declared.geometry.Geometry.{Geometry}
 use Rattle.geometry.specs.declared.kind.Kind.{Kind}
 use Rattle.geometry.specs.File.{File, bytes_at, new_file}
-use Rattle.books.specs.Accounts.{FileView, HandView, PassView}
-use Rattle.books.specs.declared.claim.Content.{Content}
-use Rattle.books.specs.declared.claim.Entry.{Entry}
-use Rattle.books.specs.Contents.{as_content, as_file}
-use Rattle.books.specs.Rules.{bare_entry}
-use Rattle.books.proofs.Contents.{as_file_again}
-use Rattle.turnstile.specs.Turns.{at_home}
+use Rattle.rights_books.specs.Accounts.{FileView, HandView, PassView}
+use Rattle.rights_books.specs.declared.claim.Content.{Content}
+use Rattle.rights_books.specs.declared.claim.Entry.{Entry}
+use Rattle.rights_books.specs.Contents.{as_content, as_file}
+use Rattle.rights_books.specs.Rules.{bare_entry}
+use Rattle.rights_books.proofs.Contents.{as_file_again}
+use Rattle.rights_permits.specs.Turns.{at_home}
 use Rattle.nodes.specs.declared.file.FileState.{FileState}
 use Rattle.nodes.specs.File.{IsFile, IsBare, inode_of, ticket_at, blocks_below, content_of, file_of}
 use Rattle.nodes.specs.Held.{AreHeld, no_others}

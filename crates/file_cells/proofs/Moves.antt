@@ -1,9 +1,10 @@
--- What is lodged in a file's account, where one of the file's blocks is moved.
+-- Account and file weigh the same before and after: so where one ticket or token of the file was moved, that one was
+-- moved in the account too.
 use Rattle.std.proofs.Common.{◌≡◌, ℕ, ap, arith}
 use Rattle.geometry.specs.declared.owner.Mark.{Mark}
 use Rattle.geometry.specs.declared.owner.Owner.{Owner}
 use Rattle.geometry.specs.declared.owner.Owner.TheVariants.{Data, Node}
-use Rattle.books.specs.Accounts.{FileView}
+use Rattle.rights_books.specs.Accounts.{FileView}
 use Rattle.tree.specs.Change.{of_tickets, of_tokens}
 use Rattle.nodes.specs.declared.file.FileState.{FileState}
 use Rattle.nodes.specs.Held.{AreHeld}

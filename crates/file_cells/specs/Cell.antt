@@ -2,8 +2,8 @@
 use Rattle.std.specs.Prelude.{◌≡◌, ℕ, [], Option, Some, None}
 use Rattle.atomic_table.specs.Seated.{TableId}
 use Rattle.geometry.specs.declared.geometry.Geometry.{Geometry}
-use Rattle.books.specs.Accounts.{FileView}
-use Rattle.books.specs.Contents.{as_content}
+use Rattle.rights_books.specs.Accounts.{FileView}
+use Rattle.rights_books.specs.Contents.{as_content}
 use Rattle.nodes.specs.declared.file.FileState.{FileState}
 use Rattle.nodes.specs.File.{file_of}
 use Rattle.nodes.specs.Held.{AreHeld}

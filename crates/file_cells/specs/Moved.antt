@@ -5,8 +5,8 @@ use Rattle.sums.specs.Weights.{weigh}
 use Rattle.geometry.specs.declared.owner.Mark.{Mark}
 use Rattle.geometry.specs.declared.owner.Owner.{Owner}
 use Rattle.geometry.specs.declared.owner.Owner.TheVariants.{Data, Node}
-use Rattle.books.specs.declared.claim.Entry.{Entry}
-use Rattle.books.specs.Accounts.{FileView}
+use Rattle.rights_books.specs.declared.claim.Entry.{Entry}
+use Rattle.rights_books.specs.Accounts.{FileView}
 use Rattle.cleaning.specs.Moves.{IsNodeElsewhere}
 
 -- a ticket went, and one of another address and the same owner came; all else is lodged as often as before

@@ -2,21 +2,21 @@
 ghost use Rattle.std.specs.Prelude.{◌≡◌, ◌<◌, ◌≤◌, ◌∷◌, [], None, Some, IfOk, IfErr};
 ghost use Rattle.geometry.specs.declared.error.Error.TheVariants.{NoMemory};
 ghost use Rattle.geometry.specs.File.{new_file};
-ghost use Rattle.books.specs.Contents.{as_content};
-ghost use Rattle.books.specs.Rules.{bare_entry};
+ghost use Rattle.rights_books.specs.Contents.{as_content};
+ghost use Rattle.rights_books.specs.Rules.{bare_entry};
 ghost use Rattle.nodes.specs.File.{file_of};
-ghost use Rattle.turnstile.specs.Turns.{at_home};
+ghost use Rattle.rights_permits.specs.Turns.{at_home};
 ghost use Rattle.file_cells.specs.Cell.{IsCell, IsLodged};
 
 use crate::cell::FileCell;
 use crate::pass::FilePass;
-use books::{Books, FileAccount, Noted, PassAccount, Permit};
+use area::MainArea;
 use cleaning::{give_node, give_up};
 use device::Block;
 use geometry::{Error, Kind};
-use names::VolumeName;
 use nodes::FileState;
-use shared_area::MainArea;
+use rights_books::{Books, FileAccount, Noted, PassAccount, Permit};
+use rights_names::VolumeName;
 use std::alloc::Global;
 use std::marker::{Brand, PhantomData};
 use std::sync::Wait;

@@ -4,16 +4,16 @@ ghost use Rattle.geometry.specs.declared.error.Error.TheVariants.{NoMemory, NoNo
 ghost use Rattle.geometry.specs.File.{bytes_at, written, cut_to};
 ghost use Rattle.geometry.specs.Path.{largest_length};
 ghost use Rattle.geometry.specs.Shape.{block_bytes};
-ghost use Rattle.turnstile.specs.Turns.{at_home};
+ghost use Rattle.rights_permits.specs.Turns.{at_home};
 
 use crate::lodged::{cut_lodged, note_file, write_lodged};
 use crate::pass::FilePass;
-use books::{Books, FileAccount, Permit};
+use area::MainArea;
 use device::Block;
 use geometry::Error;
-use names::VolumeName;
 use nodes::FileState;
-use shared_area::MainArea;
+use rights_books::{Books, FileAccount, Permit};
+use rights_names::VolumeName;
 use std::alloc::Global;
 use std::marker::{Brand, Model, PhantomData};
 use std::sync::Wait;
@@ -41,7 +41,7 @@ impl<V: VolumeName, B: Block + Drop> Model for FileCell<V, B> {
 }
 
 impl<V: VolumeName, B: Block + Drop> FileCell<V, B> {
-    /// Writes a block of the file at an index below the largest length, as `shared_files::write_block` does. After an error the file
+    /// Writes a block of the file at an index below the largest length, as `file_calls::write_block` does. After an error the file
     /// is as it was.
     pub fn write<R: Wait>(
         &mut self,
@@ -105,7 +105,7 @@ impl<V: VolumeName, B: Block + Drop> FileCell<V, B> {
         Ok(true)
     }
 
-    /// Cuts the file to a length in blocks, or leaves it where it is shorter, as `shared_files::cut_blocks` does. It takes no memory,
+    /// Cuts the file to a length in blocks, or leaves it where it is shorter, as `file_calls::cut_blocks` does. It takes no memory,
     /// and is never refused.
     pub fn cut<R: Wait>(
         &mut self,

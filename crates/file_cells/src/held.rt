@@ -1,17 +1,17 @@
 //! What a checkpoint looks at in a file's lock.
 ghost use Rattle.std.specs.Prelude.{◌≡◌, ◌∷◌, Some};
 ghost use Rattle.sums.specs.Weights.{weigh};
-ghost use Rattle.books.specs.declared.claim.Copied.TheVariants.{FileCopy};
-ghost use Rattle.books.specs.Weights.{file_copy, past};
+ghost use Rattle.rights_books.specs.declared.claim.Copied.TheVariants.{FileCopy};
+ghost use Rattle.rights_books.specs.Weights.{file_copy, past};
 ghost use Rattle.nodes.specs.File.{file_of};
 ghost use Rattle.file_cells.specs.Cell.{IsLawfulCell};
 
 use crate::cell::FileCell;
 use crate::pass::FilePass;
-use books::{Audit, Books};
 use device::Block;
-use names::VolumeName;
 use nodes::FileState;
+use rights_books::{Audit, Books};
+use rights_names::VolumeName;
 
 impl<V: VolumeName, B: Block + Drop> FileCell<V, B> {
     /// Tells what holds of what is in the lock. Nothing runs.

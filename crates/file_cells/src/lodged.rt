@@ -5,18 +5,18 @@ ghost use Rattle.geometry.specs.declared.error.Error.TheVariants.{NoMemory, NoNo
 ghost use Rattle.geometry.specs.File.{written, cut_to};
 ghost use Rattle.geometry.specs.Path.{largest_length};
 ghost use Rattle.geometry.specs.Shape.{block_bytes};
-ghost use Rattle.books.specs.Contents.{as_content};
+ghost use Rattle.rights_books.specs.Contents.{as_content};
 ghost use Rattle.nodes.specs.File.{file_of};
-ghost use Rattle.turnstile.specs.Turns.{at_home};
+ghost use Rattle.rights_permits.specs.Turns.{at_home};
 ghost use Rattle.file_cells.specs.Cell.{IsLodged};
 
-use books::{Books, FileAccount, Noted, PassAccount, Permit};
+use area::MainArea;
 use cleaning::{cut_blocks, give_up, write_block};
 use device::Block;
 use geometry::Error;
-use names::VolumeName;
 use nodes::FileState;
-use shared_area::MainArea;
+use rights_books::{Books, FileAccount, Noted, PassAccount, Permit};
+use rights_names::VolumeName;
 use std::alloc::Global;
 use std::sync::Wait;
 

@@ -3,19 +3,19 @@ ghost use Rattle.std.specs.Prelude.{◌≡◌, ◌<◌, ◌⊎◌, length, OnErr
 ghost use Rattle.geometry.specs.declared.error.Error.TheVariants.{NoSpace, Device};
 ghost use Rattle.geometry.specs.Shape.{block_bytes};
 ghost use Rattle.nodes.specs.File.{file_of};
-ghost use Rattle.turnstile.specs.Turns.{at_home};
+ghost use Rattle.rights_permits.specs.Turns.{at_home};
 ghost use Rattle.cleaning.specs.declared.fate.Fate.TheVariants.{Moved, Gone};
 ghost use Rattle.file_cells.specs.Cell.{IsLodged};
 ghost use Rattle.file_cells.specs.Moved.{HasMovedLodged, KeepsLodged};
 
 use crate::cell::FileCell;
-use books::{FileAccount, Permit};
+use area::MainArea;
 use cleaning::{Fate, migrate};
 use device::Block;
 use geometry::{Error, Owner};
-use names::VolumeName;
 use nodes::FileState;
-use shared_area::MainArea;
+use rights_books::{FileAccount, Permit};
+use rights_names::VolumeName;
 use std::sync::Wait;
 
 impl<V: VolumeName, B: Block + Drop> FileCell<V, B> {

@@ -1,6 +1,11 @@
-//! The walk over a file's marked nodes: each is lent to a writer, the inode first, parents before children.
+//! The marked nodes of a file are written: each goes to the log of its class, and its number then stands for the new block
+//! (Linux `filesystems/f2fs`: a checkpoint writes the dirty node blocks).
 #![tactic(auto)]
 
-mod walk;
+mod buffer;
+mod flushing;
+mod node;
+mod writer;
 
-pub use walk::flush_next;
+pub use buffer::FlushBuffer;
+pub use flushing::flush_file;

@@ -1,4 +1,5 @@
--- Worked examples of the definitions, by computation.
+-- The definitions say what they should of one small file: its paths, lengths, bytes and names come out by computation,
+-- and its bytes read back as the image.
 use Rattle.std.proofs.Common.{◌≡◌, refl, ℕ, true, false, List, [], ◌∷◌, ◌++◌, length, replicate, map, take, arith}
 use Rattle.std.specs.Prelude.{Some, None, if◌then◌else◌, ◌==◌}
 use Rattle.geometry.specs.declared.path.Path.TheVariants.{Inode, Direct, Indirect, Double}

@@ -1,4 +1,5 @@
--- A file of two blocks, and the same bytes with one change each: the rule that the change breaks.
+-- A lawful image of one file and two blocks, and the same bytes with one change each, which breaks the rule that the
+-- change is about: so no rule holds of everything.
 use Rattle.std.proofs.Common.{◌≡◌, ◌≢◌, refl, ap, ℕ, zero, suc, ◌<◌, true, false, List, [], ◌∷◌, ◌++◌, replicate, set, arith}
 use Rattle.std.specs.Prelude.{Some, None, Contains, ◌==◌, if◌then◌else◌}
 use Rattle.geometry.specs.declared.owner.Mark.{Mark}

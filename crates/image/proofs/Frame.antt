@@ -1,4 +1,5 @@
--- What an image and its files take from the blocks: those that it marks, and no other.
+-- Whatever an image or a file reads off a block is at an address that some node of the image names, and names are
+-- marked: so blocks that agree where it marks give the same.
 use Rattle.geometry.specs.declared.owner.Mark.{Mark}
 use Rattle.image.specs.declared.image.NodeEntry.{NodeEntry}
 use Rattle.std.proofs.Common.{◌≡◌, ◌≢◌, refl, sym, ◌∙◌, ap, subst, ℕ, zero, suc, ◌+◌, ◌-◌, ◌*◌, ◌/◌, ◌<◌, ◌≤◌, ◌⊎◌, inl, inr, Bool, true, false, IsTrue, List, [], ◌∷◌, ◌++◌, map, length, get_or, arith}

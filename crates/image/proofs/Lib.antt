@@ -8,3 +8,4 @@ pub mod NameLemmas
 pub mod Testing
 pub mod Examples
 pub mod FaultExamples
+pub mod Emptiness

@@ -1,4 +1,5 @@
--- The names of a list of data addresses, of inodes, and where an address stands among names, one more at a time.
+-- A list's front that is one item longer names what it named, and the item's address where it has one: so a loop that
+-- goes item by item gathers the names in their order.
 use Rattle.std.proofs.Common.{◌≡◌, ◌≢◌, refl, sym, ◌∙◌, ap, subst, ℕ, zero, suc, ◌+◌, ◌<◌, inl, inr, Bool, true, false, not, ◌||◌, List, [], ◌∷◌, ◌++◌, length, take, get_or, add-one, arith}
 use Rattle.std.specs.Prelude.{filter, ◌==◌}
 use Rattle.std.specs.List.{flat_map}

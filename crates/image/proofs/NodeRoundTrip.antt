@@ -1,4 +1,5 @@
--- A node's fields are read back from its bytes.
+-- Each part of a node's block stands at a fixed place and has a fixed length, and a number is read back from its bytes:
+-- so each field is read as it was spelled.
 use Rattle.std.proofs.Common.{◌≡◌, refl, sym, ◌∙◌, ap, subst, ℕ, zero, suc, ◌+◌, ◌-◌, ◌*◌, ◌^◌, ◌<◌, inl, inr, true, List, [], ◌∷◌, ◌++◌, length, get_or, replicate, length-append, append_assoc, arith}
 use Rattle.std.proofs.lemmas.List.{length-replicate}
 use Rattle.std.specs.Prelude.{All}

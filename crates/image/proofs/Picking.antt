@@ -1,4 +1,5 @@
--- Which of two packs counts.
+-- A pack is sound where header and footer agree and stand in its own slot, and the newer sound one is picked: so of
+-- slots that are settled, or between two packs, one of the packs always is.
 use Rattle.std.proofs.Common.{◌≡◌, ◌⊎◌, inl, inr, ⊎_elim, ℕ, zero, suc, ◌+◌, ◌-◌, ◌<◌, ◌≤◌, List, Bool, true, false, Some, None, refl, sym, ◌∙◌, ap, subst, arith}
 use Rattle.std.specs.Prelude.{if◌then◌else◌, max}
 use Rattle.std.specs.Bool.{Decides}

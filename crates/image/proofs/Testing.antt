@@ -1,4 +1,5 @@
--- A test of an image that computes, and tells that the image is lawful.
+-- Each rule has a test that computes over the lists that it speaks of, and a test that passes tells the rule: so an
+-- image that passes all ten is lawful.
 use Rattle.std.proofs.Common.{◌≡◌, ◌≢◌, refl, sym, ◌∙◌, ap, subst, ℕ, zero, suc, ◌+◌, ◌-◌, ◌*◌, ◌<◌, ◌≤◌, ◌⊎◌, inl, inr, Bool, true, false, not, ◌&&◌, ◌||◌, IsTrue, List, [], ◌∷◌, ◌++◌, map, length, get_or, arith}
 use Rattle.std.specs.Prelude.{◌↔◌, Option, Some, None, IfSome, All, AllPairs, Contains, count_by, sum_by, ◌==◌, nat_lt, nat_le}
 use Rattle.std.specs.List.{list_all}
@@ -217,7 +218,7 @@ not_true : (b : Bool) → not b ≡ true → b ≡ false
 not_true true h = absurd cc
 not_true false h = refl
 
-apart_sound : (a b : Option Place) → apart_test a b ≡ true → AreApart a b
+pub apart_sound : (a b : Option Place) → apart_test a b ≡ true → AreApart a b
 apart_sound (Some p) (Some q) h = eqb-false p.segment q.segment (not_true _ h)
 apart_sound (Some p) None h = tt
 apart_sound None q h = tt

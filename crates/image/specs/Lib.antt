@@ -9,3 +9,4 @@ pub mod Pack
 pub mod Reading
 pub mod View
 pub mod Free
+pub mod Empty

@@ -3,8 +3,10 @@
 #![tactic(auto)]
 
 pub mod class;
+mod empty;
 pub mod free;
 pub mod image;
 pub mod lookup;
 
+pub use empty::empty_law;
 pub use image::{Image, Node, NodeEntry, Place, SegmentInfo};

@@ -1,10 +1,11 @@
--- The entries that slots show.
+-- A slot stands for one number, 16 times its place and the shard: so a number has an entry in its own slot alone, and a
+-- change of one slot changes what is shown by that entry.
 use Rattle.std.proofs.Common.{◌≡◌, ◌≢◌, ℕ, zero, suc, ◌+◌, ◌*◌, ◌%◌, ◌<◌, ◌≤◌, ◌==◌, List, [], ◌∷◌, Option, Some, None, Bool, true, false, length, get_or, set, replicate, if◌then◌else◌, refl, ap, ◌∙◌, eq-eqb, ne_eqb, arith}
 use Rattle.sums.specs.Weights.{weigh}
-use Rattle.books.specs.declared.claim.Entry.{Entry}
-use Rattle.books.specs.Lists.{times}
-use Rattle.books.specs.Sameness.{same_entry}
-use Rattle.books.proofs.Sameness.{entry_eq}
+use Rattle.rights_books.specs.declared.claim.Entry.{Entry}
+use Rattle.rights_books.specs.Lists.{times}
+use Rattle.rights_books.specs.Sameness.{same_entry}
+use Rattle.rights_books.proofs.Sameness.{entry_eq}
 use Rattle.nat.specs.Taken.{entries_of}
 use Rattle.nat.specs.Slots.{SlotView, entry_of, entries_from}
 

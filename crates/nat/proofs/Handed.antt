@@ -1,16 +1,17 @@
--- The ticket that comes out with a node's block, in the hand.
+-- A node's block has a ticket exactly where its entry has an address; so that ticket, or none, comes into the hand in
+-- front of the others.
 use Rattle.std.proofs.Common.{◌≡◌, ◌<◌, ◌==◌, Bool, true, false, List, ◌∷◌, Option, Some, None, if◌then◌else◌, refl, sym, ap, subst, arith}
 use Rattle.std.specs.Prelude.{MatchOption}
 use Rattle.geometry.specs.declared.owner.Mark.{Mark}
 use Rattle.geometry.specs.Mark.{same_mark}
 use Rattle.geometry.proofs.MarkTests.{mark_eq, mark_self}
-use Rattle.books.specs.declared.claim.Entry.{Entry}
-use Rattle.books.specs.Lists.{times}
-use Rattle.books.specs.Sameness.{same_entry}
-use Rattle.books.proofs.Sameness.{entry_eq, entry_self}
-use Rattle.books.specs.Rules.{with_lodged}
-use Rattle.books.specs.Weights.{mark_of}
-use Rattle.books.proofs.Lists.{times_head}
+use Rattle.rights_books.specs.declared.claim.Entry.{Entry}
+use Rattle.rights_books.specs.Lists.{times}
+use Rattle.rights_books.specs.Sameness.{same_entry}
+use Rattle.rights_books.proofs.Sameness.{entry_eq, entry_self}
+use Rattle.rights_books.specs.Rules.{with_lodged}
+use Rattle.rights_books.specs.Weights.{mark_of}
+use Rattle.rights_books.proofs.Lists.{times_head}
 use Rattle.tickets.specs.Placed.{Placed}
 use Rattle.nat.specs.Taken.{placed_of}
 

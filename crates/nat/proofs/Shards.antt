@@ -1,4 +1,5 @@
--- A shard's law, when a slot and its account change together.
+-- A slot and its entry in the account change together, so each number has as many entries as its slot holds, none or
+-- one, and all of them are at home in this shard.
 use Rattle.std.proofs.Common.{◌≡◌, ◌≢◌, ℕ, zero, suc, ◌+◌, ◌-◌, ◌==◌, Bool, true, false, ◌*◌, ◌/◌, ◌%◌, ◌<◌, ◌≤◌, List, [], ◌∷◌, Option, Some, None, length, get_or, set, replicate, if◌then◌else◌, refl, sym, ap, ◌∙◌, subst, ⊎_elim, arith}
 use Rattle.std.specs.Prelude.{is_some, MatchOption}
 use Rattle.std.proofs.lemmas.Bool.{cases_lt}
@@ -6,16 +7,16 @@ use Rattle.std.proofs.lemmas.List.{length-set, length-replicate, get_or_past, ge
 use mathlib.Core.Logic.{dite}
 use native.Mathlib.Decide.{ℕ_discrete}
 use Rattle.sums.specs.Weights.{weigh}
-use Rattle.books.specs.declared.claim.Entry.{Entry}
-use Rattle.books.specs.Accounts.{ShardView}
-use Rattle.books.specs.Lists.{times, without}
-use Rattle.books.specs.Rules.{lodged_of, moved_to}
-use Rattle.books.specs.Weights.{mark_of}
+use Rattle.rights_books.specs.declared.claim.Entry.{Entry}
+use Rattle.rights_books.specs.Accounts.{ShardView}
+use Rattle.rights_books.specs.Lists.{times, without}
+use Rattle.rights_books.specs.Rules.{lodged_of, moved_to}
+use Rattle.rights_books.specs.Weights.{mark_of}
 use Rattle.geometry.specs.declared.owner.Mark.{Mark}
-use Rattle.books.proofs.Lists.{is_self}
-use Rattle.books.proofs.Sameness.{entry_eq, entry_self}
-use Rattle.books.specs.Sameness.{same_entry}
-use Rattle.books.proofs.Steps.{without_entry}
+use Rattle.rights_books.proofs.Lists.{is_self}
+use Rattle.rights_books.proofs.Sameness.{entry_eq, entry_self}
+use Rattle.rights_books.specs.Sameness.{same_entry}
+use Rattle.rights_books.proofs.Steps.{without_entry}
 use Rattle.nat.specs.Taken.{IsFree, IsTaken, IsLocated, entries_of, placed_of}
 use Rattle.nat.specs.Slots.{SlotView, entry_of, entries_from, placed_in}
 use Rattle.nat.specs.Shard.{ShardNodes, IsShard, HasOwnNodes}

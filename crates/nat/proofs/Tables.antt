@@ -1,4 +1,5 @@
--- A table's law, when one of its shards changes.
+-- Each number is at home in one shard, the one of its remainder by 16: so what one shard takes or gives the table does,
+-- and the numbers of the others stay as they were.
 use Rattle.std.proofs.Common.{◌≡◌, ◌≢◌, ℕ, zero, suc, ◌+◌, ◌%◌, ◌<◌, ◌≤◌, ◌==◌, List, [], ◌∷◌, ◌++◌, Option, Some, None, length, slice_get, get_or, set, if◌then◌else◌, ⊎_elim, length-append, refl, sym, ap, ◌∙◌, subst, arith}
 use Rattle.std.specs.Prelude.{MatchOption}
 use Rattle.std.proofs.lemmas.List.{length-set, set-get_or}
@@ -8,12 +9,12 @@ use native.Mathlib.Decide.{ℕ_discrete}
 use Rattle.atomic_table.specs.Seated.{TableId}
 use Rattle.sums.specs.Weights.{weigh, SameItems}
 use Rattle.sums.proofs.Weighing.{weigh-append}
-use Rattle.books.specs.declared.claim.Entry.{Entry}
-use Rattle.books.specs.Lists.{times, without}
-use Rattle.books.specs.Sameness.{same_entry}
-use Rattle.books.proofs.Steps.{without_entry}
-use Rattle.books.proofs.Dealing.{slice_get_push}
-use Rattle.books.specs.Accounts.{ShardView}
+use Rattle.rights_books.specs.declared.claim.Entry.{Entry}
+use Rattle.rights_books.specs.Lists.{times, without}
+use Rattle.rights_books.specs.Sameness.{same_entry}
+use Rattle.rights_books.proofs.Steps.{without_entry}
+use Rattle.rights_books.proofs.Dealing.{slice_get_push}
+use Rattle.rights_books.specs.Accounts.{ShardView}
 use Rattle.nat.specs.Taken.{AreNodes, IsFree, IsTaken, IsLocated, entries_of}
 use Rattle.nat.specs.Shard.{ShardNodes, HasOwnNodes}
 use Rattle.nat.specs.Table.{TableNodes, all_taken, IsShardAt, IsTable}

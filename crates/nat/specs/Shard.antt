@@ -2,8 +2,8 @@
 use Rattle.std.specs.Prelude.{◌≡◌, ℕ, ◌<◌, ◌≤◌, ◌+◌, ◌*◌, ◌%◌, List, length, Option, None, slice_index_or}
 use Rattle.atomic_table.specs.Seated.{TableId}
 use Rattle.sums.specs.Weights.{SameItems}
-use Rattle.books.specs.declared.claim.Entry.{Entry}
-use Rattle.books.specs.Accounts.{ShardView}
+use Rattle.rights_books.specs.declared.claim.Entry.{Entry}
+use Rattle.rights_books.specs.Accounts.{ShardView}
 use Rattle.nat.specs.Taken.{AreNodes, entries_of}
 use Rattle.nat.specs.Slots.{SlotView, entries_from}
 

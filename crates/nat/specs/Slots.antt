@@ -1,6 +1,6 @@
 -- A shard that is held as slots: slot j of shard k is that of the node number 16 j + k.
 use Rattle.std.specs.Prelude.{ℕ, suc, ◌+◌, ◌*◌, List, [], ◌∷◌, Option, Some, None}
-use Rattle.books.specs.declared.claim.Entry.{Entry}
+use Rattle.rights_books.specs.declared.claim.Entry.{Entry}
 use Rattle.geometry.specs.declared.owner.Mark.{Mark}
 use Rattle.tickets.specs.Placed.{Placed}
 

@@ -1,7 +1,7 @@
 -- The node address table of a volume: its 16 shards (Linux filesystems/f2fs, node address table).
 use Rattle.std.specs.Prelude.{◌≡◌, ℕ, ◌≤◌, List, [], ◌∷◌, ◌++◌, length, slice_get, Some}
 use Rattle.atomic_table.specs.Seated.{TableId}
-use Rattle.books.specs.declared.claim.Entry.{Entry}
+use Rattle.rights_books.specs.declared.claim.Entry.{Entry}
 use Rattle.nat.specs.Shard.{ShardNodes, HasOwnNodes}
 
 -- a table: the books that it is of, how many files there may be, the largest node number, and the entries of the taken numbers

@@ -1,10 +1,10 @@
 -- Which node numbers are taken (Linux filesystems/f2fs, node address table).
 use Rattle.std.specs.Prelude.{◌≡◌, ℕ, ◌==◌, ◌<◌, ◌≤◌, List, Option, Some, None, if◌then◌else◌}
 use Rattle.sums.specs.Weights.{weigh}
-use Rattle.books.specs.declared.claim.Entry.{Entry}
-use Rattle.books.specs.Lists.{times}
-use Rattle.books.specs.Sameness.{same_entry}
-use Rattle.books.specs.Weights.{mark_of}
+use Rattle.rights_books.specs.declared.claim.Entry.{Entry}
+use Rattle.rights_books.specs.Lists.{times}
+use Rattle.rights_books.specs.Sameness.{same_entry}
+use Rattle.rights_books.specs.Weights.{mark_of}
 use Rattle.tickets.specs.Placed.{Placed}
 
 -- how many entries are of a number

@@ -3,19 +3,19 @@ ghost use Rattle.std.specs.Prelude.{◌≡◌, ℕ, ◌<◌, ◌≤◌, ◌%◌,
 ghost use Rattle.geometry.specs.declared.error.Error.TheVariants.{NoMemory};
 ghost use Rattle.geometry.specs.declared.owner.Owner.TheVariants as owner;
 ghost use Rattle.geometry.specs.Mark.{same_mark};
-ghost use Rattle.books.specs.Lists.{times, without};
-ghost use Rattle.books.specs.Sameness.{same_entry};
-ghost use Rattle.books.specs.Rules.{bare_entry, moved_to, with_lodged};
+ghost use Rattle.rights_books.specs.Lists.{times, without};
+ghost use Rattle.rights_books.specs.Sameness.{same_entry};
+ghost use Rattle.rights_books.specs.Rules.{bare_entry, moved_to, with_lodged};
 ghost use Rattle.sums.specs.Weights.{weigh};
-ghost use Rattle.books.specs.Weights.{shard_copy, past};
-ghost use Rattle.books.specs.declared.claim.Copied.TheVariants.{ShardCopy};
+ghost use Rattle.rights_books.specs.Weights.{shard_copy, past};
+ghost use Rattle.rights_books.specs.declared.claim.Copied.TheVariants.{ShardCopy};
 ghost use Rattle.nat.specs.Taken.{IsFree, IsTaken, IsLocated, placed_of};
 ghost use Rattle.nat.specs.Shard.{HasOwnNodes};
 
 use crate::slot::Slot;
-use books::{Audit, Books, Permit, ShardAccount};
 use device::{Block, DeviceError};
 use geometry::Error;
+use rights_books::{Audit, Books, Permit, ShardAccount};
 use std::alloc::Global;
 use std::marker::Model;
 use tickets::{NidToken, Ticket, give_block};

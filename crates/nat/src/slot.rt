@@ -2,8 +2,8 @@
 ghost use Rattle.std.specs.Prelude.{◌≡◌, ◌<◌, [], length, MatchOption, OnOk};
 ghost use Rattle.nat.specs.Slots.{address_in, bytes_in, placed_in};
 
-use books::Ticket as Claimed;
 use device::{Block, DeviceError};
+use rights_books::Ticket as Claimed;
 use std::marker::Model;
 use tickets::Ticket;
 

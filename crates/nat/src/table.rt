@@ -4,16 +4,16 @@ ghost use Rattle.geometry.specs.declared.error.Error.TheVariants.{NoMemory, NoFi
 ghost use Rattle.geometry.specs.declared.owner.Owner.TheVariants as owner;
 ghost use Rattle.geometry.specs.Mark.{same_mark};
 ghost use Rattle.sums.specs.Weights.{SameItems};
-ghost use Rattle.books.specs.Accounts.{AreEmptyShards};
-ghost use Rattle.books.specs.Lists.{times, without};
-ghost use Rattle.books.specs.Sameness.{same_entry};
-ghost use Rattle.books.specs.Rules.{bare_entry, moved_to, with_lodged};
+ghost use Rattle.rights_books.specs.Accounts.{AreEmptyShards};
+ghost use Rattle.rights_books.specs.Lists.{times, without};
+ghost use Rattle.rights_books.specs.Sameness.{same_entry};
+ghost use Rattle.rights_books.specs.Rules.{bare_entry, moved_to, with_lodged};
 ghost use Rattle.nat.specs.Taken.{AreNodes, IsFree, IsTaken, AllTaken, IsLowestFree, IsLocated, placed_of};
 
 use crate::shard::{SHARDS, Shard};
-use books::{Books, Permit, ShardAccount};
 use device::Block;
 use geometry::Error;
+use rights_books::{Books, Permit, ShardAccount};
 use std::alloc::Global;
 use std::marker::Model;
 use std::snapshot::Snapshot;

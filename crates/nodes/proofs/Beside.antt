@@ -1,12 +1,13 @@
--- What the books have of a file's tokens and of those of spare nodes, through the calls on them.
+-- The hand has the tokens of the file, of the spare nodes and of others: a spare that is made, planted or given back
+-- moves between these sums, and the whole follows the hand.
 use Rattle.std.proofs.Common.{◌≡◌, ℕ, ◌+◌, ◌<◌, ◌≤◌, List, ◌∷◌, if◌then◌else◌, ap, arith}
 use Rattle.sums.specs.Weights.{weigh}
 use Rattle.geometry.specs.declared.owner.Mark.{Mark}
-use Rattle.books.specs.declared.claim.Entry.{Entry}
-use Rattle.books.specs.Lists.{times, without}
-use Rattle.books.specs.Sameness.{same_entry}
-use Rattle.books.proofs.Sameness.{entry_self}
-use Rattle.books.proofs.Steps.{without_entry}
+use Rattle.rights_books.specs.declared.claim.Entry.{Entry}
+use Rattle.rights_books.specs.Lists.{times, without}
+use Rattle.rights_books.specs.Sameness.{same_entry}
+use Rattle.rights_books.proofs.Sameness.{entry_self}
+use Rattle.rights_books.proofs.Steps.{without_entry}
 use Rattle.tree.specs.Change.{TreeNode, nothing}
 use Rattle.nodes.specs.declared.file.FileState.{FileState}
 use Rattle.nodes.specs.declared.spare.SparePath.{SparePath}

@@ -1,4 +1,5 @@
--- The file of a state: it is the one that the state shows.
+-- A file's blocks are gathered index by index below its length, so each index shows its ticket's content: the state
+-- shows this file, and any that it shows is the same.
 use Rattle.std.proofs.Common.{◌≡◌, ◌≢◌, ℕ, zero, suc, ◌<◌, ◌≤◌, Option, Some, None, inl, inr, refl, sym, ap, ◌∙◌, arith}
 use Rattle.std.proofs.lemmas.Bool.{cases_eq, cases_lt}
 use Rattle.std.specs.Ordering.{nat_cmp}

@@ -1,4 +1,5 @@
--- A change in one of the four ranges of an inode is a change of the whole map.
+-- Four maps joined are three joins, so a change of one range is taken through one join after another, each of which
+-- moves the index by its width.
 use Rattle.std.proofs.Common.{◌≡◌, ℕ, ◌-◌, ◌<◌, ◌≤◌, Option, None}
 use Rattle.tickets.specs.Placed.{Placed}
 use Rattle.tree.specs.declared.spare.Spare.{Spare}

@@ -1,14 +1,15 @@
--- A file's tickets and tokens, and what the books have of them, through the calls of a file.
+-- A call's change adds to the file's weight what comes in and takes away what goes out; the hand beside it does the
+-- same, so what went out of the file is in hand and can be spent.
 use Rattle.std.proofs.Common.{◌≡◌, ℕ, ◌+◌, ◌<◌, List, [], ◌∷◌, Some, None, if◌then◌else◌, refl, ap, arith}
 use Rattle.sums.specs.Weights.{weigh}
 use Rattle.geometry.specs.declared.owner.Mark.{Mark}
 use Rattle.geometry.specs.Mark.{same_mark}
 use Rattle.geometry.proofs.MarkTests.{mark_self}
-use Rattle.books.specs.declared.claim.Entry.{Entry}
-use Rattle.books.specs.Lists.{times, without}
-use Rattle.books.specs.Sameness.{same_entry}
-use Rattle.books.proofs.Sameness.{entry_self}
-use Rattle.books.proofs.Steps.{without_mark, without_entry}
+use Rattle.rights_books.specs.declared.claim.Entry.{Entry}
+use Rattle.rights_books.specs.Lists.{times, without}
+use Rattle.rights_books.specs.Sameness.{same_entry}
+use Rattle.rights_books.proofs.Sameness.{entry_self}
+use Rattle.rights_books.proofs.Steps.{without_mark, without_entry}
 use Rattle.tickets.specs.Placed.{Placed}
 use Rattle.tree.specs.declared.spare.Spare.TheVariants.{Ticket, Token}
 use Rattle.tree.specs.Change.{TreeNode, Weighing, WeighsAs, nothing, ticket_weight, of_tickets, of_tokens}

@@ -1,4 +1,5 @@
--- Changes of two maps that are joined.
+-- An index below the width is the first map's and any other the second's, less the width: so a change of one part at an
+-- index is a change of the whole at just one.
 use Rattle.std.proofs.Common.{◌≡◌, ℕ, ◌+◌, ◌-◌, ◌<◌, ◌≤◌, Option, Some, None, arith, ap, sym, ◌∙◌, nat_lt, cond, inl, inr}
 use borrow.Author.Tests.{lt-ltb, le-ltb}
 use Rattle.std.proofs.lemmas.Bool.{cases_lt, cases_eq}

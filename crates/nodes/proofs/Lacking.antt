@@ -1,4 +1,5 @@
--- The nodes that the way to an index lacks.
+-- An index falls to one of four ranges, and its way lacks or misses nodes as that range's does: so where all that is
+-- missing is spare, the spare at the end has a number, which may be named.
 use Rattle.std.proofs.Common.{◌≡◌, ℕ, ◌+◌, ◌-◌, ◌*◌, ◌/◌, ◌%◌, ◌^◌, ◌<◌, ◌≤◌, Option, None, true, false, refl, arith, sym, subst, ◌∙◌, inl, inr, lit<}
 use Rattle.std.proofs.lemmas.Bool.{cases_lt}
 use Rattle.std.proofs.lemmas.Nat.{mod_below}
@@ -9,8 +10,8 @@ use Rattle.tree.specs.declared.branch.Branch.{Branch}
 use Rattle.tree.specs.Tree.{missing_in, number_of, entry_at}
 use Rattle.tree.specs.Laws.{no_leaf}
 use Rattle.tree.specs.Change.{unnumbered}
-use Rattle.spares.specs.Spares.{lacking_in, token_weight}
-use Rattle.spares.specs.Laws.{no_node, some_missing, end_has_number}
+use Rattle.tree.specs.Spares.{lacking_in, token_weight}
+use Rattle.tree.specs.SpareLaws.{no_node, some_missing, end_has_number}
 use Rattle.nodes.specs.declared.file.FileState.{FileState}
 use Rattle.nodes.specs.declared.spare.SparePath.{SparePath}
 use Rattle.nodes.specs.File.{joined, missing_to, missing_direct, missing_indirect, missing_double}

@@ -1,4 +1,5 @@
--- Who names an index, through a change of one range of the inode; and that it is the owner of the definitions.
+-- The node that names an index is found as its ticket is, range by range: so a change in one range keeps the namers of
+-- the others, and the namer found is the owner of the definitions.
 use Rattle.std.proofs.Common.{◌≡◌, ℕ, ◌+◌, ◌-◌, ◌*◌, ◌/◌, ◌%◌, ◌<◌, Option, Some, None, refl, arith, ap, sym, subst, ◌∙◌, inl, inr}
 use Rattle.std.proofs.lemmas.Bool.{cases_lt}
 use Rattle.std.proofs.Math.Nat.{div-eq_of_lt, mod-eq_of_lt}
@@ -8,7 +9,7 @@ use Rattle.tickets.specs.Placed.{Placed}
 use Rattle.tree.specs.declared.branch.Branch.{Branch}
 use Rattle.tree.specs.declared.entries.Entries.{Entries}
 use Rattle.tree.specs.Tree.{Same, KeepsNamers, entry_at, find_in}
-use Rattle.spares.specs.Spares.{KeepsNames}
+use Rattle.tree.specs.Spares.{KeepsNames}
 use Rattle.nodes.specs.declared.file.FileState.{FileState}
 use Rattle.nodes.specs.File.{joined, below, ticket_at, in_tickets, in_direct, in_indirect, in_double, find_direct, find_indirect, find_double}
 use Rattle.nodes.specs.Lacking.{last_entry}

@@ -1,4 +1,5 @@
--- Where each node has a number, each of them may name a block.
+-- No node of a file lacks a number, so none on a path does; and slots are fewer than a summary can tell: so each owner
+-- that is found at the end of a path is a valid one.
 use Rattle.std.proofs.Common.{◌≡◌, ℕ, zero, suc, ◌+◌, ◌-◌, ◌*◌, ◌/◌, ◌%◌, ◌^◌, ◌<◌, ◌==◌, List, Option, Some, None, if◌then◌else◌, length, refl, arith, sym, subst, ap, ◌∙◌, inl, inr, lit<}
 use Rattle.std.specs.Prelude.{MatchOption}
 use Rattle.std.proofs.lemmas.Bool.{cases_lt}

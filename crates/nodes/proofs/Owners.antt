@@ -1,4 +1,5 @@
--- Where no node is missing on the way to an index, its last node names the block there.
+-- A node that is missing on the way is counted, so where none is each step of the path finds its node: the last one is
+-- there, and names the block.
 use Rattle.std.proofs.Common.{◌≡◌, ℕ, ◌+◌, ◌-◌, ◌*◌, ◌/◌, ◌%◌, ◌<◌, Option, Some, None, refl, arith, ap, sym, ◌∙◌, inl, inr, subst}
 use Rattle.std.specs.Prelude.{IsSome}
 use Rattle.std.proofs.lemmas.Bool.{cases_lt}

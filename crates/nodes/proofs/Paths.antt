@@ -1,4 +1,5 @@
--- The ticket at an index is what stands at the end of its path.
+-- An index less what lies before its range, written in digits by the entries of a node, is its path: each step down
+-- takes off one digit, so both lead to the same ticket.
 use Rattle.std.proofs.Common.{◌≡◌, ℕ, ◌+◌, ◌-◌, ◌*◌, ◌/◌, ◌%◌, ◌<◌, ◌≤◌, Option, Some, None, refl, arith, ap, sym, ◌∙◌, inl, inr, nat_lt, if◌then◌else◌}
 use borrow.Author.Tests.{lt-ltb, le-ltb}
 use Rattle.std.proofs.lemmas.Bool.{cases_lt}

@@ -1,4 +1,5 @@
--- What a file has at an index is what the range of its place has there; and a change of one range is a change of the file.
+-- An index falls to exactly one range, and the others keep what they have: so a change of the entries of one range at
+-- an index is a change of the file at that index alone.
 use Rattle.std.proofs.Common.{◌≡◌, ◌≢◌, ℕ, ◌+◌, ◌-◌, ◌*◌, ◌^◌, ◌<◌, ◌≤◌, Bool, Option, Some, None, Ok, Err, refl, ap, sym, subst, ◌∙◌, arith, lit<}
 use Rattle.std.specs.Prelude.{IfOk, OnErr}
 use Rattle.std.specs.declared.result.Result.{Result}
@@ -10,7 +11,7 @@ use Rattle.tree.specs.declared.entries.Entries.{Entries}
 use Rattle.tree.specs.declared.spare.Spare.{Spare}
 use Rattle.tree.specs.Tree.{SetsAt, Same, SparesIndex, SparesPast, HandsOut, SwapsOne, KeepsNamers, UsefulIn, ShapedIn, EmptyFrom, find_in, missing_in, only_at_zero}
 use Rattle.tree.specs.Change.{Weighing, WeighsAs, ticket_weight, ChangesEntries, nothing}
-use Rattle.spares.specs.Spares.{KeepsNames, lacking_in}
+use Rattle.tree.specs.Spares.{KeepsNames, lacking_in}
 use Rattle.nodes.specs.declared.file.FileState.{FileState}
 use Rattle.nodes.specs.declared.spare.SparePath.{SparePath}
 use Rattle.nodes.specs.declared.place.Spot.{Spot}

@@ -1,4 +1,5 @@
--- A change of the entries of one range of the inode, as a change of the file.
+-- An inode names its own entries and five places, and one range of them changes: what the range weighs more or less the
+-- file does, and the inode is marked where a number in it changed.
 use Rattle.std.proofs.Common.{◌≡◌, ℕ, ◌||◌, ◌++◌, Bool, true, false, map, refl, ap, ◌∙◌, arith}
 use Rattle.geometry.specs.Path.{inode_entries, node_entries}
 use Rattle.tickets.specs.Placed.{Placed}

@@ -1,4 +1,5 @@
--- What a change of one index makes of the file that a state shows.
+-- A state shows a file by what its tickets hold, index by index: so a ticket that is put writes its block, empty
+-- entries past a length cut the file, and a swap for the same bytes shows nothing.
 use Rattle.std.proofs.Common.{◌≡◌, ◌≢◌, ℕ, ◌+◌, max, min, Some, None, cond, nat_lt, sym, ap, ◌∙◌, eq-eqb, ne_eqb, inl, inr, subst, Ok, Err, arith}
 use borrow.Author.Tests.{lt-ltb, le-ltb}
 use Rattle.std.proofs.lemmas.Bool.{cases_eq, cases_lt}

@@ -1,4 +1,5 @@
--- Which nodes of a file name something, from what is known of others.
+-- The nodes on the way to a ticket name something: so where every node off the way to an index does, and a ticket
+-- stands at the index, each node does; a question split in two is both answers.
 use Rattle.std.proofs.Common.{Bool, true, false, ◌≡◌, ℕ, ◌+◌, ◌-◌, ◌*◌, ◌<◌, ◌≤◌, ◌⊎◌, Option, Some, refl, sym, ◌∙◌, inl, inr, lit<, arith}
 use borrow.Author.Tests.{lt-ltb, le-ltb}
 use Rattle.std.proofs.lemmas.Bool.{cases_lt}

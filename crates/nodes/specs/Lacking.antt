@@ -1,14 +1,14 @@
 -- The nodes that are made beside a file for the way to an index, and what is still to be made.
 use Rattle.std.specs.Prelude.{ℕ, ◌+◌, ◌*◌, Option, Some, None}
-use Rattle.books.specs.declared.claim.Entry.{Entry}
+use Rattle.rights_books.specs.declared.claim.Entry.{Entry}
 use Rattle.geometry.specs.Path.{inode_entries, node_entries}
 use Rattle.geometry.specs.declared.path.Path.{Path}
 use Rattle.geometry.specs.declared.path.Path.TheVariants.{Inode, Direct, Indirect, Double}
 use Rattle.tickets.specs.Placed.{Placed}
 use Rattle.tree.specs.declared.branch.Branch.{Branch}
 use Rattle.tree.specs.Tree.{number_of}
-use Rattle.spares.specs.declared.planting.SpareNodes.{SpareNodes}
-use Rattle.spares.specs.Spares.{lacking_in, lacking_below, token_weight, IsEmptyNode}
+use Rattle.tree.specs.declared.planting.SpareNodes.{SpareNodes}
+use Rattle.tree.specs.Spares.{lacking_in, lacking_below, token_weight, IsEmptyNode}
 use Rattle.nodes.specs.declared.file.FileState.{FileState}
 use Rattle.nodes.specs.declared.spare.SparePath.{SparePath}
 use Rattle.nodes.specs.File.{joined}

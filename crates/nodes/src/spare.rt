@@ -1,11 +1,10 @@
 //! The nodes that the way to an index lacks, made beside a file.
 ghost use Rattle.std.specs.Prelude.{◌≡◌, ℕ, ◌+◌, MatchOption, None};
-ghost use Rattle.books.specs.declared.claim.Entry.{Entry};
+ghost use Rattle.rights_books.specs.declared.claim.Entry.{Entry};
 
 use device::Block;
-use spares::SpareNodes;
 use tickets::{NidToken, Ticket};
-use tree::Branch;
+use tree::{Branch, SpareNodes};
 
 /// Nodes for the way to one index of a file, each with its token: what a write needs is made before it is begun, so that a
 /// refused one leaves the file as it was.

@@ -1,7 +1,7 @@
 -- What a loop keeps that makes spare nodes or gives them back.
 use Rattle.std.proofs.Common.{◌≡◌}
 use Rattle.atomic_table.specs.Seated.{TableId}
-use Rattle.books.specs.Accounts.{HandView, ShardView}
+use Rattle.rights_books.specs.Accounts.{HandView, ShardView}
 use Rattle.geometry.specs.Path.{node_entries}
 use Rattle.nodes.specs.declared.file.FileState.{FileState}
 use Rattle.nodes.specs.declared.spare.SparePath.{SparePath}

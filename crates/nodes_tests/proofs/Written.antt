@@ -1,6 +1,6 @@
 -- The ticket that a write puts out of the file is in hand.
 use Rattle.std.proofs.Common.{◌≡◌, ℕ, Some, ◌∷◌, subst}
-use Rattle.books.specs.Accounts.{HandView}
+use Rattle.rights_books.specs.Accounts.{HandView}
 use Rattle.geometry.specs.declared.owner.Mark.{Mark}
 use Rattle.tickets.specs.Placed.{Placed}
 use Rattle.tree.specs.Change.{ticket_weight}

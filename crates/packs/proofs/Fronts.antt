@@ -3,10 +3,10 @@ use Rattle.std.proofs.Common.{◌≡◌, ℕ, ◌≤◌, List, length, take, sym
 use Rattle.device.specs.Disk.{Torn, Follows, Elapses, IsQuiet, LeavesOnly, Leaves}
 use Rattle.device.proofs.Moments.{torn_leaves, torn_moments, quiet_moments}
 use Rattle.packs.specs.Device.{IsSameArea, KeepsArea}
-use Rattle.packs.proofs.Slots.{torn_area, area_joined}
+use Rattle.packs.proofs.Keeping.{torn_area, area_joined}
 
 pub same_area : (area c : List ℕ) → c ≡ area → IsSameArea area c
-same_area area c is = record { long = ap length is; front = ap (λ (l : List ℕ). take 64 l) is }
+same_area area c is = record { long = ap length is; front = ap (λ (l : List ℕ). take 32 l) is }
 
 -- what is settled is one area
 pub kept_alone : (P : List ℕ → Type 0) (area c : List ℕ) → c ≡ area → P c → KeepsArea area P c
@@ -15,7 +15,7 @@ kept_alone P area c is has = record { packs = has; same = same_area area c is }
 pub kept_weaker : (P Q : List ℕ → Type 0) (area c : List ℕ) → (P c → Q c) → KeepsArea area P c → KeepsArea area Q c
 kept_weaker P Q area c from kept = record { packs = from kept.packs; same = kept.same }
 
-pub kept_torn : (P Q : List ℕ → Type 0) (area c d : List ℕ) (at n : ℕ) → 64 ≤ at → (P c → Torn at n c d → Q d) → KeepsArea area P c → Torn at n c d → KeepsArea area Q d
+pub kept_torn : (P Q : List ℕ → Type 0) (area c d : List ℕ) (at n : ℕ) → 32 ≤ at → (P c → Torn at n c d → Q d) → KeepsArea area P c → Torn at n c d → KeepsArea area Q d
 kept_torn P Q area c d at n behind step kept torn = record { packs = step kept.packs torn; same = area_joined area c d kept.same (torn_area at n c d behind torn) }
 
 -- of an area that is the same as another
@@ -23,7 +23,7 @@ pub kept_from : (P : List ℕ → Type 0) (area mid c : List ℕ) → IsSameArea
 kept_from P area mid c same kept = record { packs = kept.packs; same = area_joined area mid c same kept.same }
 
 -- what is the same area still after a write behind the superblock and a call that changes no byte
-pub written_same : (area c d e : List ℕ) (at n : ℕ) → IsSameArea area c → 64 ≤ at → Torn at n c d → e ≡ d → IsSameArea area e
+pub written_same : (area c d e : List ℕ) (at n : ℕ) → IsSameArea area c → 32 ≤ at → Torn at n c d → e ≡ d → IsSameArea area e
 written_same area c d e at n same behind torn is = subst (IsSameArea area) (sym is) (area_joined area c d same (torn_area at n c d behind torn))
 
 -- a write and a sync behind it, and what they make of each outcome

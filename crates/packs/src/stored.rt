@@ -15,14 +15,14 @@ use device::log::Log;
 #[derive(Drop)]
 pub struct Stored<M: Meta> {
     shown: Log<Packs<M>, u32>,
-    ghost settled: { All (λ entry. AreSettled (reading_of entry.0.len) M.seen M.may_leave entry.0
-        (body_of (reading_of entry.0.len) M.seen entry.0)) shown.items },
+    ghost settled: { All (λ entry. AreSettled (reading_of entry.0.geometry) M.seen M.may_leave entry.0
+        (body_of (reading_of entry.0.geometry) M.seen entry.0)) shown.items },
 }
 
 impl<M: Meta> Stored<M> {
     pub(crate) fn of(packs: &Packs<M>) -> Stored<M>
-        requires { AreSettled (reading_of packs.now.len) M.seen M.may_leave packs.now
-            (body_of (reading_of packs.now.len) M.seen packs.now) }
+        requires { AreSettled (reading_of packs.now.geometry) M.seen M.may_leave packs.now
+            (body_of (reading_of packs.now.geometry) M.seen packs.now) }
         ensures { result.shown.items ≡ (packs.now, packs.now.version) ∷ [] }
     {
         let shown = Log::new().and(packs, &packs.version);

@@ -1,4 +1,5 @@
--- Passes that are put together one by one.
+-- Each pass that is joined brings its parts and its lists along: so what all joined ones and the rest list together
+-- stays the same, until none is left.
 use Rattle.std.proofs.Common.{◌≡◌, ℕ, ◌+◌, List, [], ◌∷◌, ◌++◌, ap, ◌∙◌, arith}
 use Rattle.sums.specs.Weights.{weigh}
 use Rattle.sums.proofs.Weighing.{weigh-append}

@@ -1,4 +1,5 @@
--- Each step keeps the law.
+-- What a port puts or takes, its tally counts and the queue shows, and parts are only split and joined: so all tallies
+-- together say what the queue holds, by every weight.
 use Rattle.std.proofs.Common.{◌≡◌, ℕ, zero, suc, ◌+◌, ◌-◌, ◌<◌, ◌≤◌, List, [], ◌∷◌, ◌++◌, set, sym, refl, ap, arith}
 use mathlib.Core.Option.{some, some-injective, some-ne-none}
 use lib.ListN.{get_elem?}

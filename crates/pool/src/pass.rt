@@ -2,7 +2,7 @@
 ghost use Rattle.std.specs.Prelude.{◌≡◌, ◌<◌};
 
 use crate::law::QueuePass;
-use names::{PoolName, WordsName};
+use rights_names::{PoolName, WordsName};
 use std::marker::{Model, PhantomData};
 
 /// Lists what was put into each queue through it and taken, `{ ordinary; reserve }` to contracts, each with its parts of

@@ -2,7 +2,7 @@
 ghost use Rattle.std.specs.Prelude.{◌≡◌};
 ghost use Rattle.words.specs.Tokens.{fresh_slip};
 
-use names::WordsName;
+use rights_names::WordsName;
 use std::marker::{Model, PhantomData};
 use words::FreeSlip;
 

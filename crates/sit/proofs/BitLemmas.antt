@@ -1,6 +1,8 @@
--- Bits in words: what setting, clearing and looking for one does to the list.
-use Rattle.std.proofs.Common.{◌≡◌, ◌≢◌, ℕ, zero, suc, ◌+◌, ◌-◌, ◌*◌, ◌/◌, ◌%◌, ◌^◌, ◌<◌, ◌≤◌, List, length, get_or, set, replicate, Bool, true, false, Some, None, refl, sym, ap, ◌∙◌, ⊎_elim, arith}
-use Rattle.std.specs.Prelude.{◌==◌}
+-- A bit's place is a word and a place in it, quotient and remainder by 64: so turning one bit of one word changes one
+-- item of the list, and the first one is in the first word that has any.
+use Rattle.std.proofs.Common.{◌≡◌, ◌≢◌, ℕ, zero, suc, ◌+◌, ◌-◌, ◌*◌, ◌/◌, ◌%◌, ◌^◌, ◌<◌, ◌≤◌, min, max, List, [], ◌∷◌, length, get_or, set, replicate, Bool, true, false, Option, Some, None, refl, sym, ap, ◌∙◌, ⊎_elim, arith}
+use Rattle.std.specs.Prelude.{◌==◌, is_some, nat_lt, if◌then◌else◌}
+use Rattle.std.proofs.lemmas.Bool.{lt-ltb, le-ltb}
 use Rattle.std.specs.Int.{bit_at, w64, bit_not, trailing_zeros}
 use Rattle.std.specs.Int.RustNames.{bit_or}
 use lib.Bits.{bit_and}
@@ -9,9 +11,10 @@ use native.Mathlib.Decide.{ℕ_discrete}
 use Rattle.std.proofs.lemmas.List.{get_or_read_under, get_or-set_same, get_or-set_other, get_or_past, length-set, same_lists, length-replicate}
 use Rattle.std.proofs.lemmas.Bool.{cases_lt}
 use Rattle.std.proofs.lemmas.List.FromFn.{length-map-range_with_len, get_or-map-range_with_len}
-use Rattle.std.proofs.lemmas.Nat.Bits.{bit_at-zero, bit_at_set_same, bit_at_set_other, bit_at_clear_same, bit_at_clear_other, bit_at-trailing_zeros, bit_at_above}
-use Rattle.std.proofs.lemmas.Nat.{shr-shr, shr_le}
-use Rattle.sit.specs.Bits.{is_bit, bits_of, IsBits, IsFirstBit, IsFirstTrue}
+use Rattle.std.proofs.lemmas.Nat.Bits.{bit_at-zero, bit_at_set_same, bit_at_set_other, bit_at_clear_same, bit_at_clear_other, bit_at-trailing_zeros, bit_at_above, bit_at_and, bit_at_or, bit_at_not, bit_at-lt, bit_at_ones, bit_at_ones_above}
+use Rattle.std.proofs.lemmas.Nat.{shr-shr, shr_le, or_lt}
+use Rattle.std.proofs.Math.Pow.{pow-lt}
+use Rattle.sit.specs.Bits.{is_bit, bits_of, IsBits, IsFirstBit, IsFirstTrue, AreFirstBits, AreClearBits, neither, neither_of, has_true}
 
 -- a word whose bit at p becomes b
 abbrev pub TurnsBit : ℕ → ℕ → ℕ → ℕ → Type 0
@@ -78,7 +81,7 @@ clear-IsBits n len few enough tight = record {
   past = λ q le. zero_bit n q;
 }
 
-get_or-false : (n i : ℕ) (d : Bool) → i < n → get_or (replicate n false) i d ≡ false
+pub get_or-false : (n i : ℕ) (d : Bool) → i < n → get_or (replicate n false) i d ≡ false
 get_or-false zero i d within = absurd (omega arith)
 get_or-false (suc n) zero d within = refl
 get_or-false (suc n) (suc i) d within = get_or-false n i d (omega arith)
@@ -187,3 +190,209 @@ turned words len o seen bits view is asked read b new turns =
       turned-IsBits words o b seen new here.within word by len here.inside is,
       bits_of-turned words o b seen new here.within word by len here.inside ∙ ap (λ (bs : List Bool). set bs o (b == 1)) view,
     )
+
+-- ---- all words, one after another
+
+pub written_here : (words : List ℕ) (index w o : ℕ) → index < length words → o / 64 ≡ index → is_bit (set words index w) o ≡ (bit_at w (o % 64) == 1)
+written_here words index w o within at =
+    ap (λ j. bit_at (get_or (set words index w) j 0) (o % 64) == 1) at ∙ ap (λ v. bit_at v (o % 64) == 1) (get_or-set_same words index w 0 within)
+
+pub written_elsewhere : (words : List ℕ) (index w o : ℕ) → o / 64 ≢ index → is_bit (set words index w) o ≡ is_bit words o
+written_elsewhere words index w o apart = ap (λ v. bit_at v (o % 64) == 1) (get_or-set_other words index (o / 64) w 0 apart)
+
+-- so many words have been written, whose bits are these
+pub record AreWritten (bits : ℕ → Bool) (count turns : ℕ) (words : List ℕ) : Type 0 where
+  pub as_many : length words ≡ count
+  pub written : (o : ℕ) → o < 64 * turns → is_bit words o ≡ bits o
+
+pub none_written : (bits : ℕ → Bool) (words : List ℕ) → AreWritten bits (length words) 0 words
+none_written bits words = record { as_many = refl; written = λ o low. absurd (omega arith) }
+
+pub one_written : (bits : ℕ → Bool) (count turns w : ℕ) (words : List ℕ) → turns < length words → AreWritten bits count turns words
+    → ((p : ℕ) → p < 64 → (bit_at w p == 1) ≡ bits (64 * turns + p)) → AreWritten bits count (turns + 1) (set words turns w)
+one_written bits count turns w words within are each = record {
+  as_many = length-set words turns w ∙ are.as_many;
+  written = λ o low. ⊎_elim
+      (λ before. written_elsewhere words turns w o (λ e. absurd (omega arith)) ∙ are.written o before)
+      (λ here.
+      let rest : 64 * turns + o % 64 ≡ o = omega arith in
+      written_here words turns w o within (omega arith) ∙ each (o % 64) (omega arith) ∙ ap bits rest)
+      (cases_lt o (64 * turns));
+}
+
+past_words : (words : List ℕ) (o : ℕ) → 64 * length words ≤ o → is_bit words o ≡ false
+past_words words o past = ap (λ v. bit_at v (o % 64) == 1) (get_or_past words (o / 64) 0 (omega arith)) ∙ ap (λ v. v == 1) (bit_at-zero (o % 64))
+
+-- all words were written
+module _ (bits : ℕ → Bool) (count turns len : ℕ) (words words' : List ℕ) (is : IsBits words len) (are : AreWritten bits count turns words') (old : count ≡ length words) (all : count ≤ turns) where
+  pub written-IsBits : ((o : ℕ) → len ≤ o → bits o ≡ false) → IsBits words' len
+  written-IsBits none = record {
+    few = is.few;
+    enough = let e = is.enough in let n = are.as_many in omega arith;
+    tight = let e = is.tight in let n = are.as_many in omega arith;
+    past = λ o le. ⊎_elim
+        (λ low. are.written o (omega arith) ∙ none o le)
+        (λ high. past_words words' o (let n = are.as_many in omega arith))
+        (cases_lt o (64 * count));
+  }
+
+  -- they are a list's bits
+  pub bits_of-written : (list : List Bool) → length list ≡ len → ((o : ℕ) → o < len → bits o ≡ get_or list o false) → bits_of words' len ≡ list
+  bits_of-written list long each =
+      same_lists _ _ (length-bits_of words' len ∙ sym long)
+      (λ k d low.
+      let below : k < len = let l = length-bits_of words' len in omega arith in
+      let e = is.enough in
+      get_or-map-range_with_len (λ q. is_bit words' q) 0 len k k d below (omega arith)
+      ∙ are.written k (omega arith) ∙ each k below ∙ any_default list k false d (omega arith))
+    where
+      any_default : (xs : List Bool) (i : ℕ) (d e : Bool) → i < length xs → get_or xs i d ≡ get_or xs i e
+      any_default [] i d e within = absurd (omega arith)
+      any_default (x ∷ xs) zero d e within = refl
+      any_default (x ∷ xs) (suc i) d e within = any_default xs i d e (omega arith)
+
+-- ---- bits that are clear in two words
+
+both_clear : (x y : ℕ) → x < 2 → y < 2 → (min (1 - max x y) 1 == 1) ≡ neither (x == 1) (y == 1)
+both_clear zero zero few few' = refl
+both_clear zero (suc zero) few few' = refl
+both_clear (suc zero) zero few few' = refl
+both_clear (suc zero) (suc zero) few few' = refl
+both_clear x (suc (suc y)) few few' = absurd (omega arith)
+both_clear (suc (suc x)) y few few' = absurd (omega arith)
+
+none_there : (x : ℕ) → (min x 0 == 1) ≡ false
+none_there x = let none : min x 0 ≡ 0 = omega arith in ap (λ v. v == 1) none
+
+module _ (a b mask p : ℕ) (fits_a : a < 2 ^ 64) (fits_b : b < 2 ^ 64) (within : p < 64) where
+  neither_at : bit_at (bit_and (bit_not w64 (bit_or a b)) mask) p ≡ min (1 - max (bit_at a p) (bit_at b p)) (bit_at mask p)
+  neither_at = bit_at_and (bit_not w64 (bit_or a b)) mask p
+      ∙ ap (λ x. min x (bit_at mask p)) (bit_at_not w64 (bit_or a b) p (or_lt 64 a b fits_a fits_b) within ∙ ap (λ x. 1 - x) (bit_at_or a b p))
+
+  pub neither_in : bit_at mask p ≡ 1 → (bit_at (bit_and (bit_not w64 (bit_or a b)) mask) p == 1) ≡ neither (bit_at a p == 1) (bit_at b p == 1)
+  neither_in one = ap (λ x. x == 1) (neither_at ∙ ap (λ x. min (1 - max (bit_at a p) (bit_at b p)) x) one) ∙ both_clear (bit_at a p) (bit_at b p) (bit_at-lt a p) (bit_at-lt b p)
+
+-- the bits that are clear in two lists of words, as far as the lists of bits go
+pub clear_in : List ℕ → List ℕ → ℕ → ℕ → Bool
+clear_in one other len o = if nat_lt o len then neither (is_bit one o) (is_bit other o) else false
+
+clear_below : (one other : List ℕ) (len o : ℕ) → o < len → clear_in one other len o ≡ neither (is_bit one o) (is_bit other o)
+unfolding clear_in
+clear_below one other len o low = rw (lt-ltb o len low)
+
+pub clear_past_end : (one other : List ℕ) (len o : ℕ) → len ≤ o → clear_in one other len o ≡ false
+unfolding clear_in
+clear_past_end one other len o high = rw (le-ltb o len high)
+
+-- the bits of a word that was read
+pub bit_of_word : (words : List ℕ) (turns w p : ℕ) → w ≡ get_or words turns 0 → p < 64 → (bit_at w p == 1) ≡ is_bit words (64 * turns + p)
+bit_of_word words turns w p read within =
+    let quotient : (64 * turns + p) / 64 ≡ turns = omega arith in
+    let rest : (64 * turns + p) % 64 ≡ p = omega arith in
+    ap (λ x. bit_at x p == 1) read ∙ sym (ap (λ j. bit_at (get_or words j 0) ((64 * turns + p) % 64) == 1) quotient ∙ ap (λ q. bit_at (get_or words turns 0) q == 1) rest)
+
+-- the clear bits of two words
+pub clear_bits_are : (one other count mask : ℕ) → one < 2 ^ 64 → other < 2 ^ 64 → AreFirstBits count mask → AreClearBits one other count (bit_and (bit_not w64 (bit_or one other)) mask)
+clear_bits_are one other count mask fits fits' first = record {
+  below = λ i word low. neither_in one other mask i fits fits' word (first.set i word low);
+  past = λ i high. ap (λ x. x == 1) (bit_at_and (bit_not w64 (bit_or one other)) mask i ∙ ap (min (bit_at (bit_not w64 (bit_or one other)) i)) (first.clear i high)) ∙ none_there (bit_at (bit_not w64 (bit_or one other)) i);
+}
+
+-- the word of clear bits
+pub clear_word : (one other : List ℕ) (len turns a b word : ℕ) → a ≡ get_or one turns 0 → b ≡ get_or other turns 0
+    → AreClearBits a b (len - 64 * turns) word → (p : ℕ) → p < 64 → (bit_at word p == 1) ≡ clear_in one other len (64 * turns + p)
+clear_word one other len turns a b word read_a read_b are p within =
+    let at_one = bit_of_word one turns a p read_a within in
+    let at_other = bit_of_word other turns b p read_b within in
+    ⊎_elim
+    (λ low. are.below p within (omega arith) ∙ (λ k. neither (at_one k) (at_other k)) ∙ sym (clear_below one other len (64 * turns + p) low))
+    (λ high. are.past p (omega arith) ∙ sym (clear_past_end one other len (64 * turns + p) high))
+    (cases_lt (64 * turns + p) len)
+
+-- they are those that are clear in two lists of bits
+pub clear_is_neither : (one other : List ℕ) (len : ℕ) (o : ℕ) → o < len → clear_in one other len o ≡ get_or (neither_of (bits_of one len) (bits_of other len)) o false
+clear_is_neither one other len o low =
+    let long = length-bits_of one len in
+    clear_below one other len o low
+    ∙ sym (get_or-map-range_with_len (λ q. neither (get_or (bits_of one len) q false) (get_or (bits_of other len) q false)) 0 (length (bits_of one len)) o o false (omega arith) (omega arith)
+    ∙ (λ k. neither (get_or-map-range_with_len (λ q. is_bit one q) 0 len o o false low (omega arith) k) (get_or-map-range_with_len (λ q. is_bit other q) 0 len o o false low (omega arith) k)))
+
+-- a bit as the list has it
+pub bit_listed : (words : List ℕ) (len o : ℕ) → o < len → get_or (bits_of words len) o false ≡ is_bit words o
+bit_listed words len o low = get_or-map-range_with_len (λ q. is_bit words q) 0 len o o false low (omega arith)
+
+pub neither_written : (one_words other_words : List ℕ) (len one_len other_len : ℕ) (one other : List Bool) → bits_of one_words one_len ≡ one → bits_of other_words other_len ≡ other → one_len ≡ len → other_len ≡ len
+    → (o : ℕ) → o < len → clear_in one_words other_words len o ≡ get_or (neither_of one other) o false
+neither_written one_words other_words len one_len other_len one other one_is other_is same same' o low =
+    let first = ap (bits_of one_words) (sym same) ∙ one_is in
+    let second = ap (bits_of other_words) (sym same') ∙ other_is in
+    clear_is_neither one_words other_words len o low ∙ (λ k. get_or (neither_of (first k) (second k)) o false)
+
+-- two lists have as many bits
+pub same_len : (words other_words : List ℕ) (len other_len : ℕ) (bits other : List Bool) → bits_of words len ≡ bits → bits_of other_words other_len ≡ other → length other ≡ length bits → other_len ≡ len
+same_len words other_words len other_len bits other is other_is same =
+    sym (length-bits_of other_words other_len) ∙ ap (λ (bs : List Bool). length bs) other_is ∙ same ∙ sym (ap (λ (bs : List Bool). length bs) is) ∙ length-bits_of words len
+
+pub length-neither_of : (one other : List Bool) → length (neither_of one other) ≡ length one
+length-neither_of one other = length-map-range_with_len _ 0 (length one)
+
+-- ---- whether a bit is set
+
+pub has-first : (bits : List Bool) (result : Option ℕ) → IsFirstTrue bits 0 result → is_some result ≡ has_true bits
+has-first bits None none = sym (all_false bits (λ o. none o (omega arith)))
+  where
+    all_false : (bits : List Bool) → ((o : ℕ) → get_or bits o false ≡ false) → has_true bits ≡ false
+    all_false [] each = refl
+    all_false (true ∷ bits) each = each 0
+    all_false (false ∷ bits) each = all_false bits (λ o. each (suc o))
+has-first bits (Some o) (from, within, set, before) = sym (has-true bits o set)
+  where
+    has-true : (bits : List Bool) (o : ℕ) → get_or bits o false ≡ true → has_true bits ≡ true
+    has-true [] o set = absurd cc
+    has-true (true ∷ bits) o set = refl
+    has-true (false ∷ bits) zero set = absurd cc
+    has-true (false ∷ bits) (suc o) set = has-true bits o set
+
+pub true-has : (bits : List Bool) (o : ℕ) → get_or bits o false ≡ true → has_true bits ≡ true
+true-has [] o set = absurd cc
+true-has (true ∷ bits) o set = refl
+true-has (false ∷ bits) zero set = absurd cc
+true-has (false ∷ bits) (suc o) set = true-has bits o set
+
+-- two lists of as many bits of which none is set
+pub none-same : (one other : List Bool) → has_true one ≡ false → has_true other ≡ false → length one ≡ length other → one ≡ other
+none-same [] [] e f l = refl
+none-same [] (y ∷ ys) e f l = absurd (omega arith)
+none-same (x ∷ xs) [] e f l = absurd (omega arith)
+none-same (true ∷ xs) (y ∷ ys) e f l = absurd cc
+none-same (false ∷ xs) (true ∷ ys) e f l = absurd cc
+none-same (false ∷ xs) (false ∷ ys) e f l = ap (λ r. false ∷ r) (none-same xs ys e f (omega arith))
+
+-- a place that is clear in both
+pub neither-is : (one other : List Bool) (o : ℕ) → get_or (neither_of one other) o false ≡ true → (get_or one o false ≡ false) × (get_or other o false ≡ false)
+neither-is one other o set = ⊎_elim
+    (λ low. both (get_or one o false) (get_or other o false)
+    (sym (get_or-map-range_with_len (λ q. neither (get_or one q false) (get_or other q false)) 0 (length one) o o false low (omega arith)) ∙ set))
+    (λ high. absurd (let no = sym (get_or_past (neither_of one other) o false (let l = length-neither_of one other in omega arith)) ∙ set in cc))
+    (cases_lt o (length one))
+  where
+    both : (x y : Bool) → neither x y ≡ true → (x ≡ false) × (y ≡ false)
+    both false false e = (refl, refl)
+    both false true e = absurd cc
+    both true y e = absurd cc
+
+-- the first bits of a word
+pub some_first_bits : (count : ℕ) → count < 64 → AreFirstBits count (1 * 2 ^ count % 18446744073709551616 - 1)
+some_first_bits count few =
+    let fits : 2 ^ count < 2 ^ 64 = pow-lt few in
+    let same : 1 * 2 ^ count % 18446744073709551616 - 1 ≡ 2 ^ count - 1 = omega arith in
+    record {
+      set = λ i word low. ap (λ w. bit_at w i) same ∙ bit_at_ones count i low;
+      clear = λ i high. ap (λ w. bit_at w i) same ∙ bit_at_ones_above count i high;
+    }
+
+pub all_first_bits : (count : ℕ) → 64 ≤ count → AreFirstBits count 18446744073709551615
+all_first_bits count all = record {
+  set = λ i word low. bit_at_ones 64 i word;
+  clear = λ i high. bit_at_ones_above 64 i (omega arith);
+}

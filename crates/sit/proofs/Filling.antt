@@ -1,4 +1,5 @@
--- Blocks that come home from the end of a run, and blocks that are put behind one.
+-- The last block of the run belongs to the last place still empty, and the first block at home behind the run's end: so
+-- turn by turn run and home trade one block, none out of order.
 use Rattle.std.proofs.Common.{◌≡◌, ℕ, zero, suc, ◌+◌, ◌-◌, ◌<◌, ◌≤◌, List, [], ◌∷◌, ◌++◌, map, take, drop, length, Bool, true, false, get_or, set, replicate, refl, sym, ap, ◌∙◌, subst, ⊎_elim, arith}
 use Rattle.std.proofs.lemmas.Bool.{cases_lt}
 use Rattle.std.proofs.lemmas.List.{append_assoc, append-nil, map-append, drop-set, drop_all, take_more, take_all, get_or-set_same, get_or-set_other, length-set, length-append, same_lists, length-replicate}

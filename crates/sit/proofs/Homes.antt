@@ -1,4 +1,5 @@
--- The blocks at home, of which one leaves or comes.
+-- What a segment's home shows is read off its places one by one: so a block that leaves or comes changes just its
+-- place, and takes or brings its own failures.
 use Rattle.std.proofs.Common.{◌≡◌, ℕ, zero, suc, ◌+◌, ◌<◌, List, Option, Some, None, Bool, length, get_or, map, set, replicate, ap, sym, ◌∙◌, refl}
 use Rattle.std.proofs.lemmas.List.{map-set, get_or-map}
 use Rattle.std.specs.Prelude.{is_some, false}

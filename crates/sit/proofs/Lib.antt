@@ -9,3 +9,4 @@ pub mod Filling
 pub mod Loads
 pub mod Pinning
 pub mod ShownBlocks
+pub mod Threads

@@ -1,4 +1,5 @@
--- Lists of which one item is set.
+-- One item that is set changes what stands at its place alone: so what holds of the others stays, and the count of
+-- valid blocks goes up or down by one.
 use Rattle.std.proofs.Common.{◌≡◌, ℕ, zero, suc, ◌+◌, ◌<◌, ◌≤◌, List, [], ◌∷◌, ◌++◌, Option, Some, None, Bool, true, map, length, get_or, set, replicate, refl, sym, ap, ◌∙◌, subst, arith}
 use Rattle.std.specs.Prelude.{is_some, unwrap_or}
 use Rattle.std.proofs.lemmas.List.{length-map, get_or-set_same, get_or-set_other}

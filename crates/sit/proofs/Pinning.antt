@@ -6,8 +6,8 @@ use Rattle.geometry.specs.declared.owner.Mark.{Mark}
 use Rattle.geometry.specs.Mark.{same_mark}
 use Rattle.geometry.specs.Address.{address_of}
 use Rattle.sums.proofs.Weighing.{weigh-at}
-use Rattle.books.specs.Accounts.{SegmentView}
-use Rattle.books.specs.Lists.{times}
+use Rattle.rights_books.specs.Accounts.{SegmentView}
+use Rattle.rights_books.specs.Lists.{times}
 use Rattle.words.specs.declared.claim.Life.{Life}
 use Rattle.words.specs.Tokens.{IsPinnable}
 use Rattle.sit.specs.Summaries.{one, count_of}

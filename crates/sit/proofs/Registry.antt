@@ -1,4 +1,5 @@
--- A segment stays in step with its account and its standing.
+-- The account has the marks of the valid blocks, and the standing tells the state: a call changes a block and its mark,
+-- the state and the life together, so they stay in step.
 use Rattle.std.proofs.Common.{◌≡◌, ℕ, ◌+◌, ◌<◌, List, [], ◌∷◌, Option, Some, None, IsSome, length, get_or, set, refl, sym, ap, ◌∙◌, inl, inr, if◌then◌else◌, arith}
 use Rattle.std.specs.Prelude.{is_some}
 use Rattle.geometry.specs.declared.state.State.{State}
@@ -10,14 +11,14 @@ use Rattle.geometry.specs.Shape.{segment_blocks}
 use Rattle.geometry.specs.Address.{address_of, segment_of, offset_of}
 use Rattle.geometry.proofs.Addresses.{address_of-parts}
 use Rattle.sums.specs.Weights.{weigh, SameItems}
-use Rattle.books.specs.Accounts.{SegmentView}
-use Rattle.books.specs.Lists.{times, without}
-use Rattle.books.proofs.Steps.{without_mark}
+use Rattle.rights_books.specs.Accounts.{SegmentView}
+use Rattle.rights_books.specs.Lists.{times, without}
+use Rattle.rights_books.proofs.Steps.{without_mark}
 use Rattle.words.specs.Tokens.{Post, IsSealed}
 use Rattle.sit.specs.declared.segment.Released.{Released}
 use Rattle.sit.specs.declared.segment.Released.TheVariants.{Kept, Retired}
 use Rattle.sit.specs.Summaries.{marks_from}
-use Rattle.sit.specs.Segment.{Segment, marks_of, placed, cleared, fresh, HasPlaced, IsStateAt}
+use Rattle.sit.specs.Segment.{Segment, marks_of, placed, threaded, cleared, fresh, HasPlaced, IsStateAt}
 use Rattle.sit.specs.Released.{HasReleased}
 use Rattle.words.specs.Claims.{fresh_life}
 use Rattle.words.specs.declared.claim.Life.{Life}
@@ -60,6 +61,15 @@ placed_marks s s' owner now failed m has room clear is weight =
     let new : weigh weight (marks_of s') ≡ weigh weight (marks_from (address_of s.shape s.number 0) (set s.summaries s.next (Some owner))) = ap (λ x. weigh weight (marks_of x)) has.0 in
     let here : record { address = address_of s.shape s.number s.next; owner = owner } ≡ m = sym is in
     let change = marks_set (address_of s.shape s.number 0) s.next s.summaries (set s.summaries s.next (Some owner)) (record { address = address_of s.shape s.number s.next; owner = owner }) room clear refl (omega arith) weight in
+    let same = ap weight is in omega arith
+
+-- the valid blocks once one was placed in a hole
+pub threaded_marks : (s s' : Segment) (offset : ℕ) (owner : Owner) (now failed : ℕ) (m : Mark) → s' ≡ threaded s offset owner now failed → offset < length s.summaries → get_or s.summaries offset None ≡ None
+    → m ≡ record { address = address_of s.shape s.number offset; owner = owner } → SameItems (m ∷ marks_of s) (marks_of s')
+threaded_marks s s' offset owner now failed m has room clear is weight =
+    let new : weigh weight (marks_of s') ≡ weigh weight (marks_from (address_of s.shape s.number 0) (set s.summaries offset (Some owner))) = ap (λ x. weigh weight (marks_of x)) has in
+    let here : record { address = address_of s.shape s.number offset; owner = owner } ≡ m = sym is in
+    let change = marks_set (address_of s.shape s.number 0) offset s.summaries (set s.summaries offset (Some owner)) (record { address = address_of s.shape s.number offset; owner = owner }) room clear refl (omega arith) weight in
     let same = ap weight is in omega arith
 
 -- the valid blocks once one was cleared
@@ -108,6 +118,16 @@ module _ (s s' : Segment) (account account' : SegmentView) (post post' : Post) (
       go Sealed e lived more = full e lived
       go Prefree e lived (inl more) = absurd (let no = sym e ∙ more.1 in cc)
       go Prefree e lived (inr more) = absurd (let no = sym e ∙ more.1 in cc)
+
+  -- once a block was placed in a hole
+  pub threaded-registered : (offset : ℕ) (owner : Owner) (now failed : ℕ) (m : Mark) → s' ≡ threaded s offset owner now failed → post' ≡ post
+      → account' ≡ record account { marks = m ∷ account.marks } → SameItems (m ∷ marks_of s) (marks_of s') → IsRegistered s' account' post'.life
+  threaded-registered offset owner now failed m has same booked marks = record {
+    number = ap (λ x. x.number) has ∙ (is.number ∙ ap (λ p. p.life.segment) (sym same));
+    state = ap (λ x. x.state) has ∙ (is.state ∙ ap (λ p. p.life.state) (sym same));
+    account_number = ap (λ a. a.segment) booked ∙ (is.account_number ∙ ap (λ p. p.life.segment) (sym same));
+    marks = λ h. let b = ap (λ a. weigh h a.marks) booked in let e = is.marks h in let n = marks h in omega arith;
+  }
 
   -- once a block was cleared
   pub cleared-registered : (o failed : ℕ) (bytes : List ℕ) (released : Released) (m : Mark) → HasReleased (cleared s o bytes failed) released s' → HasStood released post post'

@@ -1,14 +1,16 @@
--- The blocks at home are those of the volume, whatever a call makes of both.
+-- The blocks at home hold the volume's bytes at their addresses; a call changes one place, where the block leaves,
+-- comes home or gets other bytes, and the same one in the volume.
 use Rattle.std.proofs.Common.{◌≡◌, ◌≢◌, ℕ, ◌<◌, List, [], Some, None, Result, Ok, Err, OnErr, length, get_or, set, sym, ap, subst, ◌∙◌, arith, ne_eqb, eq-eqb}
 use Rattle.std.proofs.lemmas.List.{get_or-set_same, get_or-set_other}
 use mathlib.Core.Logic.{dite}
 use native.Mathlib.Decide.{ℕ_discrete}
 use Rattle.geometry.specs.declared.owner.Owner.{Owner}
 use Rattle.geometry.specs.Address.{address_of}
+use Rattle.geometry.specs.Shape.{segment_blocks}
 use Rattle.geometry.specs.Blocks.{changed}
 use Rattle.sit.specs.declared.segment.Released.{Released}
 use Rattle.sit.specs.declared.segment.Released.TheVariants.{Kept, Retired}
-use Rattle.sit.specs.Segment.{Segment, placed, spoiled, cleared, HasPlaced}
+use Rattle.sit.specs.Segment.{Segment, placed, threaded, spoiled_at, cleared, HasPlaced}
 use Rattle.sit.specs.Released.{HasReleased}
 use Rattle.sit.specs.ShownBlocks.{ShowsBlocks, FollowsBlocks}
 use Rattle.sit.proofs.Lists.{some-ne-none}
@@ -25,27 +27,39 @@ there : {X : Type 0} (f : ℕ → X) (at : ℕ) (value : X) → changed f at val
 there f at value = rw (eq-eqb at at (λ i. at))
 
 module _ (s : Segment) where
-  -- the block at the next place is not at home any more
+  -- the block at a place is not at home any more
+  named_blocks : (s' : Segment) (at : ℕ) (owner : Owner) (bytes : List ℕ) → s'.shape ≡ s.shape → s'.number ≡ s.number → s'.summaries ≡ set s.summaries at (Some owner) → s'.contents ≡ set s.contents at []
+      → at < length s.summaries → FollowsBlocks (λ blocks. changed blocks (address_of s.shape s.number at) bytes) s s'
+  named_blocks s' at owner bytes shape number summaries contents room blocks shows o within none =
+      dite (ℕ_discrete o at)
+      (λ e. absurd (some-ne-none owner (sym (get_or-set_same s.summaries at (Some owner) None room)
+      ∙ (ap (λ k. get_or (set s.summaries at (Some owner)) k None) (sym e) ∙ (sym (ap (λ xs. get_or xs o None) summaries) ∙ none)))))
+      (λ ne. ap (λ xs. get_or xs o []) contents ∙ (get_or-set_other s.contents at o [] [] ne
+      ∙ (shows o (subst (λ sh. o < segment_blocks sh) shape within) (sym (get_or-set_other s.summaries at o (Some owner) None ne) ∙ (sym (ap (λ xs. get_or xs o None) summaries) ∙ none))
+      ∙ (sym (elsewhere blocks (address_of s.shape s.number at) bytes (address_of s.shape s.number o) (λ e. ne (omega arith)))
+      ∙ (λ k. changed blocks (address_of s.shape s.number at) bytes (address_of (sym shape k) (sym number k) o))))))
+
   pub placed_blocks : (s' : Segment) (owner : Owner) (now failed : ℕ) (bytes : List ℕ) → HasPlaced (placed s owner now failed) s' → s.next < length s.summaries
       → FollowsBlocks (λ blocks. changed blocks (address_of s.shape s.number s.next) bytes) s s'
-  placed_blocks s' owner now failed bytes has room blocks shows = subst (λ x. ShowsBlocks x (changed blocks (address_of s.shape s.number s.next) bytes)) (sym has.0)
-      (λ o within none. dite (ℕ_discrete o s.next)
-      (λ e. absurd (some-ne-none owner (sym (get_or-set_same s.summaries s.next (Some owner) None room) ∙ (ap (λ k. get_or (set s.summaries s.next (Some owner)) k None) (sym e) ∙ none))))
-      (λ ne. get_or-set_other s.contents s.next o [] [] ne
-      ∙ (shows o within (sym (get_or-set_other s.summaries s.next o (Some owner) None ne) ∙ none)
-      ∙ sym (elsewhere blocks (address_of s.shape s.number s.next) bytes (address_of s.shape s.number o) (λ e. ne (omega arith))))))
+  placed_blocks s' owner now failed bytes has room =
+      named_blocks s' s.next owner bytes (ap (λ x. x.shape) has.0) (ap (λ x. x.number) has.0) (ap (λ x. x.summaries) has.0) (ap (λ x. x.contents) has.0) room
 
-  -- the block at the next place has other bytes
-  pub spoiled_blocks : (s' : Segment) (bytes : List ℕ) (failed : ℕ) → s' ≡ spoiled s bytes failed
-      → FollowsBlocks (λ blocks. changed blocks (address_of s.shape s.number s.next) (get_or s'.contents s.next [])) s s'
-  spoiled_blocks s' bytes failed is blocks shows =
-      let cs : List (List ℕ) = set s.contents s.next bytes in
-      subst (λ x. ShowsBlocks x (changed blocks (address_of s.shape s.number s.next) (get_or x.contents s.next []))) (sym is)
-      (λ o within none. dite (ℕ_discrete o s.next)
-      (λ e. ap (λ k. get_or cs k []) e ∙ sym (ap (λ k. changed blocks (address_of s.shape s.number s.next) (get_or cs s.next []) (address_of s.shape s.number k)) e
-      ∙ there blocks (address_of s.shape s.number s.next) (get_or cs s.next [])))
-      (λ ne. get_or-set_other s.contents s.next o bytes [] ne
-      ∙ (shows o within none ∙ sym (elsewhere blocks (address_of s.shape s.number s.next) (get_or cs s.next []) (address_of s.shape s.number o) (λ e. ne (omega arith))))))
+  pub threaded_blocks : (s' : Segment) (at : ℕ) (owner : Owner) (now failed : ℕ) (bytes : List ℕ) → s' ≡ threaded s at owner now failed → at < length s.summaries
+      → FollowsBlocks (λ blocks. changed blocks (address_of s.shape s.number at) bytes) s s'
+  threaded_blocks s' at owner now failed bytes is room =
+      named_blocks s' at owner bytes (ap (λ x. x.shape) is) (ap (λ x. x.number) is) (ap (λ x. x.summaries) is) (ap (λ x. x.contents) is) room
+
+  -- the block at a place has other bytes
+  pub spoiled_blocks : (s' : Segment) (at : ℕ) (bytes : List ℕ) (failed : ℕ) → s' ≡ spoiled_at s at bytes failed
+      → FollowsBlocks (λ blocks. changed blocks (address_of s.shape s.number at) (get_or s'.contents at [])) s s'
+  spoiled_blocks s' at bytes failed is blocks shows =
+      let cs : List (List ℕ) = set s.contents at bytes in
+      subst (λ x. ShowsBlocks x (changed blocks (address_of s.shape s.number at) (get_or x.contents at []))) (sym is)
+      (λ o within none. dite (ℕ_discrete o at)
+      (λ e. ap (λ k. get_or cs k []) e ∙ sym (ap (λ k. changed blocks (address_of s.shape s.number at) (get_or cs at []) (address_of s.shape s.number k)) e
+      ∙ there blocks (address_of s.shape s.number at) (get_or cs at [])))
+      (λ ne. get_or-set_other s.contents at o bytes [] ne
+      ∙ (shows o within none ∙ sym (elsewhere blocks (address_of s.shape s.number at) (get_or cs at []) (address_of s.shape s.number o) (λ e. ne (omega arith))))))
 
   -- the block that comes home is the volume's
   pub cleared_blocks : (s' : Segment) (o : ℕ) (bytes : List ℕ) (failed : ℕ) (released : Released) → HasReleased (cleared s o bytes failed) released s' → get_or s'.contents o [] ≡ bytes

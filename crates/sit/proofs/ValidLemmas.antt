@@ -1,4 +1,5 @@
--- What setting and clearing a block does to bits, summaries and count.
+-- Bits, summaries and count tell the same blocks to be valid: one place set or cleared in all three changes the count
+-- by one, so they agree again.
 use Rattle.std.proofs.Common.{◌≡◌, ℕ, zero, suc, [], ◌∷◌, refl, ◌+◌, ◌-◌, ◌^◌, ◌<◌, List, Option, Some, None, Bool, true, false, map, length, get_or, set, replicate, sym, ap, ◌∙◌, arith}
 use Rattle.std.proofs.lemmas.List.{map-set, length-set, length-map, length-replicate}
 use Rattle.std.specs.Prelude.{IsSome}

@@ -2,10 +2,10 @@
 use Rattle.std.specs.Prelude.{◌≡◌, ℕ, ◌+◌, List}
 use Rattle.geometry.specs.declared.owner.Mark.{Mark}
 use Rattle.sums.specs.Weights.{weigh}
-use Rattle.books.specs.declared.claim.Copied.{Copied}
-use Rattle.books.specs.declared.claim.Copied.TheVariants.{SegmentCopy}
-use Rattle.books.specs.Accounts.{CensusView}
-use Rattle.books.specs.Weights.{marks_copied, segment_copy}
+use Rattle.rights_books.specs.declared.claim.Copied.{Copied}
+use Rattle.rights_books.specs.declared.claim.Copied.TheVariants.{SegmentCopy}
+use Rattle.rights_books.specs.Accounts.{CensusView}
+use Rattle.rights_books.specs.Weights.{marks_copied, segment_copy}
 use Rattle.sit.specs.Segment.{Segment, marks_of}
 
 -- it has learned its valid blocks, by its number, and nothing else

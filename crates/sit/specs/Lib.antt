@@ -1,6 +1,7 @@
 pub mod Bits
 pub mod Home
 pub mod Summaries
+pub mod Thread
 pub mod Segment
 pub mod ShownBlocks
 pub mod Released
@@ -9,6 +10,7 @@ pub mod NextValid
 pub mod Room
 pub mod Valid
 pub mod Registered
+pub mod Threaded
 pub mod Learned
 pub mod Loading
 pub mod Pinned

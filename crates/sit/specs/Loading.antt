@@ -6,14 +6,15 @@ use Rattle.geometry.specs.declared.owner.Owner.{Owner}
 use Rattle.geometry.specs.Shape.{segment_blocks, block_bytes}
 use Rattle.geometry.specs.Address.{address_of}
 use Rattle.sums.specs.Weights.{SameItems}
-use Rattle.claims.specs.Rules.{Ruled}
-use Rattle.books.specs.declared.claim.Layout.{Layout}
-use Rattle.books.specs.Accounts.{SegmentView}
+use Rattle.rights_claims.specs.Rules.{Ruled}
+use Rattle.rights_books.specs.declared.claim.Layout.{Layout}
+use Rattle.rights_books.specs.Accounts.{SegmentView}
 use Rattle.geometry.specs.declared.state.State.{State}
 use Rattle.words.specs.Tokens.{Post, OpenSegment, IsOpened, IsSealed}
 use Rattle.sit.specs.Segment.{Segment}
 use Rattle.sit.specs.Home.{Home}
 use Rattle.sit.specs.Summaries.{is_clear, marks_from}
+use Rattle.sit.specs.Thread.{Thread, fresh_thread, keeping}
 
 -- the blocks from place `left` on have come, the summaries say who names each of them, and the contents are the bytes of those at home
 pub record Loaded : Type 0 where
@@ -26,7 +27,7 @@ pub record Loaded : Type 0 where
   pub failed : ℕ
 
 -- Of the blocks that have come those are at home that nobody names. The books have the others, each with who names it.
-pub record IsLoading (shape : Shape) (number left : ℕ) (home : Home) (summaries : List (Option Owner)) (account : SegmentView) : Type 0 where
+pub record IsLoading (shape : Shape) (number left : ℕ) (home : Home) (summaries : List (Option Owner)) (thread : Thread) (account : SegmentView) : Type 0 where
   pub few : left ≤ segment_blocks shape
   pub sized : length summaries ≡ segment_blocks shape
   pub as_many : length home.present ≡ segment_blocks shape
@@ -35,6 +36,7 @@ pub record IsLoading (shape : Shape) (number left : ℕ) (home : Home) (summarie
   pub come : (k : ℕ) → left ≤ k → k < segment_blocks shape → slice_index_or home.present k false ≡ is_clear (slice_index_or summaries k None)
   pub missing : (k : ℕ) → k < left → slice_index_or home.present k false ≡ false
   pub unnamed : (k : ℕ) → k < left → slice_index_or summaries k None ≡ None
+  pub thread_is : thread ≡ fresh_thread (segment_blocks shape)
   pub account_number : account.segment ≡ number
   pub marks : SameItems account.marks (marks_from (address_of shape number 0) summaries)
 
@@ -47,10 +49,10 @@ contents_put contents place bytes (Some owner) = contents
 abbrev pub AreItsBooks : Ruled Layout → Loaded → Type 0
 AreItsBooks books s = (books.book ≡ s.book) × (books.key.blocks ≡ segment_blocks s.shape)
 
--- the segment, once all blocks have come
+-- the segment, once all blocks have come; the last completed checkpoint is the one that it is loaded from
 abbrev pub loaded_segment : Loaded → State → ℕ → ℕ → Segment
 loaded_segment s state next mtime =
-    record { shape = s.shape; number = s.number; state = state; summaries = s.summaries; mtime = mtime; next = next; contents = s.contents; failed = s.failed }
+    record { shape = s.shape; number = s.number; state = state; summaries = s.summaries; mtime = mtime; next = next; contents = s.contents; failed = s.failed; thread = keeping s.summaries (fresh_thread (segment_blocks s.shape)) }
 
 -- The account of a segment: the books have its valid blocks, each with who names it.
 pub record IsAccountOf (s : Loaded) (account : SegmentView) : Type 0 where

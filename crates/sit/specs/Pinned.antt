@@ -3,7 +3,7 @@ use Rattle.std.specs.Prelude.{◌≡◌, ℕ, ◌<◌, List}
 use Rattle.geometry.specs.declared.owner.Mark.{Mark}
 use Rattle.geometry.specs.Mark.{same_mark}
 use Rattle.geometry.specs.Address.{segment_of}
-use Rattle.books.specs.Lists.{times}
+use Rattle.rights_books.specs.Lists.{times}
 use Rattle.words.specs.Steps.{life_counted}
 use Rattle.words.specs.Tokens.{Post}
 use Rattle.sit.specs.Segment.{Segment}

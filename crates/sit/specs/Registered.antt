@@ -5,9 +5,9 @@ use Rattle.geometry.specs.declared.state.State.{State}
 use Rattle.geometry.specs.declared.state.State.TheVariants.{Free, Open, Sealed, Prefree}
 use Rattle.geometry.specs.Shape.{segment_blocks}
 use Rattle.sums.specs.Weights.{SameItems}
-use Rattle.claims.specs.Rules.{Ruled}
-use Rattle.books.specs.declared.claim.Layout.{Layout}
-use Rattle.books.specs.Accounts.{SegmentView}
+use Rattle.rights_claims.specs.Rules.{Ruled}
+use Rattle.rights_books.specs.declared.claim.Layout.{Layout}
+use Rattle.rights_books.specs.Accounts.{SegmentView}
 use Rattle.words.specs.declared.claim.Life.{Life}
 use Rattle.words.specs.Tokens.{Post, OpenSegment, IsSealed, IsRetired}
 use Rattle.sit.specs.declared.segment.Released.{Released}

@@ -2,7 +2,7 @@
 ghost use Rattle.std.specs.Prelude.{◌≡◌, ◌+◌, ◌<◌, ◌≤◌, ◌^◌, ℕ, true, false, length, replicate, slice_index_or, slice_set, IfOk, IfErr};
 ghost use Rattle.geometry.specs.declared.error.Error.TheVariants.{NoMemory};
 ghost use Rattle.std.specs.Int.{bit_at};
-ghost use Rattle.sit.specs.Bits.{IsFirstBit, IsFirstTrue};
+ghost use Rattle.sit.specs.Bits.{IsFirstBit, IsFirstTrue, AreFirstBits, AreClearBits, has_true, neither_of};
 
 use geometry::Error;
 use std::alloc::Global;
@@ -65,6 +65,62 @@ impl Bits {
             }
         }
         None
+    }
+
+    /// Whether one is set.
+    pub(crate) fn any(&self) -> bool
+        ensures { result ≡ has_true self.now }
+    {
+        self.next_set(0).is_some()
+    }
+
+    /// All are clear from then on.
+    pub(crate) fn clear_all(&mut self)
+        ensures { self.new ≡ replicate (length self.old) false }
+    {
+        for index in 0..self.words.len() {
+            self.words[index] = 0;
+        }
+    }
+
+    /// They are those of another list, which has as many.
+    pub(crate) fn copy_from(&mut self, other: &Bits)
+        requires { length other.now ≡ length self.old }
+        ensures { self.new ≡ other.now }
+    {
+        for index in 0..self.words.len() {
+            self.words[index] = other.words[index];
+        }
+    }
+
+    /// They are set where those of two other lists, which have as many, are clear.
+    pub(crate) fn set_neither(&mut self, one: &Bits, other: &Bits)
+        requires one { length one.now ≡ length self.old }
+        requires other { length other.now ≡ length self.old }
+        ensures { self.new ≡ neither_of one.now other.now }
+    {
+        for index in 0..self.words.len() {
+            let rest = self.len - 64 * index as u32;
+            self.words[index] = clear_bits(one.words[index], other.words[index], rest);
+        }
+    }
+}
+
+// The bits that are clear in both words, of so many, the lowest ones, or of all.
+fn clear_bits(one: u64, other: u64, count: u32) -> u64
+    ensures { AreClearBits one other count result }
+{
+    !(one | other) & first_bits(count)
+}
+
+// A word of which so many bits are set, the lowest ones, or all.
+fn first_bits(count: u32) -> u64
+    ensures { AreFirstBits count result }
+{
+    if count < 64 {
+        (1 << count) - 1
+    } else {
+        u64::MAX
     }
 }
 

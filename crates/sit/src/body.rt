@@ -1,5 +1,5 @@
 //! One segment's blocks, without the rights to it: which are valid, who names each, and which are at home.
-ghost use Rattle.std.specs.Prelude.{◌≡◌, ◌+◌, ◌<◌, ◌≤◌, ◌++◌, [], Some, None, map, length, slice_index_or, IsSome, OnOk, OnErr, IfOk, vec_len, vec_capacity};
+ghost use Rattle.std.specs.Prelude.{◌≡◌, ◌+◌, ◌<◌, ◌≤◌, ◌++◌, [], Some, None, true, false, map, length, slice_index_or, IsSome, OnOk, OnErr, IfOk, vec_len, vec_capacity};
 ghost use Rattle.device.specs.Parts.{IsBlockRun};
 ghost use Rattle.geometry.specs.declared.state.State.TheVariants.{Free, Open, Sealed, Prefree};
 ghost use Rattle.geometry.specs.Shape.{block_bytes, segment_blocks};
@@ -8,10 +8,13 @@ ghost use Rattle.geometry.specs.Owner.{IsOwner};
 ghost use Rattle.sit.specs.Summaries.{count_of};
 ghost use Rattle.sit.specs.Segment.{IsFitting};
 ghost use Rattle.sit.specs.NextValid.{IsNextValid};
-ghost use Rattle.sit.specs.Released.{IsFate};
+ghost use Rattle.sit.specs.Released.{IsFate, thread_left};
+ghost use Rattle.geometry.specs.Segment.{IsHole};
+ghost use Rattle.sit.specs.Thread.{ended, is_threadable, keeping, IsNextHole};
 
 use crate::blocks::Blocks;
 use crate::segment::{Released, SegmentRow};
+use crate::thread::Threading;
 use crate::valid::ValidBlocks;
 use device::{Block, DeviceError};
 use geometry::{Owner, Shape, State};
@@ -19,7 +22,8 @@ use std::marker::Model;
 
 /// One segment, under its law: a bit is set exactly where the block is not at home, and the summary names its owner; the
 /// count is that of the set bits; an open segment has a next place, and no valid block at or past it; a sealed one has some
-/// valid block, and a retired or free one has none.
+/// valid block, and a retired or free one has none. Each hole that a log is to fill is neither valid nor in the last completed
+/// checkpoint, and only a sealed segment has some.
 #[derive(Drop)]
 pub(crate) struct Body<B: Block + Drop> {
     pub(crate) shape: Shape,
@@ -29,6 +33,7 @@ pub(crate) struct Body<B: Block + Drop> {
     pub(crate) valid: ValidBlocks,
     pub(crate) mtime: u64,
     pub(crate) next: u32,
+    pub(crate) thread: Threading,
 }
 
 impl<B: Block + Drop> Model for Body<B> {
@@ -36,13 +41,14 @@ impl<B: Block + Drop> Model for Body<B> {
 
     ghost Value = { Segment };
 
-    ghost view = { λ s. record { shape = s.shape; number = s.number; state = s.state; summaries = s.valid; mtime = s.mtime; next = s.next; contents = s.blocks.contents; failed = s.blocks.failed } };
+    ghost view = { λ s. record { shape = s.shape; number = s.number; state = s.state; summaries = s.valid; mtime = s.mtime; next = s.next; contents = s.blocks.contents; failed = s.blocks.failed; thread = s.thread } };
 
-    ghost invariant = { λ s. SegmentLaw (record { shape = s.shape; number = s.number; state = s.state; summaries = s.valid; mtime = s.mtime; next = s.next; contents = s.blocks.contents; failed = s.blocks.failed }) s.blocks };
+    ghost invariant = { λ s. SegmentLaw (record { shape = s.shape; number = s.number; state = s.state; summaries = s.valid; mtime = s.mtime; next = s.next; contents = s.blocks.contents; failed = s.blocks.failed; thread = s.thread }) s.blocks };
 }
 
 impl<B: Block + Drop> Body<B> {
-    ghost use Rattle.sit.specs.Segment.{IsFitting, placed, cleared, entered, HasPlaced, HasSpoiled};
+    ghost use Rattle.sit.specs.Segment.{IsFitting, fill_of, placed, threaded, cleared, entered, HasPlaced, HasSpoiled, HasSpoiledAt};
+    ghost use Rattle.sit.specs.Threaded.{with_thread, HasThreadedSegment};
     ghost use Rattle.sit.specs.Released.{HasReleased};
     ghost use Rattle.sit.specs.Row.{row_of};
 
@@ -98,6 +104,7 @@ impl<B: Block + Drop> Body<B> {
             state: self.state,
             valid: self.valid.count(),
             mtime: self.mtime,
+            threaded: self.thread.is_threaded(),
         }
     }
 
@@ -141,6 +148,76 @@ impl<B: Block + Drop> Body<B> {
         Ok(block)
     }
 
+    /// The hole that a log is to fill next.
+    pub(crate) fn next_hole(&self, log: u32) -> Option<u32>
+        ensures { IsNextHole self.now.thread log result }
+    {
+        self.thread.next_hole(log)
+    }
+
+    /// Writes the block in a hole, which leaves home and is valid from then on. Where the device fails, and counts it, nothing is
+    /// marked and the hole stays.
+    pub(crate) fn fill(
+        &mut self,
+        offset: u32,
+        owner: Owner,
+        now: u64,
+        bytes: &[u8],
+    ) -> Result<B, DeviceError>
+        requires hole { slice_index_or self.old.thread.holes offset false ≡ true }
+        requires owner { IsOwner owner }
+        requires bytes { length bytes.now ≡ block_bytes self.old.shape }
+        ensures address { IfOk result (λ block. B.address_of block ≡ address_of self.old.shape self.old.number offset) }
+        ensures content { IfOk result (λ block. B.content_of block ≡ bytes.now) }
+        ensures within { offset < segment_blocks self.old.shape }
+        ensures sized { length self.old.summaries ≡ segment_blocks self.old.shape }
+        ensures sealed { self.old.state ≡ Sealed }
+        ensures hole { IsHole (fill_of self.old) (slice_index_or self.old.thread.kept offset false) offset }
+        ensures segment { OnOk result (self.new ≡ threaded self.old offset owner now self.new.failed) }
+        ensures count { OnOk result (count_of self.new.summaries ≡ count_of self.old.summaries + 1) }
+        ensures failures { IfOk result (λ block. self.new.failed + B.failed block ≡ self.old.failed) }
+        ensures err { OnErr result (HasSpoiledAt offset self.old self.new) }
+        ensures failure { OnErr result (self.old.failed < self.new.failed) }
+    {
+        let block = self.blocks.write_out(offset as usize, bytes)?;
+        self.valid.set(offset, owner);
+        self.mtime = self.mtime.max(now);
+        self.thread.fill(offset);
+        Ok(block)
+    }
+
+    /// Whether a log may begin to fill its holes, if it has some: it is sealed, and no log fills any.
+    pub(crate) fn is_threadable(&self) -> bool
+        ensures { result ≡ is_threadable self.now.state self.now.thread }
+    {
+        match self.state {
+            State::Sealed => !self.thread.is_threaded(),
+            State::Free | State::Open | State::Prefree => false,
+        }
+    }
+
+    /// A log is to fill its holes. Answers false where it has none.
+    pub(crate) fn thread(&mut self, log: u32) -> bool
+        requires { is_threadable self.old.state self.old.thread ≡ true }
+        ensures { HasThreadedSegment result log self.old self.new }
+    {
+        self.thread.begin(log, &self.valid)
+    }
+
+    /// No log fills its holes any more.
+    pub(crate) fn unthread(&mut self)
+        ensures { self.new ≡ with_thread self.old (ended self.old.thread) }
+    {
+        self.thread.end();
+    }
+
+    /// A checkpoint is complete that marks its valid blocks.
+    pub(crate) fn keep(&mut self)
+        ensures { self.new ≡ with_thread self.old (keeping self.old.summaries self.old.thread) }
+    {
+        self.thread.keep(&self.valid);
+    }
+
     /// Takes back one of its valid blocks, which is valid no more. A sealed segment that has no valid block left is retired.
     pub(crate) fn release(&mut self, block: B) -> Released
         requires address { 0 < B.address_of block }
@@ -156,6 +233,7 @@ impl<B: Block + Drop> Body<B> {
         self.blocks.put(offset as usize, block);
         let (state, released) = fate_of(self.state, self.valid.count());
         self.state = state;
+        end_retired(&mut self.thread, released);
         released
     }
 
@@ -165,6 +243,7 @@ impl<B: Block + Drop> Body<B> {
     {
         let (state, released) = fate_of(self.state, self.valid.count());
         self.state = state;
+        end_retired(&mut self.thread, released);
         released
     }
 
@@ -232,5 +311,15 @@ fn fate_of(state: State, valid: u32) -> (State, Released)
         (State::Prefree, Released::Retired)
     } else {
         (state, Released::Kept)
+    }
+}
+
+// Ends the thread of a segment that is retired.
+fn end_retired(thread: &mut Threading, released: Released)
+    ensures { thread.new ≡ thread_left released thread.old }
+{
+    match released {
+        Released::Kept => {}
+        Released::Retired => thread.end(),
     }
 }

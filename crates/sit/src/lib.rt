@@ -9,6 +9,7 @@ mod body;
 pub mod loading;
 pub mod room;
 pub mod segment;
+mod thread;
 mod valid;
 
 pub use loading::Loading;

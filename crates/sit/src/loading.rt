@@ -11,10 +11,11 @@ use crate::blocks::Blocks;
 use crate::body::Body;
 use crate::room::Room;
 use crate::segment::SegmentState;
+use crate::thread::Threading;
 use crate::valid::ValidBlocks;
-use books::{Books, Permit, SegmentAccount};
 use device::Block;
 use geometry::{Mark, Owner, Shape, State};
+use rights_books::{Books, Permit, SegmentAccount};
 use std::marker::Model;
 use tickets::Ticket;
 use words::{FreeSlip, OpenSlip, Standing, Words};
@@ -29,6 +30,7 @@ pub struct Loading<B: Block + Drop> {
     left: u32,
     blocks: Blocks<B>,
     valid: ValidBlocks,
+    thread: Threading,
     account: SegmentAccount,
 }
 
@@ -39,7 +41,7 @@ impl<B: Block + Drop> Model for Loading<B> {
 
     ghost view = { λ s. record { shape = s.shape; number = s.number; book = s.account.book; left = s.left; summaries = s.valid; contents = s.blocks.contents; failed = s.blocks.failed } };
 
-    ghost invariant = { λ s. IsLoading s.shape s.number s.left s.blocks s.valid s.account };
+    ghost invariant = { λ s. IsLoading s.shape s.number s.left s.blocks s.valid s.thread s.account };
 }
 
 impl<B: Block + Drop> Room<B> {
@@ -48,13 +50,14 @@ impl<B: Block + Drop> Room<B> {
         requires account { account ≡ record { book = account.book; segment = self.number; marks = [] } }
         ensures { result ≡ record { shape = self.shape; number = self.number; book = account.book; left = segment_blocks self.shape; summaries = replicate (segment_blocks self.shape) None; contents = replicate (segment_blocks self.shape) []; failed = 0 } }
     {
-        let (shape, number, blocks, valid) = self.into_parts();
+        let (shape, number, blocks, valid, thread) = self.into_parts();
         Loading {
             shape,
             number,
             left: shape.segment_blocks(),
             blocks,
             valid,
+            thread,
             account,
         }
     }
@@ -116,8 +119,10 @@ impl<B: Block + Drop> Loading<B> {
             left: _,
             blocks,
             valid,
+            mut thread,
             account,
         } = self;
+        thread.keep(&valid);
         let body = Body {
             shape,
             number,
@@ -126,6 +131,7 @@ impl<B: Block + Drop> Loading<B> {
             valid,
             mtime,
             next,
+            thread,
         };
         (body, account)
     }

@@ -9,10 +9,11 @@ ghost use Rattle.words.specs.Claims.{fresh_life};
 use crate::blocks::Blocks;
 use crate::body::Body;
 use crate::segment::SegmentState;
+use crate::thread::Threading;
 use crate::valid::ValidBlocks;
-use books::SegmentAccount;
 use device::Block;
 use geometry::{Error, Geometry, Shape, State};
+use rights_books::SegmentAccount;
 use std::alloc::Global;
 use std::marker::Model;
 use words::Standing;
@@ -25,6 +26,7 @@ pub struct Room<B: Block + Drop> {
     number: u32,
     blocks: Blocks<B>,
     valid: ValidBlocks,
+    thread: Threading,
 }
 
 impl<B: Block + Drop> Model for Room<B> {
@@ -34,7 +36,7 @@ impl<B: Block + Drop> Model for Room<B> {
 
     ghost view = { λ r. record { shape = r.shape; number = r.number } };
 
-    ghost invariant = { λ r. IsRoom (record { shape = r.shape; number = r.number }) r.blocks r.valid };
+    ghost invariant = { λ r. IsRoom (record { shape = r.shape; number = r.number }) r.blocks r.valid r.thread };
 }
 
 impl<B: Block + Drop> Room<B> {
@@ -56,6 +58,7 @@ impl<B: Block + Drop> Room<B> {
             number,
             blocks: Blocks::new(alloc, first, shape.block_bytes(), count)?,
             valid: ValidBlocks::new(alloc, count)?,
+            thread: Threading::new(alloc, count)?,
         })
     }
 
@@ -87,11 +90,17 @@ impl<B: Block + Drop> Room<B> {
     }
 
     /// Its parts: none of its blocks is there, and none is valid.
-    pub(crate) fn into_parts(self) -> (Shape, u32, Blocks<B>, ValidBlocks)
+    pub(crate) fn into_parts(self) -> (Shape, u32, Blocks<B>, ValidBlocks, Threading)
         ensures whose { (result.0 ≡ self.shape) × (result.1 ≡ self.number) }
-        ensures room { IsRoom self result.2 result.3 }
+        ensures room { IsRoom self result.2 result.3 result.4 }
     {
-        (self.shape, self.number, self.blocks, self.valid)
+        (
+            self.shape,
+            self.number,
+            self.blocks,
+            self.valid,
+            self.thread,
+        )
     }
 
     // The blocks of the segment.
@@ -114,6 +123,7 @@ impl<B: Block + Drop> Room<B> {
             valid: self.valid,
             mtime: 0,
             next: 0,
+            thread: self.thread,
         }
     }
 }

@@ -1,5 +1,5 @@
 //! One segment, as it lies in its lock.
-ghost use Rattle.std.specs.Prelude.{◌≡◌, ℕ, List, ◌+◌, ◌<◌, ◌≤◌, Some, None, ◌∷◌, ◌++◌, map, length, slice_index_or, MatchOption, OnOk, OnErr, IfOk, IfErr, vec_len, vec_capacity};
+ghost use Rattle.std.specs.Prelude.{◌≡◌, ℕ, List, ◌+◌, ◌<◌, ◌≤◌, Some, None, true, false, ◌∷◌, ◌++◌, map, length, slice_index_or, MatchOption, OnOk, OnErr, IfOk, IfErr, IfSome, vec_len, vec_capacity};
 ghost use Rattle.geometry.specs.declared.state.State.TheVariants.{Free, Open, Sealed, Prefree};
 ghost use Rattle.geometry.specs.declared.error.Error.TheVariants.{Device};
 ghost use Rattle.geometry.specs.Shape.{block_bytes, segment_blocks};
@@ -7,18 +7,20 @@ ghost use Rattle.geometry.specs.Address.{address_of, segment_of, offset_of};
 ghost use Rattle.geometry.specs.Owner.{IsOwner};
 ghost use Rattle.geometry.specs.Mark.{same_mark};
 ghost use Rattle.device.specs.Parts.{IsBlockRun};
-ghost use Rattle.books.specs.Lists.{times, without};
+ghost use Rattle.rights_books.specs.Lists.{times, without};
 ghost use Rattle.words.specs.Claims.{times as pins_on};
 ghost use Rattle.words.specs.Steps.{pins_with};
 ghost use Rattle.words.specs.Tokens.{IsOpened, IsSealed, IsFreed, IsKept};
 ghost use Rattle.sit.specs.Summaries.{count_of};
 ghost use Rattle.sit.specs.NextValid.{IsNextValid};
+ghost use Rattle.geometry.specs.Segment.{IsHole};
+ghost use Rattle.sit.specs.Thread.{ended, keeping, IsNextHole};
 ghost use Rattle.sit.specs.declared.segment.Released.TheVariants.{Retired};
 
 use crate::body::Body;
-use books::{Audit, Books, FileAccount, Permit, SegmentAccount};
 use device::Block;
 use geometry::{Error, Mark, Owner, State};
+use rights_books::{Audit, Books, FileAccount, Permit, SegmentAccount};
 use std::marker::Model;
 use tickets::Ticket;
 use words::{FreeSlip, OpenSlip, Seat, Standing, StoredOpenSlip, Words};
@@ -26,7 +28,8 @@ use words::{FreeSlip, OpenSlip, Seat, Standing, StoredOpenSlip, Words};
 /// One segment in its lock (Linux `filesystems/f2fs`, segment information table and segment summary area). The law, whenever
 /// the lock is free: a block's bit is set exactly where the block is not at home; each set bit has one ticket out, whose
 /// owner the summary names; the count is that of the set bits; an open segment has a next place, and no valid block at or
-/// past it; a sealed one has some valid block; a retired or free one has none; and its state is that of its word.
+/// past it; a sealed one has some valid block; a retired or free one has none; its state is that of its word; and each hole that
+/// a log is to fill is neither valid nor in the last completed checkpoint, and only a sealed segment has some.
 #[derive(Drop)]
 pub struct SegmentState<B: Block + Drop> {
     pub(crate) body: Body<B>,
@@ -64,14 +67,17 @@ pub struct SegmentRow {
     pub valid: u32,
     /// The largest time of an append.
     pub mtime: u64,
+    /// Whether a log fills its holes.
+    pub threaded: bool,
 }
 
 impl<B: Block + Drop> SegmentState<B> {
     ghost use Rattle.sums.specs.Weights.{SameItems};
     ghost use Rattle.sums.specs.Weights.{weigh};
-    ghost use Rattle.books.specs.Weights.{segment_copy, past};
+    ghost use Rattle.rights_books.specs.Weights.{segment_copy, past};
     ghost use Rattle.sit.specs.Learned.{HasLearned};
-    ghost use Rattle.sit.specs.Segment.{IsFitting, placed, cleared, entered, marks_of, HasPlaced, HasSpoiled};
+    ghost use Rattle.sit.specs.Segment.{IsFitting, fill_of, placed, threaded, cleared, entered, marks_of, HasPlaced, HasSpoiled, HasSpoiledAt};
+    ghost use Rattle.sit.specs.Threaded.{with_thread, HasThreaded, HasFilled, HasMissed};
     ghost use Rattle.sit.specs.Registered.{AreItsBooks, IsSameBook, HasLivedOn, HasStood, post_of, slip_of, slip_after};
     ghost use Rattle.sit.specs.Released.{HasReleased};
     ghost use Rattle.sit.specs.Pinned.{HasBlockIn, HasBeenPinned};
@@ -199,6 +205,114 @@ impl<B: Block + Drop> SegmentState<B> {
         let claimed = books.mark(&mut self.account, permit, Mark { address, owner });
         seal_full(words, &mut self.standing, slip, self.body.state());
         Ok(Ticket::new(claimed, block))
+    }
+
+    /// A log begins to fill its holes: the blocks that are neither valid nor in the last completed checkpoint (threaded logging:
+    /// Rosenblum and Ousterhout 1991; Linux `filesystems/f2fs`). Answers true exactly where the segment is sealed, no log fills
+    /// its holes, this call's own load showed no pin, and there is a hole. So a block is placed again without a new incarnation
+    /// only if it was a hole when no reader held the segment.
+    pub fn thread(&mut self, words: &Words, log: u32) -> bool
+        requires words { words.now.table ≡ self.old.table }
+        ensures threaded { HasThreaded result log self.old self.new }
+        ensures book { IsSameBook self.old self.new }
+    {
+        if !self.body.is_threadable() {
+            return false;
+        }
+        if words.load_pins(&mut self.standing) > 0 {
+            return false;
+        }
+        self.body.thread(log)
+    }
+
+    /// Writes the block in the next hole that a log fills, the first one, and gives the block's ticket, which is in the permit's
+    /// hand from then on. The segment stays sealed, in its incarnation; the log's thread ends with its last hole. Answers `None`
+    /// where the log fills no holes of the segment. The only error is Device: then the device has counted a failure, the block
+    /// holds any bytes, nothing is marked and the hole stays.
+    pub fn place_threaded(
+        &mut self,
+        books: &Books,
+        permit: &mut Permit,
+        log: u32,
+        owner: Owner,
+        now: u64,
+        bytes: &[u8],
+    ) -> Result<Option<Ticket<B>>, Error>
+        requires books { AreItsBooks books.now self.old }
+        requires permit { permit.old.book ≡ self.old.book }
+        requires owner { IsOwner owner }
+        requires bytes { length bytes.now ≡ block_bytes self.old.segment.shape }
+        ensures filled { IfOk result (λ found. MatchOption found ((self.new ≡ self.old) × IsNextHole self.old.segment.thread log None) (λ ticket. HasFilled log owner now bytes.now self.old self.new ticket)) }
+        ensures life { post_of self.new ≡ post_of self.old }
+        ensures marks { IfOk result (λ found. IfSome found (λ ticket. SameItems (ticket.mark ∷ marks_of self.old.segment) (marks_of self.new.segment))) }
+        ensures blocks { IfOk result (λ found. IfSome found (λ ticket. FollowsBlocks (λ blocks. changed blocks ticket.mark.address ticket.content) self.old.segment self.new.segment)) }
+        ensures hand { IfOk result (λ found. MatchOption found (permit.new ≡ permit.old) (λ ticket. permit.new ≡ record permit.old { tickets = ticket.mark ∷ permit.old.tickets })) }
+        ensures book { IsSameBook self.old self.new }
+        ensures error { IfErr result (λ error. error ≡ Device) }
+        ensures failure { OnErr result (self.old.segment.failed < self.new.segment.failed) }
+        ensures err { OnErr result (self.new ≡ record self.old { segment = self.new.segment }) }
+        ensures missed { OnErr result (HasMissed log self.old self.new) }
+        ensures err_hand { OnErr result (permit.new ≡ permit.old) }
+    {
+        match self.body.next_hole(log) {
+            None => Ok(None),
+            Some(offset) => match self.fill(books, permit, offset, owner, now, bytes) {
+                Ok(ticket) => Ok(Some(ticket)),
+                Err(error) => Err(error),
+            },
+        }
+    }
+
+    // Writes the block in a hole.
+    fn fill(
+        &mut self,
+        books: &Books,
+        permit: &mut Permit,
+        offset: u32,
+        owner: Owner,
+        now: u64,
+        bytes: &[u8],
+    ) -> Result<Ticket<B>, Error>
+        requires books { AreItsBooks books.now self.old }
+        requires permit { permit.old.book ≡ self.old.book }
+        requires hole { slice_index_or self.old.segment.thread.holes offset false ≡ true }
+        requires owner { IsOwner owner }
+        requires bytes { length bytes.now ≡ block_bytes self.old.segment.shape }
+        ensures within { offset < segment_blocks self.old.segment.shape }
+        ensures sealed { self.old.segment.state ≡ Sealed }
+        ensures hole { IsHole (fill_of self.old.segment) (slice_index_or self.old.segment.thread.kept offset false) offset }
+        ensures mark { IfOk result (λ ticket. ticket.mark ≡ record { address = address_of self.old.segment.shape self.old.segment.number offset; owner = owner }) }
+        ensures content { IfOk result (λ ticket. ticket.content ≡ bytes.now) }
+        ensures segment { OnOk result (self.new.segment ≡ threaded self.old.segment offset owner now self.new.segment.failed) }
+        ensures life { post_of self.new ≡ post_of self.old }
+        ensures marks { IfOk result (λ ticket. SameItems (ticket.mark ∷ marks_of self.old.segment) (marks_of self.new.segment)) }
+        ensures blocks { IfOk result (λ ticket. FollowsBlocks (λ blocks. changed blocks ticket.mark.address ticket.content) self.old.segment self.new.segment) }
+        ensures hand { IfOk result (λ ticket. permit.new ≡ record permit.old { tickets = ticket.mark ∷ permit.old.tickets }) }
+        ensures book { IsSameBook self.old self.new }
+        ensures error { IfErr result (λ error. error ≡ Device) }
+        ensures failure { OnErr result (self.old.segment.failed < self.new.segment.failed) }
+        ensures err { OnErr result (self.new ≡ record self.old { segment = self.new.segment }) }
+        ensures spoiled { OnErr result (HasSpoiledAt offset self.old.segment self.new.segment) }
+        ensures err_hand { OnErr result (permit.new ≡ permit.old) }
+    {
+        let block = self.body.fill(offset, owner, now, bytes)?;
+        let address = block.address();
+        let claimed = books.mark(&mut self.account, permit, Mark { address, owner });
+        Ok(Ticket::new(claimed, block))
+    }
+
+    /// No log fills its holes any more.
+    pub fn unthread(&mut self)
+        ensures { self.new ≡ record self.old { segment = with_thread self.old.segment (ended self.old.segment.thread) } }
+    {
+        self.body.unthread();
+    }
+
+    /// A checkpoint is complete that marks its valid blocks.
+    pub fn keep(&mut self)
+        ensures { self.new ≡ record self.old { segment = with_thread self.old.segment (keeping self.old.segment.summaries self.old.segment.thread) } }
+    {
+        self.body.keep();
     }
 
     /// Takes back the ticket of one of its blocks, which is in the permit's hand. That the block is valid, and named by the

@@ -1,5 +1,5 @@
 //! Which blocks of a segment are valid.
-ghost use Rattle.std.specs.Prelude.{◌≡◌, ◌+◌, ◌<◌, ◌^◌, Some, None, true, length, slice_index_or, slice_set, IfOk, IfErr, replicate};
+ghost use Rattle.std.specs.Prelude.{◌≡◌, ◌+◌, ◌<◌, ◌^◌, Some, None, true, map, length, slice_index_or, slice_set, IfOk, IfErr, replicate};
 ghost use Rattle.geometry.specs.declared.error.Error.TheVariants.{NoMemory};
 ghost use Rattle.geometry.specs.Owner.{IsOwner};
 ghost use Rattle.sit.specs.Summaries.{is_set, count_of};
@@ -43,6 +43,13 @@ impl ValidBlocks {
             summaries: vec![in alloc; Summary::NONE; blocks as usize]?,
             count: 0,
         })
+    }
+
+    /// Which blocks are valid.
+    pub(crate) fn bits(&self) -> &Bits
+        ensures { result.now ≡ map is_set self.now }
+    {
+        &self.bits
     }
 
     /// How many blocks are valid.

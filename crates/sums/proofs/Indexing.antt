@@ -1,4 +1,5 @@
--- Facts of each item of a list at its index: a push, a pop, a change, and the list turned round.
+-- A fact of each item at its index is kept where indexes stay: in a front, behind a push, beside a change; where the
+-- list is turned round, index k meets what stood at the last less k.
 use Rattle.std.proofs.Common.{◌≡◌, ℕ, ◌-◌, ◌<◌, List, [], ◌∷◌, ◌++◌, length, get_or, set, reverse, refl, sym, ap, ◌∙◌, subst, ⊎_elim, arith}
 use Rattle.std.proofs.lemmas.Bool.{cases_lt}
 use Rattle.std.proofs.lemmas.List.{length-append, length-set, get_or_append_left, get_or-append_right, get_or-set_same, get_or-set_other, get_or-reverse, length-reverse}

@@ -1,4 +1,5 @@
--- What a list weighs after a change.
+-- A list's weight is the sum over its items: so an item that goes takes its weight away, one that comes brings its own,
+-- and each weighs no more than the whole.
 use Rattle.std.proofs.Common.{◌≡◌, ℕ, zero, suc, ◌+◌, ◌<◌, ◌≤◌, List, [], ◌∷◌, ◌++◌, length, get_or, set, take, replicate, ap, ◌∙◌, arith}
 use Rattle.sums.specs.Weights.{weigh}
 

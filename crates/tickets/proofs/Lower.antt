@@ -3,10 +3,10 @@ use Rattle.std.proofs.Common.{◌+◌, ◌<◌, ◌∷◌, List, arith}
 use Rattle.geometry.specs.declared.owner.Mark.{Mark}
 use Rattle.geometry.specs.Mark.{same_mark}
 use Rattle.geometry.proofs.MarkTests.{mark_self}
-use Rattle.books.specs.declared.claim.Entry.{Entry}
-use Rattle.books.specs.Lists.{times}
-use Rattle.books.specs.Sameness.{same_entry}
-use Rattle.books.proofs.Sameness.{entry_self}
+use Rattle.rights_books.specs.declared.claim.Entry.{Entry}
+use Rattle.rights_books.specs.Lists.{times}
+use Rattle.rights_books.specs.Sameness.{same_entry}
+use Rattle.rights_books.proofs.Sameness.{entry_self}
 
 pub times_mark_first : (m : Mark) (ms : List Mark) → 0 < times same_mark m (m ∷ ms)
 times_mark_first m ms = rw (mark_self m) (omega arith)

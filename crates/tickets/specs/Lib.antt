@@ -1,2 +1,2 @@
 pub mod Placed
-pub use Rattle.books.specs.declared.claim.Entry
+pub use Rattle.rights_books.specs.declared.claim.Entry

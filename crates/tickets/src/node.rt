@@ -2,19 +2,19 @@
 ghost use Rattle.std.specs.Prelude.{◌≡◌, ◌%◌, ◌<◌, ◌∷◌};
 ghost use Rattle.geometry.specs.Mark.{same_mark};
 ghost use Rattle.geometry.specs.declared.owner.Owner.TheVariants as owner;
-ghost use Rattle.books.specs.Lists.{times, without};
-ghost use Rattle.books.specs.Sameness.{same_entry};
-ghost use Rattle.books.specs.Rules.{moved_to, with_lodged, lodged_of};
+ghost use Rattle.rights_books.specs.Lists.{times, without};
+ghost use Rattle.rights_books.specs.Sameness.{same_entry};
+ghost use Rattle.rights_books.specs.Rules.{moved_to, with_lodged, lodged_of};
 
 use crate::ticket::Ticket;
-use books::{Books, Permit, ShardAccount, Ticket as Claimed, Written};
 use device::Block;
+use rights_books::{Books, Permit, ShardAccount, Ticket as Claimed, Written};
 use std::marker::Brand;
 
 /// The one right to a taken node number, `{ number; inode; address; bytes }` to contracts: it shows the number's entry in
 /// the node address table, and the bytes of the node's block (Linux `filesystems/f2fs`, node address table). It can't be
 /// dropped or copied.
-pub use books::Token as NidToken;
+pub use rights_books::Token as NidToken;
 
 /// A node gets the block of a ticket that is in hand: its entry and its token then have the block's address and bytes. The
 /// ticket of the block before it, where it had one, comes into the hand. The new block itself is handed back, to stand in

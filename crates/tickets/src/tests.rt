@@ -1,14 +1,14 @@
 //! Threads that each mark a block of their own and give it to a node of their own, over the same books. What is asserted
 //! holds under every schedule.
 ghost use Rattle.std.specs.Prelude.{◌≡◌, [], ◌+◌, ◌*◌, ◌<◌, length, IfOk};
-ghost use Rattle.books.specs.Rules.{each_from};
-ghost use Rattle.books.specs.declared.claim.Claim.TheVariants as claim;
+ghost use Rattle.rights_books.specs.Rules.{each_from};
+ghost use Rattle.rights_books.specs.declared.claim.Claim.TheVariants as claim;
 
 mod worker;
 
-use books::{Books, Dealer, Layout, Permit, Permits, SegmentAccount, ShardAccount};
 use device::{Block, MemBlock};
 use geometry::Error;
+use rights_books::{Books, Dealer, Layout, Permit, Permits, SegmentAccount, ShardAccount};
 use std::alloc::Global;
 use std::marker::Model;
 use std::process::Abort;
@@ -85,7 +85,7 @@ struct Desk {
 
 impl Model for Desk {
     ghost use Rattle.std.specs.Prelude.{◌≡◌};
-    ghost use Rattle.books.specs.Accounts.{SegmentView};
+    ghost use Rattle.rights_books.specs.Accounts.{SegmentView};
 
     ghost Value = { SegmentView };
 

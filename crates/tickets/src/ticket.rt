@@ -1,9 +1,9 @@
 //! A ticket: the right to a valid block, with the block itself.
 ghost use Rattle.std.specs.Prelude.{◌≡◌, length, OnOk, IfOk};
 
-use books::Ticket as Claimed;
 use device::{Block, DeviceError};
 use geometry::{Mark, Owner};
+use rights_books::Ticket as Claimed;
 use std::marker::Model;
 
 /// The one right to a valid block: the block itself, and its ticket in the books, which names who has it. It can't be

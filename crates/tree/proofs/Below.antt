@@ -1,4 +1,5 @@
--- What a change below one entry does to the map of the whole node.
+-- An index of a node is an entry and an index below it, quotient and remainder by the span: so a change below one entry
+-- is a change of the whole at one index, and no other entry's.
 use Rattle.std.proofs.Common.{Bool, ◌≡◌, ◌≢◌, ℕ, ◌+◌, ◌-◌, ◌*◌, ◌/◌, ◌%◌, ◌<◌, ◌≤◌, List, set, Option, Some, None, arith, ap, sym, inl, inr}
 use Rattle.std.proofs.lemmas.List.{get_or-set_other}
 use Rattle.std.proofs.lemmas.Nat.{div-mul-add, mod-mul-add, div-add-mod'}

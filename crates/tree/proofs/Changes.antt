@@ -1,4 +1,5 @@
--- A change below one entry, as a change of the entries, and as one of their node.
+-- One entry is set, so the node weighs what it did, less the old entry and with the new: its own block is another only
+-- where a number in it changed, and then it is marked.
 use Rattle.std.proofs.Common.{◌≡◌, ℕ, suc, ◌+◌, ◌<◌, ◌||◌, Bool, true, false, not, List, [], ◌∷◌, length, get_or, set, map, Option, Some, None, is_some, is_none, refl, sym, ap, ◌∙◌, inl, inr, arith}
 use Rattle.std.proofs.Math.Seq.{map-set_same}
 use Rattle.std.proofs.lemmas.Bool.{cases_lt}

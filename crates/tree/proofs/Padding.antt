@@ -1,4 +1,5 @@
--- A list, and nothing behind it.
+-- A list with empty slots behind it has at each place what the list has there, or nothing: so a read or a write of the
+-- list is one of the slots, and more empty slots are no others.
 use Rattle.std.proofs.Common.{◌≡◌, ℕ, ◌+◌, ◌-◌, ◌<◌, ◌≤◌, List, ◌++◌, length, drop, get_or, set, replicate, Option, None, refl, subst, sym, ap, ◌∙◌, inl, inr, arith, length-append, append_assoc}
 use Rattle.std.proofs.lemmas.Bool.{cases_lt}
 use Rattle.std.proofs.lemmas.List.{length-replicate, length-drop, replicate-append-replicate, set-append_left, length-set, get_or-drop, drop-set-add, drop-append-le, get_or_append_left, get_or-append_right, get_or-replicate, get_or_past}

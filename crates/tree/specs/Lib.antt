@@ -6,3 +6,5 @@ pub mod Useful
 pub use Rattle.tickets.specs.Entry
 pub mod Padded
 pub mod Lending
+pub mod Spares
+pub mod SpareLaws

@@ -1,16 +1,21 @@
 //! The tree of nodes below an inode, of any depth: what stands at each index, and which nodes a call changes and marks.
 //! All of it is written, and proved, once for all depths.
+//! The nodes on the way to an index are made beside the tree, and come into it once nothing can be refused.
 #![tactic(auto)]
 
 mod branch;
 mod entries;
+mod planting;
 mod slots;
 mod spare;
+mod spare_entries;
 mod subtree;
 
 pub use branch::Branch;
 pub use entries::{Entries, Pruned};
+pub use planting::{Planting, SpareNodes};
 pub use slots::Slots;
 pub use spare::Spare;
+pub use spare_entries::{is_ready_in, plant_in, prepare_in};
 pub use subtree::Subtree;
 pub use tickets::{NidToken, Ticket};

@@ -43,7 +43,32 @@ fn reach<T>(stored: &mut Vec<Option<T>>, at: usize)
     }
 }
 
+// Forgets the last of some slots that have nothing, but not the first.
+fn drop_last<T>(stored: &mut Vec<Option<T>>)
+    requires some { 0 < vec_len stored.old }
+    ensures items { stored.old.items ≡ stored.new.items ++ replicate (vec_len stored.old - vec_len stored.new) None }
+    ensures some { 0 < vec_len stored.new }
+    ensures fewer { vec_len stored.new ≤ vec_len stored.old }
+    ensures room { vec_capacity stored.new ≡ vec_capacity stored.old }
+{
+    while stored.len() > 1 && stored[stored.len() - 1].is_none() {
+        if let Some(slot) = stored.pop() {
+            match slot {
+                None => {}
+                Some(_) => unreachable!(),
+            }
+        }
+    }
+}
+
 impl<T> Slots<T> {
+    /// Forgets the last of the used slots that have nothing, which changes no slot.
+    pub fn trim(&mut self)
+        ensures { self.new ≡ self.old }
+    {
+        drop_last(&mut self.stored);
+    }
+
     /// So many slots with nothing.
     pub fn new(alloc: Global, count: usize) -> Result<Slots<T>, AllocError>
         ensures { IfOk result (λ slots. slots.items ≡ replicate count None) }

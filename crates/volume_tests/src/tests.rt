@@ -3,6 +3,7 @@ ghost use Rattle.std.specs.Prelude.{◌≡◌, vec_len};
 ghost use Rattle.device.specs.Parts.{IsBlockRun};
 ghost use Rattle.geometry.specs.Shape.{block_bytes};
 
+mod crash;
 mod damage;
 mod ending;
 mod failing;
@@ -15,14 +16,14 @@ mod trips;
 use device::{Block, Fuse, MemBlock, MemMeta, Meta, Parts};
 use ending::{End, end_volume};
 use geometry::{Error, Geometry, Kind, Shape};
-use names::VolumeName;
 use open::{on_new_volume, with_mounted};
-use opening::{FilePass, Policy, Seat, Volume};
+use rights_names::VolumeName;
 use rows::{Row, run_row};
 use std::alloc::Global;
 use std::process::Abort;
 use std::sync::Wait;
 use std::test::*;
+use volume::{FilePass, Policy, Seat, Volume};
 
 // So many bytes has a block of the tiny shape.
 const BLOCK: usize = 64;
@@ -48,6 +49,8 @@ enum Step<'a> {
     NoSync(Error),
     // Lets the next call of the device fail.
     Fail(&'a Fuse),
+    // Lets a later call fail, before it is done or after it.
+    FailAt(&'a Fuse, u32, bool),
     // Does a row on a volume without files.
     Row(Row),
     // The volume has exactly these files: a number, and a byte for each block, which is full of it.
@@ -124,6 +127,7 @@ fn run_step<V: VolumeName, M: Meta, B: Block + Drop, R: Wait + Abort>(
         }
         Step::NoSync(wanted) => assert!(rt; volume.sync(rt, &[]).err() == Some(wanted)),
         Step::Fail(fuse) => assert!(rt; fuse.arm(1, false)),
+        Step::FailAt(fuse, nth, late) => assert!(rt; fuse.arm(nth, late)),
         Step::Row(row) => {
             for pass in run_row(rt, alloc, volume, row)? {
                 passes.push(pass)?;

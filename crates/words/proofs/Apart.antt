@@ -1,4 +1,5 @@
--- Two appenders together are of two segments.
+-- A segment has one standing and at most one appender for it: so two appenders that one seat has together are of two
+-- segments, or that segment would have two.
 use Rattle.std.proofs.Common.{◌≡◌, ◌≢◌, ℕ, ◌+◌, ◌<◌, ◌≤◌, List, [], ◌∷◌, sym, refl, ap, ◌∙◌, subst, arith}
 use Rattle.std.proofs.lemmas.List.{set-get_or}
 use mathlib.Core.Option.{none, some}

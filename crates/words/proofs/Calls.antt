@@ -1,4 +1,5 @@
--- What each call of a step asks, told of a seat whose claims are known.
+-- A call knows its seat's claims and the word that it is at; with these put in, what it asks of the rule is the one
+-- step that was proved for such claims.
 use Rattle.std.proofs.Common.{◌≡◌, ◌≢◌, ℕ, ◌+◌, ◌-◌, ◌%◌, ◌^◌, ◌<◌, ◌≤◌, List, [], ◌∷◌, sym, refl, subst}
 use mathlib.Core.Option.{none}
 use Rattle.atomic_table.specs.Table.{Step, step, Allows}

@@ -1,4 +1,5 @@
--- What keeps the rule of the words, step by step.
+-- A step changes one word and one seat's claims; where those are counted as before, or by as much as the word says,
+-- every other segment's part of the rule stays as it was.
 use Rattle.std.proofs.Common.{◌≡◌, ◌≢◌, ℕ, ◌+◌, ◌*◌, ◌<◌, ◌≤◌, List, length, get_or, set, sym, ◌∙◌, subst, arith, length-set, get_or-set_same, get_or-set_other}
 use mathlib.Core.Logic.{dite}
 use native.Mathlib.Decide.{ℕ_discrete}

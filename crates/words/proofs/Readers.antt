@@ -1,4 +1,5 @@
--- The steps of a reader's seat keep the rule, and so do those that it takes together with a standing.
+-- Pins on a word are the low part of it, and a reader's pin keeps its segment's incarnation: so what a reader adds,
+-- takes away or reads is what the rule counts for that segment.
 use Rattle.std.proofs.Common.{◌≡◌, ◌⊎◌, ⊎_elim, ℕ, ◌+◌, ◌-◌, ◌*◌, ◌/◌, ◌%◌, ◌^◌, ◌<◌, ◌≤◌, List, [], ◌∷◌, get_or, set, sym, refl, ap, ◌∙◌, subst, arith}
 use Rattle.std.proofs.lemmas.List.{set-get_or}
 use mathlib.Core.Logic.{dite}

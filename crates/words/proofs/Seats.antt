@@ -1,4 +1,5 @@
--- Advancing, joining and cutting seats, and the start.
+-- Cut or joined, seats hold the same claims together, and the rule sees their sums alone; the version only grows, and
+-- at the start each segment has one standing and its slip.
 use Rattle.std.proofs.Common.{◌≡◌, ◌≢◌, ℕ, zero, suc, ◌+◌, ◌%◌, ◌^◌, ◌<◌, ◌≤◌, List, [], ◌∷◌, ◌++◌, length, get_or, set, replicate, sym, refl, ap, ◌∙◌, subst, arith, length-set, get_or-set_same, get_or-set_other}
 use Rattle.std.proofs.lemmas.List.{length-replicate}
 use mathlib.Core.Logic.{dite}

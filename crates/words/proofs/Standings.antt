@@ -1,4 +1,5 @@
--- The steps of a standing keep the rule.
+-- A segment's word is its state and incarnation as its one standing has them, and its pins below: so a step of the
+-- standing changes both alike, and no other segment's part of the rule.
 use Rattle.std.proofs.Common.{◌≡◌, ◌≢◌, ℕ, ◌+◌, ◌-◌, ◌*◌, ◌%◌, ◌^◌, ◌<◌, ◌≤◌, List, [], ◌∷◌, get_or, set, sym, refl, ap, ◌∙◌, subst, arith}
 use Rattle.std.proofs.lemmas.List.{set-get_or}
 use mathlib.Core.Logic.{dite}
@@ -111,9 +112,9 @@ module _ (n : ℕ) (words : List ℕ) (views : List (List Claim)) (law : Law n w
 
 -- a standing goes on to another state in the same incarnation, and no slip and no appender comes or goes
 module _ (n : ℕ) (words : List ℕ) (views : List (List Claim)) (law : Law n words views) (id : ℕ) (l : Life) (at_id : get_elem? views id ≡ some (Stands l ∷ [])) where
-  module _ (st : State) (stamp seen loads held : ℕ) where
+  module _ (st : State) (stamp seen version_loads pin_loads held : ℕ) where
     abbrev l' : Life
-    l' = record { segment = l.segment; state = st; incarnation = l.incarnation; stamp = stamp; seen = seen; loads = loads; pins = held }
+    l' = record { segment = l.segment; state = st; incarnation = l.incarnation; stamp = stamp; seen = seen; version_loads = version_loads; pin_loads = pin_loads; pins = held }
 
     life_changed : (x : ℕ) → x + rank_of l ≡ get_or words l.segment 0 + rank_of l' → is_free st ≡ is_free l.state → is_open st ≡ is_open l.state
         → total (pins l.segment) views ≤ room_of st held → seen ≤ get_or words n 0 → IsDated st (get_or words n 0) l.incarnation stamp
@@ -173,7 +174,7 @@ module _ (n slots id : ℕ) (c : List (ℕ × Unit {0})) (l : Life) where
         Stands (life_retired l (x % 256)) ∷ [],
         keeps,
         tt,
-        life_changed n s.words s.views law id l at_id Prefree l.seen l.seen l.loads (x % 256) ((x + 256) % 2 ^ 64) (omega arith) (sym (ap is_free is)) (sym (ap is_open is)) (omega arith) f.seen (old, f.seen),
+        life_changed n s.words s.views law id l at_id Prefree l.seen l.seen l.version_loads l.pin_loads (x % 256) ((x + 256) % 2 ^ 64) (omega arith) (sym (ap is_free is)) (sym (ap is_open is)) (omega arith) f.seen (old, f.seen),
         (refl, refl, omega arith),
       )
 
@@ -188,7 +189,7 @@ module _ (n slots id : ℕ) (c : List (ℕ × Unit {0})) (l : Life) where
         Stands (life_loaded l (x % 256)) ∷ [],
         keeps,
         tt,
-        life_changed n s.words s.views law id l at_id l.state l.stamp l.seen (l.loads + 1) (x % 256) x refl refl refl (roomy l.state busy p (x % 256) l.pins few (omega arith)) f.seen f.dated,
+        life_changed n s.words s.views law id l at_id l.state l.stamp l.seen l.version_loads (l.pin_loads + 1) (x % 256) x refl refl refl (roomy l.state busy p (x % 256) l.pins few (omega arith)) f.seen f.dated,
         (refl, refl, omega arith),
       )
     where
@@ -206,7 +207,7 @@ module _ (n slots id : ℕ) (c : List (ℕ × Unit {0})) (l : Life) where
         keeps,
         tt,
         subst (λ ws. Law n ws (set s.views id (Stands (life_seen l r) ∷ []))) (set-get_or s.words l.segment 0 ∙ sym (set-get_or s.words n 0))
-            (life_changed n s.words s.views law id l at_id l.state l.stamp r (l.loads + 1) l.pins (get_or s.words l.segment 0) refl refl refl f.within (omega arith) f.dated),
+            (life_changed n s.words s.views law id l at_id l.state l.stamp r (l.version_loads + 1) l.pin_loads l.pins (get_or s.words l.segment 0) refl refl refl f.within (omega arith) f.dated),
         (refl, refl, f.seen, f.low, f.bound),
       )
 

@@ -168,7 +168,7 @@ version (Checkpoint v) = v
 -- the claims at the start
 
 abbrev pub fresh_life : ℕ → Life
-fresh_life s = record { segment = s; state = Free; incarnation = 0; stamp = 0; seen = 0; loads = 0; pins = 0 }
+fresh_life s = record { segment = s; state = Free; incarnation = 0; stamp = 0; seen = 0; version_loads = 0; pin_loads = 0; pins = 0 }
 
 -- a new reader knows of the version 1, which no completed version is below
 abbrev pub fresh_pins : Pins

@@ -15,16 +15,17 @@ use Rattle.words.specs.Claims.{times, times_at, life_of, pins_of, version_of}
 abbrev pub SeatState : Type 0
 SeatState = Me (Unit {0}) (List Claim)
 
--- A load reads a word and leaves what it found in the seat's view. These steps alone are loads, and each raises `loads` by
--- 1: `version_loaded` and `counted` of a standing, `version_seen` and `pins_counted` of a reader's seat.
+-- A load reads a word and leaves what it found in the seat's view. These steps alone are loads: `version_loaded` and `counted`
+-- of a standing, each of which raises a count of its own by 1, and `version_seen` and `pins_counted` of a reader's seat, which
+-- raise `loads` by 1.
 
 -- what a standing knows after each of its steps
 
 abbrev pub life_seen : Life → ℕ → Life
-life_seen l r = record l { seen = r; loads = l.loads + 1 }
+life_seen l r = record l { seen = r; version_loads = l.version_loads + 1 }
 
 abbrev pub life_loaded : Life → ℕ → Life
-life_loaded l p = record l { pins = p; loads = l.loads + 1 }
+life_loaded l p = record l { pins = p; pin_loads = l.pin_loads + 1 }
 
 -- a step that is no load found so many pins
 abbrev pub life_counted : Life → ℕ → Life

@@ -12,8 +12,10 @@ pub struct Life {
     pub stamp: u64,
     /// The version that the standing loaded last.
     pub seen: u64,
-    /// How often it has loaded the completed version or its segment's pins.
-    pub loads: u64,
+    /// How often it has loaded the completed version.
+    pub version_loads: u64,
+    /// How often it has loaded its segment's pins.
+    pub pin_loads: u64,
     /// The pins that the standing's last step on the segment's word found.
     pub pins: u64,
 }

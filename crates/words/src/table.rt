@@ -56,8 +56,8 @@ impl Words {
             .load::<LoadsVersion>(&mut standing.seat, word) as u32
     }
 
-    // The pins of its segment.
-    fn load_pins(&self, standing: &mut Standing) -> u32
+    /// How many seats pin a standing's segment, which is not free, as this call's load shows.
+    pub fn load_pins(&self, standing: &mut Standing) -> u32
         requires table { standing.old.table ≡ self.now.table }
         requires busy { standing.old.life.state ≢ Free }
         ensures table { standing.new.table ≡ standing.old.table }

@@ -5,14 +5,14 @@ use super::looking::{looks, taken};
 use crate::depth::Depth;
 use crate::desk::Desk;
 use crate::places::Places;
-use names::VolumeName;
-use opening::Seat;
+use rights_names::VolumeName;
 use std::alloc::Global;
 use std::fmt::Write;
 use std::io;
 use std::rt::Runtime;
 use std::sync::Wait;
 use std::time::{Duration, Instant};
+use volume::Seat;
 
 /// How many calls were done, and the time that all of them took.
 #[derive(Clone, Copy)]
@@ -47,6 +47,7 @@ pub struct Work {
     pub read: Timed,
     pub reader: Timed,
     pub look: Timed,
+    pub hole: Timed,
     pub copy: Timed,
     pub path: Timed,
     pub entries: u32,
@@ -66,10 +67,10 @@ impl Work {
     fn tell_counts(self, text: &mut String) -> io::Result<()> {
         let (append, overwrite) = (self.append.calls, self.overwrite.calls);
         let (read, reader, look) = (self.read.calls, self.reader.calls, self.look.calls);
-        let (path, entries) = (self.path.calls, self.entries);
+        let (hole, path, entries) = (self.hole.calls, self.path.calls, self.entries);
         write!(
             text,
-            "{append} appended, {overwrite} overwritten, {read} read, {reader} readers, {look} shown, {path} found of sum {entries}\n"
+            "{append} appended, {overwrite} overwritten, {read} read, {reader} readers, {look} shown, {hole} in holes, {path} found of sum {entries}\n"
         )?;
         Ok(())
     }
@@ -78,10 +79,10 @@ impl Work {
     fn tell_times(self, text: &mut String) -> io::Result<()> {
         let (append, overwrite) = (self.append.each(), self.overwrite.each());
         let (read, reader, look) = (self.read.each(), self.reader.each(), self.look.each());
-        let (path, copy) = (self.path.each(), self.copy.each());
+        let (hole, path, copy) = (self.hole.each(), self.path.each(), self.copy.each());
         write!(
             text,
-            "append {append} ns, overwrite {overwrite} ns, read {read} ns, reader {reader} ns, look {look} ns, path {path} ns, copy {copy} ns\n"
+            "append {append} ns, overwrite {overwrite} ns, read {read} ns, reader {reader} ns, look {look} ns, hole {hole} ns, path {path} ns, copy {copy} ns\n"
         )?;
         Ok(())
     }
@@ -102,6 +103,8 @@ pub fn measure_on<V: VolumeName, R: Runtime + Wait>(
     let read = reads(rt, desk, first, size)?;
     let (reader, seat) = taken(rt, desk, seat, size.readers)?;
     let look = looks(rt, desk, seat, first, size)?;
+    use_segments_up(rt, desk, first, size);
+    let hole = overwrites(rt, desk, first, size)?;
     let copy = copies(rt, alloc, size)?;
     let (path, entries) = paths(rt, size.shape, first, size.calls)?;
     Ok(Work {
@@ -110,6 +113,7 @@ pub fn measure_on<V: VolumeName, R: Runtime + Wait>(
         read,
         reader,
         look,
+        hole,
         copy,
         path,
         entries,
@@ -156,6 +160,21 @@ fn overwrites<V: VolumeName, R: Runtime + Wait>(
         calls,
         time: start.elapsed(rt)?,
     })
+}
+
+// The blocks are written again until no segment is free but those of the reserve, and their log is full.
+fn use_segments_up<V: VolumeName, R: Runtime + Wait>(
+    rt: &R,
+    desk: &mut Desk<'_, V>,
+    first: u32,
+    size: Size,
+) {
+    let mut places = Places::of(size.blocks);
+    let all = size.segments.saturating_mul(size.shape.segment_blocks());
+    for _write in 0..all {
+        let index = first.saturating_add(places.pick());
+        let _written = desk.write(rt, index, 0);
+    }
 }
 
 // The blocks are read.

@@ -1,8 +1,8 @@
 //! What is written, and how sections are chosen.
 use geometry::Shape;
-use opening::Policy;
 use std::fmt::Write;
 use std::io;
+use volume::Policy;
 
 // So many segments are not counted as room for data: those that the six logs have open, and the reserve of the pool.
 const KEPT: u32 = 10;
@@ -18,6 +18,8 @@ pub struct Size {
     pub most: u32,
     /// So many writes are counted, after as many that are not.
     pub writes: u32,
+    /// After each so many of them there is a checkpoint.
+    pub period: u32,
 }
 
 /// Which blocks are written.
@@ -27,6 +29,18 @@ pub enum Pattern {
     /// Nine writes of ten go to the first tenth of the blocks.
     HotAndCold,
 }
+
+/// Where the next block goes once no segment is free.
+#[derive(Clone, Copy, PartialEq, Eq)]
+pub enum Room {
+    /// Sections are cleaned before the log is full.
+    Cleaned,
+    /// Into the holes of used segments. Sections are cleaned where there is none.
+    Threaded,
+}
+
+/// Each way to find room.
+pub const ROOMS: [Room; 2] = [Room::Cleaned, Room::Threaded];
 
 /// Each pattern.
 pub const PATTERNS: [Pattern; 2] = [Pattern::Uniform, Pattern::HotAndCold];
@@ -42,6 +56,7 @@ pub struct Load {
     pub utilization: u32,
     pub pattern: Pattern,
     pub policy: Policy,
+    pub room: Room,
 }
 
 impl Load {
@@ -54,12 +69,9 @@ impl Load {
 
     /// Adds its name.
     pub fn tell(self, text: &mut String) -> io::Result<()> {
-        let (u, pattern, policy) = (
-            self.utilization,
-            self.pattern.name(),
-            policy_name(self.policy),
-        );
-        write!(text, "u 0.{u}, {pattern}, {policy}: ")?;
+        let (u, pattern) = (self.utilization, self.pattern.name());
+        let (policy, room) = (policy_name(self.policy), self.room.name());
+        write!(text, "u 0.{u}, {pattern}, {policy}, {room}: ")?;
         Ok(())
     }
 }
@@ -70,6 +82,16 @@ impl Pattern {
         match self {
             Pattern::Uniform => "uniform",
             Pattern::HotAndCold => "hot and cold",
+        }
+    }
+}
+
+impl Room {
+    // Its name in a line.
+    fn name(self) -> &'static str {
+        match self {
+            Room::Cleaned => "cleaned first",
+            Room::Threaded => "threaded first",
         }
     }
 }

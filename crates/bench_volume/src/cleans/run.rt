@@ -1,18 +1,23 @@
 //! A file that is written, and a volume that is cleaned where it is full.
 use super::counts::Counts;
-use super::load::{Load, Pattern};
+use super::load::{Load, Pattern, Room};
 use crate::desk::Desk;
 use device::{MemBlock, MemMeta};
 use geometry::{Error, Kind};
-use names::VolumeName;
-use opening::Volume;
 use rand_core::utils::NextWord;
 use rand_pcg::Pcg32;
+use rights_names::VolumeName;
 use std::alloc::Global;
 use std::sync::Wait;
+use volume::Volume;
 
 // So many sections are cleaned before a checkpoint: the reserve of the pool has room for what is moved, and for nodes.
 const CLEANS: u32 = 3;
+
+// So many segments are kept for cleaning and for checkpoints.
+const RESERVE: u32 = 4;
+
+const LOGS: u32 = 6;
 
 // A write that finds no room is tried so often again.
 const TRIES: u32 = 100;
@@ -63,8 +68,25 @@ impl<'a, V: VolumeName> Run<'a, V> {
         Ok(())
     }
 
-    // Writes a block. Where there is no room, sections are cleaned first.
+    // Writes a block. Where there is no room, sections are cleaned first. After each so many writes there is a checkpoint.
     fn write<R: Wait>(&mut self, rt: &R, index: u32) -> Result<(), Error> {
+        if self.load.room == Room::Cleaned && self.is_short(rt) {
+            self.make_room(rt)?;
+        }
+        self.write_somewhere(rt, index)?;
+        if self.now.checked_rem(u64::from(self.load.size.period)) == Some(0) {
+            self.write_checkpoint(rt)?;
+        }
+        Ok(())
+    }
+
+    // Whether a log is full, and no segment is free but those of the reserve.
+    fn is_short<R: Wait>(&self, rt: &R) -> bool {
+        let status = self.desk.volume().status(rt);
+        status.free <= RESERVE && status.opened < LOGS
+    }
+
+    fn write_somewhere<R: Wait>(&mut self, rt: &R, index: u32) -> Result<(), Error> {
         for _try in 0..TRIES {
             if self.write_once(rt, index)? {
                 return Ok(());
@@ -90,12 +112,32 @@ impl<'a, V: VolumeName> Run<'a, V> {
     // Cleans some sections, and writes a checkpoint, which frees their segments.
     fn make_room<R: Wait>(&mut self, rt: &R) -> Result<(), Error> {
         for _clean in 0..CLEANS {
-            match self.desk.volume().clean(rt, self.load.policy, self.now) {
-                Ok(cleaned) => self.counts.clean(&cleaned),
-                Err(Error::NoSpace) => {}
-                Err(error) => return Err(error),
-            }
+            self.clean(rt)?;
         }
+        self.sync(rt)
+    }
+
+    // Cleans a section, if there is room for what is valid in it.
+    fn clean<R: Wait>(&mut self, rt: &R) -> Result<(), Error> {
+        match self.desk.volume().clean(rt, self.load.policy, self.now) {
+            Ok(cleaned) => self.counts.clean(&cleaned),
+            Err(Error::NoSpace) => {}
+            Err(error) => return Err(error),
+        }
+        Ok(())
+    }
+
+    // Writes a checkpoint. Where data fills the holes of segments of nodes, these do not come free, and each checkpoint takes of
+    // the reserve for its nodes: so a section is cleaned first where the reserve is not full.
+    fn write_checkpoint<R: Wait>(&mut self, rt: &R) -> Result<(), Error> {
+        if self.desk.volume().status(rt).free < RESERVE {
+            self.clean(rt)?;
+        }
+        self.sync(rt)
+    }
+
+    // Writes a checkpoint, which frees retired segments.
+    fn sync<R: Wait>(&self, rt: &R) -> Result<(), Error> {
         let _stored = self.desk.volume().sync(rt, &[])?;
         Ok(())
     }

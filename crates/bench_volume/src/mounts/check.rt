@@ -2,10 +2,10 @@
 use crate::fault::Fault;
 use device::MemDevice;
 use image::Image;
+use packs_format::ReadImage;
 use std::alloc::Global;
 use std::rt::Runtime;
 use std::time::{Duration, Instant};
-use tables::ReadImage;
 
 /// How many nodes and blocks an image has, and the time of its check.
 #[derive(Clone, Copy)]

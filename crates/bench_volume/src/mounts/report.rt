@@ -1,8 +1,8 @@
 //! What was found, and how it is told.
-use measuring::tell_time;
 use std::fmt::Write;
 use std::io;
 use std::time::Duration;
+use test_support::tell_time;
 
 /// How many nodes and blocks the image has, how many blocks the mounted volume has, and the times of the check and the mount.
 #[derive(Clone, Copy)]

@@ -3,10 +3,10 @@ use super::Size;
 use crate::desk::Desk;
 use device::{MemBlock, MemMeta};
 use geometry::{Error, Kind};
-use names::VolumeName;
-use opening::{FilePass, Volume};
+use rights_names::VolumeName;
 use std::alloc::Global;
 use std::sync::Wait;
+use volume::{FilePass, Volume};
 
 /// Makes the files of a new volume, and answers their passes.
 pub fn make_files<V: VolumeName, R: Wait>(

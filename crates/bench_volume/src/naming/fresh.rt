@@ -1,19 +1,19 @@
 //! A new volume.
 ghost use Rattle.std.specs.Prelude.{◌≡◌};
-ghost use Rattle.volume_names.specs.Picked.{HaveNames};
+ghost use Rattle.volume.specs.Picked.{HaveNames};
 
 use crate::fault::Fault;
 use crate::found::Found;
 use crate::task::Task;
 use device::{MemBlock, MemDevice, MemMeta};
-use names::{PoolName, TurnName};
-use opening::{Formatted, Opened, format};
+use mount::{Mounted, MountedQueues, mount};
+use rights_names::{BooksOf, NumbersOf, PoolName, TablesName, TurnName, WordsOf};
 use std::alloc::Global;
 use std::marker::Brand;
 use std::rt::Runtime;
 use std::sync::Wait;
 use std::thread::Threads;
-use table_names::{BooksOf, NumbersOf, TablesName, WordsOf};
+use volume_format::format;
 
 /// Measures on a new volume, and leaves it.
 pub fn measure<R: Runtime + Threads + Wait + Sync>(
@@ -23,8 +23,12 @@ pub fn measure<R: Runtime + Threads + Wait + Sync>(
 ) -> Result<Found, Fault> {
     let geometry = task.geometry()?;
     let parts = MemDevice::new(alloc, &geometry)?.split();
-    match format(alloc, parts, geometry) {
-        Ok(formatted) => with_tables::<Brand, R>(rt, alloc, formatted, task),
+    let parts = match format(alloc, parts, geometry) {
+        Ok(parts) => parts,
+        Err(fault) => return Err(Fault::Refused(fault.error)),
+    };
+    match mount(alloc, parts) {
+        Ok(mounted) => with_tables::<Brand, R>(rt, alloc, mounted, task),
         Err(fault) => Err(Fault::Refused(fault.error)),
     }
 }
@@ -33,14 +37,14 @@ pub fn measure<R: Runtime + Threads + Wait + Sync>(
 fn with_tables<K: TablesName + Send + Sync, R: Runtime + Threads + Wait + Sync>(
     rt: &R,
     alloc: Global,
-    formatted: Formatted<MemMeta, MemBlock>,
+    mounted: Mounted<MemMeta, MemBlock>,
     task: Task,
 ) -> Result<Found, Fault>
-    requires books { formatted.tables.books ≡ K.books }
-    requires words { formatted.tables.words ≡ K.words }
-    requires geometry { formatted.tables.geometry ≡ K.geometry }
+    requires books { mounted.books ≡ K.books }
+    requires words { mounted.words ≡ K.words }
+    requires geometry { mounted.geometry ≡ K.geometry }
 {
-    match formatted.name::<BooksOf<K>, WordsOf<K>, NumbersOf<K>>() {
+    match mounted.name::<BooksOf<K>, WordsOf<K>, NumbersOf<K>>() {
         Ok(opened) => with_queues::<K, Brand, Brand, R>(rt, alloc, opened, task),
         Err(fault) => Err(Fault::Refused(fault.error)),
     }
@@ -54,13 +58,13 @@ fn with_queues<
 >(
     rt: &R,
     alloc: Global,
-    opened: Opened<BooksOf<K>, WordsOf<K>, NumbersOf<K>, MemMeta, MemBlock>,
+    opened: MountedQueues<BooksOf<K>, WordsOf<K>, NumbersOf<K>, MemMeta, MemBlock>,
     task: Task,
 ) -> Result<Found, Fault>
     requires named { HaveNames opened.queues opened.channel P.ordinary P.reserve T.turns T.key }
 {
     match opened.name::<P, T, R>(rt) {
-        Ok((volume, seats)) => task.measure(rt, alloc, volume, seats),
+        Ok((volume, seats, _)) => task.measure(rt, alloc, volume, seats),
         Err(fault) => Err(Fault::Refused(fault.error)),
     }
 }

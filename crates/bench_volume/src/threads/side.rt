@@ -5,9 +5,8 @@ use crate::depth::Depth;
 use crate::fault::Fault;
 use device::{MemBlock, MemMeta};
 use geometry::{Error, Kind};
-use jobs::run_side_by_side;
-use names::VolumeName;
-use opening::Volume;
+use program_workers::run_side_by_side;
+use rights_names::VolumeName;
 use std::alloc::Global;
 use std::fmt::Write;
 use std::io;
@@ -15,7 +14,7 @@ use std::rt::Runtime;
 use std::sync::Wait;
 use std::thread::Threads;
 use std::time::{Duration, Instant};
-use volume_names::SharedName;
+use volume::{SharedName, Volume};
 
 /// How many blocks were written first, how many calls all threads did then, and the time from the first start to the last end.
 #[derive(Clone, Copy)]

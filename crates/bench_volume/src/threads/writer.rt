@@ -6,12 +6,12 @@ use crate::desk::Desk;
 use crate::places::Places;
 use device::{MemBlock, MemMeta};
 use geometry::{Error, Kind};
-use jobs::Job;
-use names::VolumeName;
-use opening::Volume;
+use program_workers::Job;
+use rights_names::VolumeName;
 use std::alloc::Global;
 use std::io;
 use std::sync::Wait;
+use volume::Volume;
 
 /// A file of a volume, and the index of the first of its blocks.
 #[derive(Drop)]

@@ -2,21 +2,21 @@
 ghost use Rattle.std.specs.Prelude.{◌≡◌, List, OnOk};
 ghost use Rattle.geometry.specs.declared.owner.Mark.{Mark as MarkOf};
 ghost use Rattle.geometry.specs.declared.shape.Shape.TheVariants.{Tiny};
-ghost use Rattle.books.specs.declared.claim.Entry.{Entry};
+ghost use Rattle.rights_books.specs.declared.claim.Entry.{Entry};
 ghost use Rattle.tree.specs.Change.{each_marked};
 ghost use Rattle.nodes.specs.File.{IsFile, weight_of};
 ghost use Rattle.nodes.specs.Held.{AreHeld};
 
 use super::{Opened, delete, open_file, write, write_all};
 use device::MemBlock;
-use file_flush::flush_next;
-use flush::{NodeBlock, NodeWriter};
 use geometry::{Class, Error, Kind, Shape};
 use nodes::FileState;
+use nodes_walks::flush_next;
 use std::alloc::Global;
 use std::process::Abort;
 use std::test::*;
 use tickets::NidToken;
+use tree_walks::{NodeBlock, NodeWriter};
 
 // Tells of each node that is lent its class and the first number that it names, and refuses one of them.
 #[derive(Drop)]

@@ -2,9 +2,9 @@
 ghost use Rattle.std.specs.Prelude.{◌≡◌, ◌-◌, ◌/◌, ◌%◌, ◌<◌, length};
 
 use crate::{Ticket, give_block};
-use books::{Books, Permit, SegmentAccount, ShardAccount};
 use device::{Block, MemBlock};
 use geometry::{Mark, Owner};
+use rights_books::{Books, Permit, SegmentAccount, ShardAccount};
 use std::convert::AsSlice;
 use std::marker::Model;
 

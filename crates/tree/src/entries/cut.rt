@@ -31,6 +31,7 @@ impl<C: Subtree> Entries<C> {
     {
         let span = C::span(entries);
         let first = from / span;
+        self.slots.trim();
         let mut at = self.slots.end();
         while at > first {
             at -= 1;

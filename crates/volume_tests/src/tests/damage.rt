@@ -3,11 +3,11 @@ use super::image_file::{META, bytes_of, changed_device, device_of};
 use super::{BLOCK, Device, End, Left, Step, mount_again, with_mounted, with_volume};
 use device::{Block, MemBlock, MemMeta, Meta};
 use geometry::{Error, Kind};
-use sample_images::{Changes, base_file, change};
 use std::alloc::Global;
 use std::process::Abort;
 use std::sync::Wait;
 use std::test::*;
+use test_support::{Changes, base_file, change};
 
 // The last 4 bytes of the even pack, and of the odd one, which begins behind the even one.
 const EVEN_FOOTER: usize = 3_096;
@@ -91,7 +91,13 @@ fn damage_is_told_and_the_device_handed_back(rt: HostRuntime) -> Result<(), Fail
         (&[(6_668, 0x05)], Error::BadImage(4)),
         // Number 5 has a node that nothing names.
         (
-            &[(152, 1), (156, 0x0a), (6_752, 5), (6_756, 1), (6_760, 1)],
+            &[
+                (3_188, 1),
+                (3_192, 0x0a),
+                (6_752, 5),
+                (6_756, 1),
+                (6_760, 1),
+            ],
             Error::BadImage(5),
         ),
         // Two indexes have the same block.

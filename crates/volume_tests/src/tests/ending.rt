@@ -5,12 +5,12 @@ use super::{
 };
 use device::{Block, Meta};
 use geometry::{Error, Kind};
-use names::VolumeName;
-use opening::{CloseFault, Closed, FilePass, Seat, Volume};
+use rights_names::VolumeName;
 use std::alloc::Global;
 use std::process::Abort;
 use std::sync::Wait;
 use std::test::*;
+use volume::{CloseFault, Closed, FilePass, Seat, Volume};
 
 // How a volume is left.
 #[derive(Clone, Copy)]
@@ -21,6 +21,8 @@ pub(crate) enum End {
     OneOut,
     // Closed where no version is left, and then abandoned.
     Exhausted,
+    // Closed where the pack can't be written, and then abandoned.
+    Wounded,
     // Abandoned without a pass, then without a seat, and then with all.
     AbandonOneOut,
 }
@@ -38,6 +40,7 @@ pub(crate) fn end_volume<V: VolumeName, M: Meta, B: Block + Drop, R: Wait + Abor
         End::Abandon => abandon(rt, volume, seats, passes),
         End::OneOut => close_with_one_out(rt, alloc, volume, seats, passes),
         End::Exhausted => close_exhausted(rt, alloc, volume, seats, passes),
+        End::Wounded => close_wounded(rt, alloc, volume, seats, passes),
         End::AbandonOneOut => leave_twice(rt, volume, seats, passes),
     }
 }
@@ -176,6 +179,23 @@ fn close_exhausted<V: VolumeName, M: Meta, B: Block + Drop, R: Wait + Abort>(
     let (volume, seats, passes) = refuse_close(rt, volume, seats, passes, Error::Exhausted);
     assert_eq!(rt; (seats.len(), passes.len()), (64usize, 1usize));
     assert_file(rt, alloc, &volume, &passes[0], &[0x32, 0x33]).expect(rt, "a read");
+    abandon(rt, volume, seats, passes)
+}
+
+// A close is refused where the device fails in the pack's write. Nothing is changed any more then, the file can be read, and the
+// volume is abandoned.
+fn close_wounded<V: VolumeName, M: Meta, B: Block + Drop, R: Wait + Abort>(
+    rt: &R,
+    alloc: Global,
+    volume: Volume<V, M, B>,
+    seats: Vec<Seat<V>>,
+    passes: Vec<FilePass<V>>,
+) -> Left<M, B> {
+    let (volume, seats, mut passes) = refuse_close(rt, volume, seats, passes, Error::Device);
+    assert_eq!(rt; (seats.len(), passes.len()), (64usize, 1usize));
+    let refused = write(rt, alloc, &volume, &mut passes[0], 0, &[0x51]);
+    assert!(rt; refused == Err(Error::Wounded));
+    assert_file(rt, alloc, &volume, &passes[0], &[0x43, 0x42]).expect(rt, "a read");
     abandon(rt, volume, seats, passes)
 }
 

@@ -6,10 +6,10 @@ use super::image_file::device_of;
 use super::{Device, End, Step, mount_again};
 use device::{Block, DeviceError, Faulty, Fuse, MemBlock, MemMeta, Meta, Parts};
 use geometry::Error;
-use sample_images::base_file;
 use std::alloc::{AllocError, Global};
 use std::sync::Arc;
 use std::test::*;
+use test_support::base_file;
 
 // A meta area, or a block, of which a call fails where its fuse says so. A call that fails is not done. A faulty part counts its writes
 // and syncs alone: by the same fuse, this one counts its reads and leases too.
@@ -192,5 +192,21 @@ fn mount_passes_once_the_device_does_not_fail(rt: HostRuntime) -> Result<(), Fai
     let files: [(u32, &[u8]); 1] = [(1, &[0x43, 0x42, 0x44])];
     let third = mount_again(&rt, alloc, second.device, &[Step::Has(&files)], End::Close);
     assert_eq!(rt; third.opened, (4u32, 4u32));
+    Ok(())
+}
+
+// What was written behind the last checkpoint is lost with the pack.
+#[test]
+fn volume_is_wounded_by_a_close_that_writes_no_pack(rt: HostRuntime) -> Result<(), Fail> {
+    let alloc = rt.alloc();
+    let fuse = Arc::new(alloc, Fuse::new(alloc, 1)?)?;
+    let file = base_file(alloc)?;
+    let device = with_fuse(alloc, device_of(alloc, file.as_slice())?, &fuse)?;
+    // The nodes are written by the checkpoint, so the next call of the device is the pack's.
+    let steps = [Step::Write(0, 0, &[0x43]), Step::Sync, Step::Fail(&fuse)];
+    let left = mount_again(&rt, alloc, device, &steps, End::Wounded);
+    let files: [(u32, &[u8]); 1] = [(1, &[0x43, 0x42])];
+    let again = mount_again(&rt, alloc, left.device, &[Step::Has(&files)], End::Close);
+    assert_eq!(rt; again.opened, (3u32, 3u32));
     Ok(())
 }

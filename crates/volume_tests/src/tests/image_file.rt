@@ -6,8 +6,8 @@ ghost use Rattle.device.specs.Parts.{IsBlockRun};
 use super::{BLOCK, Device};
 use device::{Block, MemBlock, MemMeta, Meta, Parts};
 use geometry::Error;
-use sample_images::{Changes, change};
 use std::alloc::{AllocError, Global};
+use test_support::{Changes, change};
 
 pub(crate) const META: usize = 6_136;
 

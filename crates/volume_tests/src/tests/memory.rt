@@ -2,8 +2,8 @@
 use super::image_file::{bytes_of, device_of};
 use super::{End, mount_again, with_mounted};
 use geometry::Error;
-use sample_images::base_file;
 use std::test::*;
+use test_support::base_file;
 
 // A mount that finds no memory hands each byte back, and a second one then finds the volume. Where there is no memory for the
 // device the test ends.

@@ -1,21 +1,20 @@
 //! How a test comes to its volume, a new one or a mounted one: a function for each step, so that names are picked between them.
 ghost use Rattle.std.specs.Prelude.{◌≡◌};
 ghost use Rattle.device.specs.Parts.{IsBlockRun};
-ghost use Rattle.volume_names.specs.Picked.{HaveNames};
+ghost use Rattle.volume.specs.Picked.{HaveNames};
 
-use super::{Device, End, Left, Step, run_volume};
+use super::{BLOCK, Device, End, Left, Step, run_volume};
 use device::{Block, MemBlock, MemDevice, MemMeta, Meta};
 use geometry::{Error, Geometry};
-use mounting::{Mounted, MountedQueues, mount};
-use names::{PoolName, TurnName};
-use opening::{Formatted, Opened, format};
+use mount::{Mounted, MountedQueues, mount};
+use rights_names::{BooksOf, NumbersOf, PoolName, TablesName, TurnName, WordsOf};
 use std::alloc::Global;
 use std::marker::Brand;
 use std::process::Abort;
 use std::sync::Wait;
-use table_names::{BooksOf, NumbersOf, TablesName, WordsOf};
+use volume_format::format;
 
-// What a new volume of these numbers leaves after the steps.
+// What a new volume of these numbers leaves after the steps. Its blocks have 64 bytes.
 pub(crate) fn on_new_volume<R: Wait + Abort>(
     rt: &R,
     alloc: Global,
@@ -23,44 +22,17 @@ pub(crate) fn on_new_volume<R: Wait + Abort>(
     steps: &[Step<'_>],
     end: End,
 ) -> Result<Left<MemMeta, MemBlock>, Error> {
+    if geometry.shape.block_bytes() as usize != BLOCK {
+        return Err(Error::BadGeometry);
+    }
     let parts = MemDevice::new(alloc, &geometry)?.split();
-    match format(alloc, parts, geometry) {
-        Ok(formatted) => with_tables::<Brand, R>(rt, alloc, formatted, steps, end),
-        Err(fault) => Err(fault.error),
-    }
-}
-
-fn with_tables<K: TablesName, R: Wait + Abort>(
-    rt: &R,
-    alloc: Global,
-    formatted: Formatted<MemMeta, MemBlock>,
-    steps: &[Step<'_>],
-    end: End,
-) -> Result<Left<MemMeta, MemBlock>, Error>
-    requires books { formatted.tables.books ≡ K.books }
-    requires words { formatted.tables.words ≡ K.words }
-    requires geometry { formatted.tables.geometry ≡ K.geometry }
-{
-    match formatted.name::<BooksOf<K>, WordsOf<K>, NumbersOf<K>>() {
-        Ok(opened) => with_queues::<K, Brand, Brand, R>(rt, alloc, opened, steps, end),
-        Err(fault) => Err(fault.error),
-    }
-}
-
-fn with_queues<K: TablesName, P: PoolName, T: TurnName, R: Wait + Abort>(
-    rt: &R,
-    alloc: Global,
-    opened: Opened<BooksOf<K>, WordsOf<K>, NumbersOf<K>, MemMeta, MemBlock>,
-    steps: &[Step<'_>],
-    end: End,
-) -> Result<Left<MemMeta, MemBlock>, Error>
-    requires named { HaveNames opened.queues opened.channel P.ordinary P.reserve T.turns T.key }
-{
-    match opened.name::<P, T, R>(rt) {
-        Ok((volume, seats)) => {
-            Ok(run_volume(rt, alloc, volume, seats, Vec::new(alloc), steps, end))
-        }
-        Err(fault) => Err(fault.error),
+    let parts = match format(alloc, parts, geometry) {
+        Ok(parts) => parts,
+        Err(fault) => return Err(fault.error),
+    };
+    match with_mounted(rt, alloc, Device { parts }, steps, end) {
+        Ok(left) => Ok(left),
+        Err((_, error)) => Err(error),
     }
 }
 

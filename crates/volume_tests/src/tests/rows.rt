@@ -9,12 +9,12 @@ use super::open::on_new_volume;
 use super::{Device, End, Left, STALE, Step, read};
 use device::{Block, MemBlock, MemMeta, Meta, Parts};
 use geometry::{Error, Geometry, Kind, Shape};
-use names::VolumeName;
-use opening::{FilePass, Policy, Status, Volume};
+use rights_names::VolumeName;
 use std::alloc::Global;
 use std::process::Abort;
 use std::sync::Wait;
 use std::test::*;
+use volume::{FilePass, Policy, Status, Volume};
 
 // What is done with a new volume.
 #[derive(Clone, Copy)]
@@ -24,6 +24,7 @@ pub(crate) enum Row {
     TwoFiles,
     FirstAddresses,
     NineWrites,
+    FreedInOrder,
     FullVolume,
     RefusedWrites,
     MovedNodes,
@@ -59,6 +60,7 @@ pub(crate) fn run_row<V: VolumeName, M: Meta, B: Block + Drop, R: Wait + Abort>(
         Row::TwoFiles => files::write_two_files(rt, alloc, volume),
         Row::FirstAddresses => space::write_first_blocks(rt, alloc, volume),
         Row::NineWrites => space::write_nine_times(rt, alloc, volume),
+        Row::FreedInOrder => space::retire_two_and_go_on(rt, alloc, volume),
         Row::FullVolume => space::write_until_full(rt, alloc, volume),
         Row::RefusedWrites => refusals::write_beside(rt, alloc, volume),
         Row::MovedNodes => moves::move_two_inodes(rt, alloc, volume),

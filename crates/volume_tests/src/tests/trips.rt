@@ -3,8 +3,8 @@ use super::damage::{ODD, ODD_FOOTER, with_two_packs};
 use super::image_file::{bytes_of, device_of};
 use super::{End, Step, mount_again, with_volume};
 use geometry::{Error, Kind};
-use sample_images::change;
 use std::test::*;
+use test_support::{Changes, change, file_of_format_one};
 
 // The blocks of a file: three of its inode's, two of a direct node's, and behind a hole the first one of an indirect node's.
 const DEEP: [u8; 24] = [
@@ -72,6 +72,42 @@ fn moved_blocks_are_mounted_again(rt: HostRuntime) -> Result<(), Fail> {
     let steps = [Step::Has(&[(1, &blocks)])];
     let third = mount_again(&rt, alloc, second.device, &steps, End::Close);
     assert_eq!(rt; third.opened, (3u32, 10u32));
+    Ok(())
+}
+
+// What the next checkpoint of that volume writes: a map that finds each part of the two tables in the other slot, and a version.
+const FIRST_IN_PARTS: [(usize, u8); 11] = [
+    (32, 2),
+    (36, 0xff),
+    (37, 0xff),
+    (38, 0xff),
+    (39, 0xff),
+    (40, 0xff),
+    (41, 0xff),
+    (42, 0xff),
+    (43, 0xff),
+    (64, 4),
+    (3_096, 4),
+];
+
+// The one after it finds each part in its own slot.
+const SECOND_IN_PARTS: [(usize, u8); 3] = [(48, 2), (ODD, 5), (ODD_FOOTER, 5)];
+
+// A volume whose packs were written whole is mounted. Its checkpoints copy nothing: only the two maps and the versions change.
+#[test]
+fn volume_of_format_one_goes_on_in_parts(rt: HostRuntime) -> Result<(), Fail> {
+    let alloc = rt.alloc();
+    let mut file = file_of_format_one(alloc)?;
+    let mut device = device_of(alloc, file.as_slice())?;
+    let rows: [(u32, Changes); 2] = [(3, &FIRST_IN_PARTS), (4, &SECOND_IN_PARTS)];
+    for (version, changes) in rows {
+        let steps = [Step::Has(&[(1, &[0x41])]), Step::Sync];
+        let left = mount_again(&rt, alloc, device, &steps, End::Abandon);
+        assert_eq!(rt; left.opened, (version, 2u32));
+        change(file.as_mut_slice(), changes);
+        assert!(rt; bytes_of(alloc, &left.device)?.as_slice() == file.as_slice());
+        device = left.device;
+    }
     Ok(())
 }
 

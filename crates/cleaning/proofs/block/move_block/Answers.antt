@@ -1,3 +1,5 @@
+-- What was read off the old block is appended and put at the same index, so the file stays as it was; the ticket that
+-- comes out, which was there, names the old block and is given back.
 use Rattle.std.proofs.Common.{◌≡◌, ◌<◌, Some, ap, sym, ◌∙◌, subst, length, arith}
 use Rattle.geometry.specs.Path.{path}
 use Rattle.geometry.specs.Shape.{block_bytes}
@@ -6,9 +8,9 @@ use Rattle.nodes.specs.Owners.{owner_at}
 use Rattle.nodes.specs.Useful.{IsUseful, each_node, is_off}
 use Rattle.nodes.proofs.Files.{shows_file_of}
 use Rattle.nodes.proofs.Useful.{useful_some}
-use Rattle.file_law.specs.Law.{FileStateLaw}
-use Rattle.file_law.proofs.Lasting.{law_put}
-use Rattle.shared_files.specs.Contents.{IsStored, InHand, Serves}
+use Rattle.nodes_law.specs.Law.{FileStateLaw}
+use Rattle.nodes_law.proofs.Lasting.{law_put}
+use Rattle.file_calls.specs.Contents.{IsStored, InHand, Serves}
 use Rattle.cleaning.specs.Moves.{MovesAt}
 use Rattle.cleaning.proofs.Moving.{block_serves, block_file, block_there, block_moved, read_there, some_ticket, way_there, valid_owner}
 use Rattle.cleaning.proofs.block.move_block.Given as given

@@ -1,10 +1,12 @@
+-- The visit changes one token at most, in the file as in the hand: where it was moved its bytes stay the same, and
+-- where there was none the file and the hand are as they were.
 use Rattle.std.proofs.Common.{rules, ap, sym, ◌∙◌, subst, inl, inr}
 use Rattle.std.proofs.lemmas.Bool.{cases_Bool}
 use Rattle.geometry.specs.Shape.{block_bytes}
 use Rattle.nodes.specs.File.{weight_of}
 use Rattle.nodes.specs.Useful.{each_node}
-use Rattle.file_law.specs.Law.{FileStateLaw}
-use Rattle.shared_files.proofs.Serving.{same_file}
+use Rattle.nodes_law.specs.Law.{FileStateLaw}
+use Rattle.file_calls.proofs.Serving.{same_file}
 use Rattle.cleaning.specs.Moves.{IsMovable}
 use Rattle.cleaning.proofs.Lawful.{law_moved}
 use Rattle.cleaning.proofs.Moving.{nodes_movable, carries, fares, serves_moved, serves_stays, serves_given, given, stays_even}

@@ -1,6 +1,6 @@
 use Rattle.std.proofs.Common.{ap}
-use Rattle.claims.specs.Rules.{Ruled}
-use Rattle.books.specs.declared.claim.Layout.{Layout}
+use Rattle.rights_claims.specs.Rules.{Ruled}
+use Rattle.rights_books.specs.declared.claim.Layout.{Layout}
 use Rattle.nodes.specs.Held.{no_others}
 use Rattle.file_cells.proofs.Lodging.{lent_book, lent_all, books_again, home_again, account_kept, lodged_again}
 use Rattle.file_cells.proofs.lodged.cut_lodged.Goals as goal

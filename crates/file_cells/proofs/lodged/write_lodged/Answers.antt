@@ -1,8 +1,10 @@
+-- What is lodged is in hand for the write, which keeps hand and file in step: lodged again it is the file's, and the
+-- hand is as empty as it came.
 use Rattle.std.proofs.Common.{◌<◌, ap, sym, subst, ◌∙◌}
 use Rattle.geometry.specs.Path.{largest_length}
 use Rattle.geometry.specs.Shape.{block_bytes}
-use Rattle.claims.specs.Rules.{Ruled}
-use Rattle.books.specs.declared.claim.Layout.{Layout}
+use Rattle.rights_claims.specs.Rules.{Ruled}
+use Rattle.rights_books.specs.declared.claim.Layout.{Layout}
 use Rattle.nodes.specs.Held.{no_others}
 use Rattle.file_cells.proofs.Lodging.{lent_book, lent_all, books_again, home_again, account_kept, lodged_again}
 use Rattle.file_cells.proofs.lodged.write_lodged.Goals as goal

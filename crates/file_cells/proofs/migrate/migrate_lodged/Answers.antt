@@ -1,7 +1,9 @@
+-- What is lodged is in hand for the move, which keeps hand and file in step: lodged again it is the file's, so what was
+-- moved in the file was moved in the account.
 use Rattle.std.proofs.Common.{ap, sym, ◌∙◌}
 use Rattle.geometry.specs.Shape.{block_bytes}
-use Rattle.claims.specs.Rules.{Ruled}
-use Rattle.books.specs.declared.claim.Layout.{Layout}
+use Rattle.rights_claims.specs.Rules.{Ruled}
+use Rattle.rights_books.specs.declared.claim.Layout.{Layout}
 use Rattle.tree.proofs.Results.{if_ok, on_err}
 use Rattle.nodes.specs.File.{weight_of}
 use Rattle.nodes.specs.Held.{AreHeld, no_others}

@@ -1,3 +1,5 @@
+-- Each turn cuts one ticket or token off the file, which is in hand beside it and so can be spent: file and hand keep
+-- in step until the file has nothing more.
 use Rattle.std.proofs.Common.{ap, ◌∙◌}
 use Rattle.nodes.specs.Marks.{unchanged}
 use Rattle.nodes.proofs.Held.{held_ticket, held_token, held_same, ticket_there, ticket_spent, token_there, token_spent}

@@ -1,7 +1,7 @@
 use Rattle.std.proofs.Common.{◌≡◌, List}
 use Rattle.geometry.specs.declared.owner.Mark.{Mark}
 use Rattle.geometry.specs.Path.{node_entries}
-use Rattle.books.specs.declared.claim.Entry.{Entry}
+use Rattle.rights_books.specs.declared.claim.Entry.{Entry}
 use Rattle.nodes.specs.File.{IsFile, missing_to}
 use Rattle.nodes.specs.Lacking.{lacking_to, AreEmptyNodes}
 use Rattle.nodes.specs.Held.{AreHeldBeside, with_spares, no_others}

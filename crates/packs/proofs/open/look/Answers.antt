@@ -8,9 +8,9 @@ use Rattle.packs.proofs.open.look.Goals as goal
 pub returns-clause-found : goal.returns-clause-found
 returns-clause-found g c =
     let same = c.sync.ensures.quiet.same in
-    is_found (reading_of c.args.len) (g.M.Meta.seen c.args.meta.now) c.in_ok-first.first c.in_ok-second.second c.find.result
-    (subst (λ (l : List ℕ). HoldEnds (reading_of c.args.len) 0 l c.in_ok-first.first) same c.in_ok-first.ensures.ends)
-    (subst (λ (l : List ℕ). HoldEnds (reading_of c.args.len) 1 l c.in_ok-second.second) (c.read_ends.ensures.quiet.same ∙ same) c.in_ok-second.ensures.ends)
+    is_found (reading_of c.args.geometry.now) (g.M.Meta.seen c.args.meta.now) c.in_ok-first.first c.in_ok-second.second c.find.result
+    (subst (λ (l : List ℕ). HoldEnds (reading_of c.args.geometry.now) 0 l c.in_ok-first.first) same c.in_ok-first.ensures.ends)
+    (subst (λ (l : List ℕ). HoldEnds (reading_of c.args.geometry.now) 1 l c.in_ok-second.second) (c.read_ends.ensures.quiet.same ∙ same) c.in_ok-second.ensures.ends)
     c.find.ensures
 
 pub returns-clause-quiet : goal.returns-clause-quiet

@@ -4,12 +4,12 @@ use super::super::ending::{abandon, put_back};
 use super::{Row, with_row};
 use device::{Block, Meta};
 use geometry::{Error, Kind};
-use names::VolumeName;
-use opening::{CloseFault, FilePass, Seat, Volume};
+use rights_names::VolumeName;
 use std::alloc::Global;
 use std::process::Abort;
 use std::sync::Wait;
 use std::test::*;
+use volume::{CloseFault, FilePass, Seat, Volume};
 
 pub(crate) fn create_four<V: VolumeName, M: Meta, B: Block + Drop, R: Wait + Abort>(
     rt: &R,
@@ -28,25 +28,26 @@ pub(crate) fn create_four<V: VolumeName, M: Meta, B: Block + Drop, R: Wait + Abo
     Ok(passes)
 }
 
-// Leaves the volume once with a pass too few, once with a seat too few, and then with all of them.
+// Leaves the volume once with a pass and a seat too few, of which the pass is told, once with the seat too few, and then with
+// all of them.
 pub(crate) fn leave_twice<V: VolumeName, M: Meta, B: Block + Drop, R: Wait + Abort>(
     rt: &R,
     volume: Volume<V, M, B>,
-    seats: Vec<Seat<V>>,
+    mut seats: Vec<Seat<V>>,
     mut passes: Vec<FilePass<V>>,
 ) -> Left<M, B> {
+    let seat = seats.pop().expect(rt, "a seat");
     let pass = passes.pop().expect(rt, "a pass");
     let fault = refused(rt, volume, seats, passes);
     assert!(rt; fault.error == Error::PassesOut(1));
     let CloseFault {
         volume,
-        mut seats,
+        seats,
         mut passes,
         error: _,
     } = fault;
-    assert_eq!(rt; (seats.len(), passes.len()), (64usize, 3usize));
+    assert_eq!(rt; (seats.len(), passes.len()), (63usize, 3usize));
     put_back(rt, &mut passes, pass);
-    let seat = seats.pop().expect(rt, "a seat");
     let fault = refused(rt, volume, seats, passes);
     assert!(rt; fault.error == Error::SeatsOut(1));
     let CloseFault {

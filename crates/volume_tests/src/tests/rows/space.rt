@@ -3,12 +3,12 @@ use super::super::write;
 use super::{Row, byte_at, counts, find_full, valid, with_row};
 use device::{Block, Meta};
 use geometry::{Error, Kind};
-use names::VolumeName;
-use opening::{FilePass, Volume};
+use rights_names::VolumeName;
 use std::alloc::Global;
 use std::process::Abort;
 use std::sync::Wait;
 use std::test::*;
+use volume::{FilePass, Volume};
 
 // A block of each kind of file: 0x11 of an ordinary one, 0x22 of a directory, 0x33 of media.
 pub(crate) fn write_first_blocks<V: VolumeName, M: Meta, B: Block + Drop, R: Wait + Abort>(
@@ -39,7 +39,43 @@ pub(crate) fn write_nine_times<V: VolumeName, M: Meta, B: Block + Drop, R: Wait 
     Ok(Vec::from_array(alloc, [pass])?)
 }
 
-// One block is overwritten until the log and all segments outside of the reserve are full.
+// Overwrites the first block of a file, with the same byte, so many times.
+fn overwrite<V: VolumeName, M: Meta, B: Block + Drop, R: Wait + Abort>(
+    rt: &R,
+    alloc: Global,
+    volume: &Volume<V, M, B>,
+    pass: &mut FilePass<V>,
+    byte: u8,
+    times: u32,
+) -> Result<(), Error> {
+    for _ in 0..times {
+        write(rt, alloc, volume, pass, 0, &[byte])?;
+    }
+    Ok(())
+}
+
+// Segments 4 and 3 are retired, in this order, and are free once the next checkpoint is complete. Then a log goes on through
+// segments 10 and 12 to 15, and takes the two that came free.
+pub(crate) fn retire_two_and_go_on<V: VolumeName, M: Meta, B: Block + Drop, R: Wait + Abort>(
+    rt: &R,
+    alloc: Global,
+    volume: &Volume<V, M, B>,
+) -> Result<Vec<FilePass<V>>, Error> {
+    let mut file = volume.create(rt, Kind::File)?;
+    let mut folder = volume.create(rt, Kind::Dir)?;
+    overwrite(rt, alloc, volume, &mut file, 0x11, 9)?;
+    overwrite(rt, alloc, volume, &mut folder, 0x22, 9)?;
+    assert_eq!(rt; counts(volume.status(rt)), (8u32, 2u32, 6u32, 0u32));
+    let _stored = volume.sync(rt, &[])?;
+    assert_eq!(rt; counts(volume.status(rt)), (10u32, 0u32, 6u32, 0u32));
+    overwrite(rt, alloc, volume, &mut file, 0x11, 39)?;
+    overwrite(rt, alloc, volume, &mut file, 0x33, 1)?;
+    overwrite(rt, alloc, volume, &mut file, 0x11, 7)?;
+    overwrite(rt, alloc, volume, &mut file, 0x44, 1)?;
+    Ok(Vec::from_array(alloc, [file, folder])?)
+}
+
+// One block is overwritten until the log and all segments outside of the reserve are full, and then in the holes of the last.
 pub(crate) fn write_until_full<V: VolumeName, M: Meta, B: Block + Drop, R: Wait + Abort>(
     rt: &R,
     alloc: Global,
@@ -53,8 +89,8 @@ pub(crate) fn write_until_full<V: VolumeName, M: Meta, B: Block + Drop, R: Wait 
             Err(error) => assert!(rt; error == Error::NoSpace, "{error}"),
         }
     }
-    assert_eq!(rt; written, 56u32);
-    assert_eq!(rt; byte_at(rt, alloc, volume, &pass, 2), Some(55u8));
+    assert_eq!(rt; written, 200u32);
+    assert_eq!(rt; byte_at(rt, alloc, volume, &pass, 2), Some(199u8));
     assert_eq!(rt; counts(volume.status(rt)), (4u32, 6u32, 5u32, 1u32));
     assert_eq!(rt; valid(rt, volume)?, 1u32);
     Ok(Vec::from_array(alloc, [pass])?)
@@ -82,7 +118,18 @@ fn nine_writes_of_a_block_retire_a_segment(rt: HostRuntime) -> Result<(), Fail> 
 }
 
 #[test]
-fn full_volume_has_no_space(rt: HostRuntime) -> Result<(), Fail> {
+fn retired_segments_are_free_in_order_once_a_later_version_is_complete(
+    rt: HostRuntime,
+) -> Result<(), Fail> {
+    let parts = with_row(&rt, rt.alloc(), Row::FreedInOrder)?;
+    // The first blocks of segments 3 and 4.
+    assert_eq!(rt; find_full(&parts, 0x33), (1u32, 25u32));
+    assert_eq!(rt; find_full(&parts, 0x44), (1u32, 33u32));
+    Ok(())
+}
+
+#[test]
+fn full_volume_is_threaded(rt: HostRuntime) -> Result<(), Fail> {
     let parts = with_row(&rt, rt.alloc(), Row::FullVolume)?;
     assert_eq!(rt; parts.blocks.len(), 128usize);
     Ok(())

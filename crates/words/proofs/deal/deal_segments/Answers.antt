@@ -1,3 +1,5 @@
+-- What the seat has left are the standings and slips from the next segment on, and the readers: so each turn splits off
+-- the next segment's two, and at the end the readers are left.
 use Rattle.std.proofs.Common.{◌≡◌, ℕ, ◌<◌, ◌-◌, ◌+◌, List, [], ◌∷◌, ◌++◌, replicate, ap, sym, ◌∙◌, arith}
 use Rattle.words.specs.declared.claim.Claim.{Claim}
 use Rattle.words.specs.declared.claim.Claim.TheVariants.{Checkpoint, Stands, Slip, Reads}

@@ -2,4 +2,4 @@ use Rattle.bench_volume.proofs.naming.fresh.measure.Given as goal
 
 -- the tables that were just made, and the numbers of the volume
 abbrev pub ghosts-with_tables : goal.ghosts-with_tables
-ghosts-with_tables g a = record { books = a.formatted.tables.books; words = a.formatted.tables.words; geometry = a.formatted.tables.geometry }
+ghosts-with_tables g a = record { books = a.mounted.books; words = a.mounted.words; geometry = a.mounted.geometry }

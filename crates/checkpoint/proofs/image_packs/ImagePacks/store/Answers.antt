@@ -5,19 +5,20 @@ use Rattle.image.specs.View.{image_view}
 use Rattle.image.specs.Slots.{version_of}
 use Rattle.packs.specs.Pack.{IsSettled, Between}
 use Rattle.packs.specs.Area.{reading_of}
+use Rattle.packs.specs.Parts.{body_bytes}
 use Rattle.packs.specs.Device.{KeepsArea}
 use Rattle.packs.proofs.Crash.{settled_between}
 use Rattle.packs.proofs.Fronts.{kept_weaker}
-use Rattle.tables.proofs.Parts.{long_as_a_body}
+use Rattle.packs_format.proofs.Parts.{long_as_a_body}
 use Rattle.checkpoint.specs.Holding.{counting_body}
-use Rattle.checkpoint.proofs.Bodies.{body_version}
+use Rattle.packs_format.proofs.Bodies.{body_version}
 use Rattle.checkpoint.proofs.image_packs.ImagePacks.store.Goals as goal
 
 pub returns-in_err-body-clause-any_moment : goal.returns-in_err-body-clause-any_moment
 returns-in_err-body-clause-any_moment g c =
     let packs = c.args.self.now in
     let whole = c.requires.whole in
-    let r = reading_of packs.area.len in
+    let r = reading_of packs.area.geometry in
     let old = counting_body g.M.Meta.seen packs in
     let new = pack_body packs.geometry.shape (image_view c.args.image.now) in
     let area = g.M.Meta.seen packs.area.meta in
@@ -30,7 +31,7 @@ returns-in_err-body-clause-any_moment g c =
 pub write-requires-clause-len : goal.write-requires-clause-len
 write-requires-clause-len g c =
     let spelled = c.in_ok-body.ensures.spelled c.requires.range in
-    ap length c.as_slice.ensures.value ∙ long_as_a_body _ _ _ spelled ∙ sym c.requires.whole.size
+    ap length c.as_slice.ensures.value ∙ long_as_a_body _ _ _ spelled ∙ ap body_bytes (sym c.requires.whole.size)
 
 pub write-requires-clause-next : goal.write-requires-clause-next
 write-requires-clause-next g c =

@@ -1,8 +1,6 @@
-use Rattle.std.proofs.Common.{◌∙◌, ap}
-use Rattle.geometry.specs.declared.geometry.Geometry.{Geometry}
+use Rattle.std.proofs.Common.{◌∙◌}
 use Rattle.image.specs.View.{image_view}
-use Rattle.packs.specs.Area.{body_bytes}
-use Rattle.tables.proofs.RoundTrip.{spelled_back}
+use Rattle.packs_format.proofs.RoundTrip.{spelled_back}
 use Rattle.checkpoint.specs.Holding.{counting_body}
 use Rattle.checkpoint.proofs.Bodies.{settled_holds}
 use Rattle.checkpoint.proofs.image_packs.ImagePacks.write.Goals as goal
@@ -11,7 +9,7 @@ pub returns-clause-held : goal.returns-clause-held
 returns-clause-held g c =
     let done = c.in_ok-pack.ensures in
     settled_holds g.M.Meta.seen g.M.Meta.may_leave c.args.self.now.geometry (image_view c.args.taken.image) c.store.new.self.area (counting_body g.M.Meta.seen c.store.new.self)
-    (done.whole.size ∙ ap (λ (geometry : Geometry). body_bytes geometry) c.store.ensures.geometry)
+    (done.whole.size ∙ c.store.ensures.geometry)
     done.spelled done.whole.settled
 
 pub returns-clause-read_back : goal.returns-clause-read_back

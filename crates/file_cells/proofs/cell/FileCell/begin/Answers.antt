@@ -1,8 +1,8 @@
 use Rattle.std.proofs.Common.{◌≡◌, ◌<◌, sym, ap, subst, ◌∙◌}
 use Rattle.geometry.specs.declared.geometry.Geometry.{Geometry}
 use Rattle.geometry.specs.File.{new_file}
-use Rattle.books.specs.Accounts.{PassView}
-use Rattle.books.specs.Rules.{bare_entry}
+use Rattle.rights_books.specs.Accounts.{PassView}
+use Rattle.rights_books.specs.Rules.{bare_entry}
 use Rattle.file_cells.specs.Cell.{IsCell}
 use Rattle.file_cells.specs.Pass.{Pass}
 use Rattle.file_cells.proofs.Lodging.{same_number, cell_born, fresh_pass}

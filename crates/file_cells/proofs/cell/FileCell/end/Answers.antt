@@ -1,5 +1,5 @@
 use Rattle.std.proofs.Common.{ap, sym, subst, ◌∙◌}
-use Rattle.books.specs.Accounts.{HandView}
+use Rattle.rights_books.specs.Accounts.{HandView}
 use Rattle.nodes.specs.Held.{no_others}
 use Rattle.cleaning.specs.Contents.{InHand}
 use Rattle.file_cells.proofs.Lodging.{empty_hand}

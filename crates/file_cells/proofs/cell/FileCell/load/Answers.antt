@@ -1,5 +1,5 @@
 use Rattle.std.proofs.Common.{ap, ◌∙◌}
-use Rattle.books.specs.Accounts.{PassView}
+use Rattle.rights_books.specs.Accounts.{PassView}
 use Rattle.file_cells.proofs.Lodging.{pass_loaded}
 use Rattle.file_cells.proofs.cell.FileCell.load.Goals as goal
 

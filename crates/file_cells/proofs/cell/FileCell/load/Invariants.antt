@@ -1,4 +1,4 @@
-use Rattle.books.specs.Contents.{as_content}
+use Rattle.rights_books.specs.Contents.{as_content}
 use Rattle.nodes.specs.File.{file_of}
 use Rattle.file_cells.proofs.cell.FileCell.load.Given as goal
 

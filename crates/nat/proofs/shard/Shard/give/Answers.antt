@@ -1,3 +1,5 @@
+-- A token in hand is an entry that the shard has taken, so its slot holds the node: slot and account lose it together,
+-- and the block comes out with the ticket that was lodged.
 use Rattle.std.proofs.Common.{◌/◌, ap, sym, ◌∙◌, arith}
 use Rattle.nat.proofs.Shards.{own_nodes, read_at, stands_within, not_none, slot_spells, give_law, lodged_fits, placed_lodged}
 use Rattle.nat.proofs.shard.Shard.give.Goals as goal

@@ -1,7 +1,9 @@
+-- A token in hand is an entry that the shard has taken, so its slot holds the node, with the bytes that the token
+-- shows; nothing changes.
 use Rattle.std.proofs.Common.{◌/◌, length, ap, sym, ◌∙◌, subst, arith}
 use Rattle.std.proofs.lemmas.Result.{on_ok_weaker}
-use Rattle.books.specs.Accounts.{ShardView}
-use Rattle.books.specs.declared.claim.Entry.{Entry}
+use Rattle.rights_books.specs.Accounts.{ShardView}
+use Rattle.rights_books.specs.declared.claim.Entry.{Entry}
 use Rattle.nat.specs.Shard.{HasOwnNodes}
 use Rattle.nat.proofs.Shards.{own_nodes, read_at, stands_within, not_none, slot_spells}
 use Rattle.nat.proofs.shard.Shard.read.Goals as goal

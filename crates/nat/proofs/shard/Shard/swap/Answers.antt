@@ -1,3 +1,5 @@
+-- A token in hand is an entry that the shard has taken, so its slot holds the node: slot and account both get the new
+-- block, and the one before comes out with its ticket.
 use Rattle.std.proofs.Common.{◌/◌, ap, sym, ◌∙◌, arith}
 use Rattle.nat.proofs.Shards.{own_nodes, read_at, stands_within, not_none, slot_spells, swap_law, lodged_fits, placed_lodged, moved_spells}
 use Rattle.nat.proofs.shard.Shard.swap.Goals as goal

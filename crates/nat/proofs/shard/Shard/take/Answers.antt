@@ -1,3 +1,5 @@
+-- A number's slot tells whether it is taken, and it is this shard's: where it is clear the account takes the number and
+-- the slot the node, so both agree again.
 use Rattle.std.proofs.Common.{◌/◌, ap, sym, ◌∙◌, arith}
 use Rattle.nat.specs.Slots.{entry_of}
 use Rattle.nat.proofs.Shards.{has_place, is_taken, is_free, own_nodes, take_law, some_of, none_of, read_at}

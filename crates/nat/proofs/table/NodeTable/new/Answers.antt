@@ -1,3 +1,5 @@
+-- The accounts come in the order of their shards, so the next one's number is that of shards made; sixteen shards with
+-- nothing taken are a table with nothing taken.
 use Rattle.std.proofs.Common.{◌≡◌, [], length, ap, sym, ◌∙◌, subst, arith}
 use Rattle.std.specs.Vec.Iter.{into_iter_items}
 use Rattle.nat.specs.Shard.{ShardNodes}

@@ -1,7 +1,7 @@
 use Rattle.std.proofs.Common.{◌∙◌}
 use Rattle.std.proofs.Common.{◌∷◌}
-use Rattle.books.specs.Lists.{without}
-use Rattle.books.specs.Sameness.{same_entry}
+use Rattle.rights_books.specs.Lists.{without}
+use Rattle.rights_books.specs.Sameness.{same_entry}
 use Rattle.nat.proofs.Tables.{shard_book, home_of, set_table, swapped, still}
 use Rattle.nat.proofs.table.NodeTable.swap_ticket.Goals as goal
 

@@ -1,3 +1,5 @@
+-- While a spare is handed out the file's length stays; where none is, all at or past the length is empty, so the file
+-- may be shortened, and shows what it showed, cut.
 use Rattle.std.proofs.Common.{ap, ◌∙◌, refl, inl, inr, arith}
 use Rattle.std.proofs.lemmas.Bool.{cases_lt}
 use Rattle.nodes.specs.File.{ticket_at, inode_of, below_weight}

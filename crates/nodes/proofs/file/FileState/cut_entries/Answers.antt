@@ -1,3 +1,5 @@
+-- The ranges are cut from the last to the first, and a spare of one range is a spare of the file: where none of the
+-- four has any, nothing stands at or past the length.
 use Rattle.std.proofs.Common.{◌+◌, ◌*◌, arith}
 use Rattle.geometry.specs.Path.{inode_entries, node_entries}
 use Rattle.nodes.specs.File.{in_tickets, in_direct, in_indirect, in_double}

@@ -1,3 +1,5 @@
+-- An index falls to one of four ranges, which has at its place what the file has at the index: so the range lends the
+-- file's block, and the file stays as it was.
 use Rattle.nodes.specs.Places.{OfTickets, OfDirect, OfIndirect, OfDouble}
 use Rattle.nodes.proofs.Placing.{found_there}
 use Rattle.nodes.proofs.file.FileState.lend.Goals as goal

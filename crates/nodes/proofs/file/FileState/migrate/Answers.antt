@@ -1,3 +1,5 @@
+-- The inode's own entries are tried first, and a refusal there changes nothing: so one ticket is swapped for one of the
+-- same bytes, in the inode or below it, or no node names the block.
 use Rattle.std.proofs.Common.{◌+◌, Ok, ap, if◌then◌else◌, arith}
 use Rattle.nodes.proofs.Placing.{kept}
 use Rattle.nodes.proofs.Results.{if_ok, on_ok, on_err}

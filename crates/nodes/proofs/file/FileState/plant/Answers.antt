@@ -1,3 +1,5 @@
+-- An index falls to one of four ranges, and the spare nodes for that range go in there: tickets and names stay, and one
+-- node less is missing on the way. A range in the inode misses none.
 use Rattle.std.proofs.Common.{refl, sym, subst, ◌∙◌, arith}
 use Rattle.tree.specs.Tree.{SparesIndex}
 use Rattle.tree.specs.Laws.{no_leaf}

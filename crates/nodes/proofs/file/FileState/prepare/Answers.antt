@@ -1,3 +1,5 @@
+-- An index falls to one of four ranges, and what its way lacks is what that range lacks: so a spare made for the range
+-- is one less lacking, and a range in the inode lacks none.
 use Rattle.std.proofs.Common.{refl, arith}
 use Rattle.nodes.specs.Places.{OfDirect, OfIndirect, OfDouble}
 use Rattle.nodes.proofs.Placing.{lacked_there}

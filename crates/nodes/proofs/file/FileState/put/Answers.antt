@@ -1,3 +1,5 @@
+-- The file is made long enough before the ticket is put, so it stands within; what it showed is written at that index,
+-- and each node on the way names something now.
 use Rattle.std.proofs.Common.{◌≡◌, ap, ◌∙◌, arith}
 use Rattle.nodes.specs.File.{below_weight}
 use Rattle.nodes.proofs.Shown.{written_shows}

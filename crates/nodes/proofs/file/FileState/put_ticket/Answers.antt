@@ -1,3 +1,5 @@
+-- An index falls to one of four ranges, and no node is missing on the way in it: so the ticket is put there, and what
+-- the range changes at its place the file does at the index.
 use Rattle.std.proofs.Common.{refl, sym, ◌∙◌}
 use Rattle.nodes.specs.Places.{OfTickets, OfDirect, OfIndirect, OfDouble}
 use Rattle.nodes.proofs.Placing.{puts, missed_there}

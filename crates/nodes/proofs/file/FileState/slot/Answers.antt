@@ -1,3 +1,5 @@
+-- An index falls to one of four ranges, which has at its place what the file has at the index: so the range's address
+-- is that of the file's ticket, and the end of the index's path.
 use Rattle.nodes.specs.Places.{OfTickets, OfDirect, OfIndirect, OfDouble}
 use Rattle.nodes.proofs.Placing.{address_there}
 use Rattle.nodes.proofs.file.FileState.slot.Goals as goal

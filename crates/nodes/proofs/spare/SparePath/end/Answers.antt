@@ -1,6 +1,6 @@
 use Rattle.std.proofs.Common.{◌≡◌, Option, Some, None, refl, arith}
 use Rattle.tree.specs.declared.branch.Branch.{Branch}
-use Rattle.spares.specs.Spares.{token_weight}
+use Rattle.tree.specs.Spares.{token_weight}
 use Rattle.nodes.proofs.spare.SparePath.end.Goals as goal
 
 weightless : {C : Type 0} (node : Option (Branch C)) → token_weight (λ _. 1) node ≡ 0 → node ≡ None

@@ -1,6 +1,6 @@
 use Rattle.std.proofs.Common.{◌∙◌, arith}
 use Rattle.nodes.specs.File.{weight_of}
-use Rattle.file_flush.proofs.Flushed.{fewer_marked, held_written}
+use Rattle.nodes_walks.proofs.Flushed.{fewer_marked, held_written}
 use Rattle.nodes_tests.proofs.tests.marks.flush_all.Goals as goal
 
 pub marked-smaller : goal.marked-smaller

@@ -1,6 +1,6 @@
 use Rattle.std.proofs.Common.{◌≡◌, List, length}
 use Rattle.geometry.specs.declared.owner.Mark.{Mark}
-use Rattle.books.specs.declared.claim.Entry.{Entry}
+use Rattle.rights_books.specs.declared.claim.Entry.{Entry}
 use Rattle.tree.specs.Change.{each_marked}
 use Rattle.nodes.specs.File.{IsFile, weight_of}
 use Rattle.nodes.specs.Held.{AreHeld}

@@ -1,70 +1,72 @@
-use Rattle.std.proofs.Common.{◌≡◌, ◌-◌, List, ℕ, length, sym, ◌∙◌, ap, subst, arith}
-use Rattle.device.specs.Disk.{Torn}
-use Rattle.device.proofs.Moments.{torn_leaves, torn_moments}
+-- Planning only reads, putting writes beside the old pack and the sync leaves nothing open: so at every moment the old
+-- one is settled, and at the end the new one is staged.
+use Rattle.std.proofs.Common.{◌≡◌, ◌-◌, Bool, List, ℕ, length, sym, ◌∙◌, ap, subst, arith}
 use Rattle.image.specs.Slots.{slot_of}
-use Rattle.packs.specs.Pack.{IsSettled, IsStaged}
-use Rattle.packs.specs.Area.{slot_at, reading_of}
-use Rattle.packs.specs.Device.{IsSameArea, KeepsArea, AreSettled, body_of}
 use Rattle.packs.specs.declared.packs.Packs.{Packs}
-use Rattle.packs.proofs.Fronts.{kept_torn, kept_alone, written_moments}
-use Rattle.packs.proofs.Slots.{torn_area}
-use Rattle.packs.proofs.Steps.{body_settled, body_staged, slot_behind, area_stays}
+use Rattle.packs.specs.Area.{reading_of}
+use Rattle.packs.specs.Device.{AreStaged, IsArea, IsSameArea, body_of}
+use Rattle.packs.specs.Parts.{body_bytes, known_sides}
+use Rattle.packs.specs.Staging.{IsPlan, IsPut}
+use Rattle.packs.proofs.Fronts.{same_area}
+use Rattle.packs.proofs.Stage.{planned_moments, put_moments, synced_moments, all_staged}
+use Rattle.packs.proofs.Steps.{area_stays}
 use Rattle.packs.proofs.packs.Packs.stage.Goals as goal
 
--- the body is written to the other slot, whole or torn: the packs are settled still
-module _ {D : Type 0} (seen : D → List ℕ) (may_leave : D → List ℕ → Type 0) (packs : Packs D) (at n : ℕ) (settled : AreSettled (reading_of packs.len) seen may_leave packs (body_of (reading_of packs.len) seen packs))
-    (at_is : at ≡ slot_at packs.len (1 - slot_of packs.version)) (n_is : n ≡ packs.len) where
-  abbrev S : List ℕ → Type 0
-  S = IsSettled (reading_of packs.len) (body_of (reading_of packs.len) seen packs)
+pub returns-in_err-sides-clause-any_moment : goal.returns-in_err-sides-clause-any_moment
+returns-in_err-sides-clause-any_moment g c =
+    planned_moments g.M.Meta.seen g.M.Meta.may_leave g.M.Meta.moment g.M.Meta.left_since g.met.M.Meta.seen_is_left g.met.M.Meta.counts_now g.met.M.Meta.only_now c.args.self.now _ c.requires.settled c.plan.new.self.meta c.plan.ensures.quiet
 
-  settled_torn : (d e : List ℕ) → KeepsArea (seen packs.meta) S d → Torn at n d e → KeepsArea (seen packs.meta) S e
-  settled_torn d e =
-      kept_torn S S (seen packs.meta) d e at n (omega (arith, slot_behind packs.len (1 - slot_of packs.version), at_is))
-      (body_settled packs.len packs.version at n (body_of (reading_of packs.len) seen packs) d e at_is n_is settled.version)
+pub returns-in_err-sides-clause-same : goal.returns-in_err-sides-clause-same
+returns-in_err-sides-clause-same g c = same_area _ _ c.plan.ensures.quiet.same
 
-pub returns-in_err-write-clause-any_moment : goal.returns-in_err-write-clause-any_moment
-returns-in_err-write-clause-any_moment g c =
-    torn_moments g.M.Meta.moment g.M.Meta.left_since g.M.Meta.may_leave g.met.M.Meta.only_now _ _ _ _ _ _ c.requires.settled.left c.write.ensures.crash c.write.ensures.time (λ d is. is)
-    (settled_torn g.M.Meta.seen g.M.Meta.may_leave c.args.self.now c.slot_at-at.result (length c.args.body.now) c.requires.settled c.slot_at-at.ensures c.requires.len)
+pub put-requires-clause-area : goal.put-requires-clause-area
+put-requires-clause-area g c =
+    let p = c.args.self.now in
+    let rest = c.plan.ensures.rest in
+    let geometry = ap (λ (q : Packs g.row.M.Denot). body_bytes q.geometry) (sym rest) in
+    subst (λ (n : ℕ). IsArea n (g.M.Meta.seen c.plan.new.self.meta)) geometry (area_stays _ (g.M.Meta.seen p.meta) _ c.requires.settled.area (ap length c.plan.ensures.quiet.same))
 
-pub returns-in_err-write-clause-same : goal.returns-in_err-write-clause-same
-returns-in_err-write-clause-same g c =
-    let behind = slot_behind c.args.self.now.len (1 - slot_of c.args.self.now.version) in
-    torn_area _ _ _ _ (omega (arith, behind, c.slot_at-at.ensures)) c.write.ensures.others
+pub put-requires-clause-len : goal.put-requires-clause-len
+put-requires-clause-len g c = c.requires.len ∙ ap (λ (q : Packs g.row.M.Denot). body_bytes q.geometry) (sym c.plan.ensures.rest)
+
+pub put-requires-clause-plan : goal.put-requires-clause-plan
+put-requires-clause-plan g c =
+    subst (λ (q : Packs g.row.M.Denot). IsPlan q.geometry (slot_of q.version) (known_sides q.map) c.in_ok-sides.sides c.args.body.now (g.M.Meta.seen c.plan.new.self.meta)) (sym c.plan.ensures.rest)
+    (subst (λ (l : List ℕ). IsPlan c.args.self.now.geometry (slot_of c.args.self.now.version) (known_sides c.args.self.now.map) c.in_ok-sides.sides c.args.body.now l) (sym c.plan.ensures.quiet.same) c.in_ok-sides.ensures.plan)
+
+pub returns-in_err-put-clause-any_moment : goal.returns-in_err-put-clause-any_moment
+returns-in_err-put-clause-any_moment g c =
+    put_moments g.M.Meta.seen g.M.Meta.may_leave g.M.Meta.moment g.M.Meta.left_since g.met.M.Meta.seen_is_left g.met.M.Meta.counts_now g.met.M.Meta.only_now c.args.self.now _ c.requires.settled c.plan.new.self c.put.new.self.meta c.plan.ensures.quiet c.plan.ensures.rest c.put.ensures.any_moment
+
+pub returns-in_err-put-clause-same : goal.returns-in_err-put-clause-same
+returns-in_err-put-clause-same g c = subst (λ (l : List ℕ). IsSameArea l (g.M.Meta.seen c.put.new.self.meta)) c.plan.ensures.quiet.same c.put.ensures.ends.area
 
 pub returns-in_err-sync-clause-any_moment : goal.returns-in_err-sync-clause-any_moment
 returns-in_err-sync-clause-any_moment g c =
-    written_moments g.M.Meta.moment g.M.Meta.left_since g.M.Meta.seen g.M.Meta.may_leave g.met.M.Meta.only_now _ _ _ _ _ _ _ c.requires.settled.left c.write.ensures.crash c.write.ensures.time (λ d is. is)
-    (settled_torn g.M.Meta.seen g.M.Meta.may_leave c.args.self.now c.slot_at-at.result (length c.args.body.now) c.requires.settled c.slot_at-at.ensures c.requires.len) c.sync.ensures.quiet
+    synced_moments g.M.Meta.seen g.M.Meta.may_leave g.M.Meta.moment g.M.Meta.left_since g.met.M.Meta.seen_is_left g.met.M.Meta.counts_now g.met.M.Meta.only_now c.args.self.now _ c.requires.settled c.plan.new.self c.put.new.self.meta c.sync.new.self c.plan.ensures.quiet c.plan.ensures.rest c.put.ensures.any_moment c.sync.ensures.quiet
 
 pub returns-in_err-sync-clause-same : goal.returns-in_err-sync-clause-same
 returns-in_err-sync-clause-same g c =
-    let behind = slot_behind c.args.self.now.len (1 - slot_of c.args.self.now.version) in
-    subst (λ (l : List ℕ). IsSameArea (g.M.Meta.seen c.args.self.now.meta) l) (sym c.sync.ensures.quiet.same) (torn_area _ _ _ _ (omega (arith, behind, c.slot_at-at.ensures)) c.write.ensures.others)
+    subst (λ (l : List ℕ). IsSameArea (g.M.Meta.seen c.args.self.now.meta) l) (sym c.sync.ensures.quiet.same)
+    (subst (λ (l : List ℕ). IsSameArea l (g.M.Meta.seen c.put.new.self.meta)) c.plan.ensures.quiet.same c.put.ensures.ends.area)
 
 pub returns-clause-any_moment : goal.returns-clause-any_moment
 returns-clause-any_moment g c =
-    written_moments g.M.Meta.moment g.M.Meta.left_since g.M.Meta.seen g.M.Meta.may_leave g.met.M.Meta.only_now _ _ _ _ _ _ _ c.requires.settled.left c.write.ensures.crash c.write.ensures.time (λ d is. is)
-    (settled_torn g.M.Meta.seen g.M.Meta.may_leave c.args.self.now c.slot_at-at.result (length c.args.body.now) c.requires.settled c.slot_at-at.ensures c.requires.len) c.sync.ensures.quiet
+    synced_moments g.M.Meta.seen g.M.Meta.may_leave g.M.Meta.moment g.M.Meta.left_since g.met.M.Meta.seen_is_left g.met.M.Meta.counts_now g.met.M.Meta.only_now c.args.self.now _ c.requires.settled c.plan.new.self c.put.new.self.meta c.sync.new.self c.plan.ensures.quiet c.plan.ensures.rest c.put.ensures.any_moment c.sync.ensures.quiet
 
 pub returns-clause-same : goal.returns-clause-same
 returns-clause-same g c =
-    let behind = slot_behind c.args.self.now.len (1 - slot_of c.args.self.now.version) in
-    subst (λ (l : List ℕ). IsSameArea (g.M.Meta.seen c.args.self.now.meta) l) (sym c.sync.ensures.quiet.same) (torn_area _ _ _ _ (omega (arith, behind, c.slot_at-at.ensures)) c.write.ensures.others)
+    subst (λ (l : List ℕ). IsSameArea (g.M.Meta.seen c.args.self.now.meta) l) (sym c.sync.ensures.quiet.same)
+    (subst (λ (l : List ℕ). IsSameArea l (g.M.Meta.seen c.put.new.self.meta)) c.plan.ensures.quiet.same c.put.ensures.ends.area)
 
 pub returns-clause-staged : goal.returns-clause-staged
 returns-clause-staged g c =
-    let s = c.requires.settled in
-    let old = body_of (reading_of c.args.self.now.len) g.M.Meta.seen c.args.self.now in
-    let P = KeepsArea (g.M.Meta.seen c.args.self.now.meta) (IsSettled (reading_of c.args.self.now.len) old) in
-    let left = torn_leaves g.M.Meta.moment g.M.Meta.left_since g.M.Meta.may_leave _ _ _ _ P P s.left c.write.ensures.crash
-    (settled_torn g.M.Meta.seen g.M.Meta.may_leave c.args.self.now c.slot_at-at.result (length c.args.body.now) s c.slot_at-at.ensures c.requires.len) in
-    let seen : IsSettled (reading_of c.args.self.now.len) old (g.M.Meta.seen c.write.new.self) = (left (g.M.Meta.seen c.write.new.self) (g.met.M.Meta.seen_is_left c.write.new.self)).packs in
-    let body = body_staged c.args.self.now.len c.args.self.now.version _ old _ _ _ c.slot_at-at.ensures c.requires.len s.version s.area.long c.in_ok-write.ensures.written in
-    let staged : IsStaged (reading_of c.args.self.now.len) old c.args.body.now (g.M.Meta.seen c.write.new.self) = record { settled = seen; body = body } in
-    record {
-      area = area_stays _ _ _ s.area (ap length c.sync.ensures.quiet.same ∙ c.write.ensures.others.long);
-      version = s.version;
-      left = λ d now. kept_alone (IsStaged (reading_of c.args.self.now.len) old c.args.body.now) (g.M.Meta.seen c.sync.new.self) d (c.in_ok-sync.ensures.durable d now ∙ sym c.sync.ensures.quiet.same)
-          (subst (IsStaged (reading_of c.args.self.now.len) old c.args.body.now) (sym (c.in_ok-sync.ensures.durable d now)) staged);
-    }
+    let p = c.args.self.now in
+    let seen = g.M.Meta.seen in
+    let old = body_of (reading_of p.geometry) seen p in
+    let rest = c.put.ensures.rest ∙ ap (λ (q : Packs g.row.M.Denot). record q { meta = c.put.new.self.meta }) c.plan.ensures.rest in
+    let put = subst (λ (l : List ℕ). IsPut p.geometry (slot_of p.version) (known_sides p.map) c.in_ok-sides.sides c.args.body.now 66 l (seen c.put.new.self.meta)) c.plan.ensures.quiet.same
+    (subst (λ (q : Packs g.row.M.Denot). IsPut q.geometry (slot_of q.version) (known_sides q.map) c.in_ok-sides.sides c.args.body.now 66 (seen c.plan.new.self.meta) (seen c.put.new.self.meta)) c.plan.ensures.rest c.in_ok-put.ensures.put) in
+    let staged = all_staged seen g.M.Meta.may_leave g.M.Meta.moment g.M.Meta.left_since g.met.M.Meta.seen_is_left g.met.M.Meta.counts_now g.met.M.Meta.only_now p old c.requires.settled c.plan.new.self c.put.new.self.meta c.sync.new.self
+    c.args.body.now c.in_ok-sides.sides c.plan.ensures.quiet c.plan.ensures.rest c.put.ensures.any_moment c.requires.len c.in_ok-sides.ensures.plan put c.sync.ensures.quiet.same c.in_ok-sync.ensures.durable in
+    subst (λ (q : Packs g.row.M.Denot). AreStaged (reading_of q.geometry) seen g.M.Meta.may_leave (record q { meta = c.sync.new.self }) old c.args.body.now c.in_ok-sides.sides) (sym rest) staged

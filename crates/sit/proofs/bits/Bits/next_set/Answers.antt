@@ -1,3 +1,5 @@
+-- No word before the present one has a set bit from there on: so the first one found in it is the least of all, and
+-- after the last word there is none.
 use Rattle.std.proofs.Common.{◌+◌, ◌*◌, Some, None, length, subst, arith}
 use Rattle.std.proofs.lemmas.List.{get_or_read_under}
 use Rattle.sit.specs.Bits.{IsFirstTrue}

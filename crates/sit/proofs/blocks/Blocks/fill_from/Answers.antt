@@ -1,3 +1,5 @@
+-- The last block of the run has the address of the last place still empty: so each one that is popped comes home where
+-- it belongs, and the run is left with the blocks before.
 use Rattle.std.proofs.Common.{rules, ◌≡◌, ℕ, ◌+◌, ◌-◌, length, Vec, Global, vec_len, true, refl, sym, ap, ◌∙◌, arith}
 use Rattle.sit.proofs.Filling.{filling_begins, filling_goes_on, filling_ends, filled_contents, popped-address, popped-bytes}
 use Rattle.sit.proofs.Homes.{home_set}

@@ -1,3 +1,5 @@
+-- Only the place of the block that comes changes, and its address and length are those of that place: so the home's law
+-- holds, with the block's bytes and failures added.
 use Rattle.std.proofs.Common.{◌≡◌, ◌+◌, [], Some, None, length, get_or, set, false, arith, ap, sym, ◌∙◌}
 use Rattle.std.proofs.lemmas.List.{length-set, get_or-map, get_or-set_same}
 use Rattle.std.specs.Prelude.{is_some}

@@ -1,3 +1,5 @@
+-- Only the place of the block that leaves changes, and its address, length and bytes were those of that place: so the
+-- home's law holds, less the block's failures.
 use Rattle.std.proofs.Common.{◌≡◌, ◌+◌, [], Some, None, length, get_or, set, arith, ap, sym, ◌∙◌}
 use Rattle.std.proofs.lemmas.List.{get_or-map}
 use Rattle.std.specs.Prelude.{is_some}

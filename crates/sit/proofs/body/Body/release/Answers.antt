@@ -10,7 +10,7 @@ use Rattle.sit.proofs.body.Body.release.Given as given
 use Rattle.sit.proofs.body.Body.release.Goals as goal
 
 -- where the block is that is put back: as far from the segment's first block as its address says
-place_of : (g : given.Over) (c : goal.After-state-1 g) → (c.first.result ≤ c.address.result) × (c.address.result - c.first.result ≡ offset_of c.self.inside.shape c.address.result)
+place_of : (g : given.Over) (c : goal.After-end_retired g) → (c.first.result ≤ c.address.result) × (c.address.result - c.first.result ≡ offset_of c.self.inside.shape c.address.result)
 place_of g c =
     let s = c.self.inside in
     let view = c.self.view_is in
@@ -28,8 +28,8 @@ invariant_of-self g c =
     let within : a - c.first.result < segment_blocks s.shape = let lt = offset_of-lt s.shape a in let e = at.1 in omega arith in
     let valid : is_set (get_or s.valid (a - c.first.result) None) ≡ true = some-set _ (subst IsSome
     (sym (ap (λ o. get_or s.valid o None) (at.1 ∙ ap (offset_of s.shape) c.address.ensures) ∙ ap (λ (x : Segment). get_or x.summaries (offset_of x.shape (g.B.Block.address_of c.args.block)) None) c.self.view_is)) c.requires.valid) in
-    cleared-law _ s.blocks c.self.invariant (a - c.first.result) c.put.new.self.failed (g.B.Block.content_of c.args.block) c.clear.new.self c.put.new.self c.fate_of-state.result.0 c.fate_of-state.result.1 within valid c.clear.ensures c.put.ensures.home
-    (subst (λ n. IsFate s.state n c.fate_of-state.result.0 c.fate_of-state.result.1) c.count.ensures c.fate_of-state.ensures)
+    cleared-law _ s.blocks c.self.invariant (a - c.first.result) c.put.new.self.failed (g.B.Block.content_of c.args.block) c.clear.new.self c.put.new.self c.end_retired.new.thread c.fate_of-state.result.0 c.fate_of-state.result.1 within valid c.clear.ensures c.put.ensures.home
+    (subst (λ n. IsFate s.state n c.fate_of-state.result.0 c.fate_of-state.result.1) c.count.ensures c.fate_of-state.ensures) c.end_retired.ensures
 
 pub returns-clause-content : goal.returns-clause-content
 returns-clause-content g c =

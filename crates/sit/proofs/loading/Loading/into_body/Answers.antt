@@ -8,6 +8,6 @@ pub invariant_of-body : goal.invariant_of-body
 invariant_of-body g c =
     let s = c.self.inside in
     let left = ap (λ (v : Loaded). v.left) c.self.view_is ∙ c.requires.all in
-    loaded_law s.shape s.number c.args.mtime c.args.next c.args.state s.blocks s.valid s.account
-    (subst (λ k. IsLoading s.shape s.number k s.blocks s.valid s.account) left c.self.invariant)
-    (subst (λ (v : Loaded). IsFitting c.args.state c.args.next v.summaries) (sym c.self.view_is) c.requires.fitting)
+    loaded_law s.shape s.number c.args.mtime c.args.next c.args.state s.blocks s.valid s.thread c.keep.new.self s.account
+    (subst (λ k. IsLoading s.shape s.number k s.blocks s.valid s.thread s.account) left c.self.invariant)
+    (subst (λ (v : Loaded). IsFitting c.args.state c.args.next v.summaries) (sym c.self.view_is) c.requires.fitting) c.keep.ensures

@@ -14,7 +14,7 @@ invariant_of-self-in-Some g c =
     let m : Mark = record { address = c.address-address.result; owner = c.in-Some.owner } in
     let at = c.requires.address ∙ sym (ap (λ (v : Loaded). address_of v.shape v.number v.left) c.self.view_is) in
     let address = c.address-address.ensures in
-    is_marked s.shape s.number s.left (s.left - 1) s.blocks s.valid s.account c.self.invariant before m c.set.new.self c.mark-claimed.new.segment c.set.ensures.set (omega arith) c.mark-claimed.ensures.segment
+    is_marked s.shape s.number s.left (s.left - 1) s.blocks s.valid s.thread s.account c.self.invariant before m c.set.new.self c.mark-claimed.new.segment c.set.ensures.set (omega arith) c.mark-claimed.ensures.segment
 
 pub returns-in-None-clause-segment : goal.returns-in-None-clause-segment
 returns-in-None-clause-segment g c =

@@ -1,3 +1,5 @@
+-- The slip shows the segment to be open, so its next place is clear and within: the block there becomes valid with its
+-- mark, or the device failed, and then only its bytes are others.
 use Rattle.std.proofs.Common.{◌≡◌, ◌<◌, ℕ, List, [], ◌∷◌, None, length, get_or, ap, sym, ◌∙◌, subst, arith}
 use Rattle.geometry.specs.declared.owner.Mark.{Mark}
 use Rattle.geometry.specs.declared.state.State.{State}
@@ -64,5 +66,5 @@ returns-in_err-block-clause-err_blocks g c =
     let now = c.args.self.now.segment in
     let follows : FollowsBlocks (λ blocks. changed blocks (address_of now.shape now.number c.args.offset) bytes) now c.place.new.self =
     subst (λ (p : ℕ × Segment). FollowsBlocks (λ blocks. changed blocks (address_of p.1.shape p.1.number p.0) bytes) p.1 c.place.new.self) (λ i. (sym place i, (c.self.view_is i).segment))
-    (spoiled_blocks s.body c.place.new.self done.err.0 c.place.new.self.failed done.err.2) in
+    (spoiled_blocks s.body c.place.new.self s.body.next done.err.0 c.place.new.self.failed done.err.2) in
     let spoiled : (b : List ℕ) × FollowsBlocks (λ blocks. changed blocks (address_of now.shape now.number c.args.offset) b) now c.place.new.self = (bytes, follows) in on_err _ _ spoiled

@@ -1,3 +1,5 @@
+-- The ticket in hand is a mark of the segment's account, so the block is valid and named by its owner: block, mark and
+-- ticket go together, and what is left is in step.
 use Rattle.std.proofs.Common.{◌≡◌, ◌+◌, ℕ, List, ◌∷◌, Some, None, get_or, ap, sym, ◌∙◌, subst}
 use Rattle.geometry.specs.declared.owner.Mark.{Mark}
 use Rattle.geometry.specs.Address.{address_of, segment_of, offset_of}

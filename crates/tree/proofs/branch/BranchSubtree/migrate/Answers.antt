@@ -1,3 +1,5 @@
+-- A leaf names blocks and any other node names leaves below it: so the ticket is swapped in this node where it has the
+-- number and the address, or below it, or nothing has changed.
 use Rattle.std.proofs.Common.{Some, refl, sym, ◌∙◌}
 use Rattle.tree.specs.Change.{each_naming}
 use Rattle.tree.proofs.Changes.{branch_trades}

@@ -1,3 +1,5 @@
+-- Entries are pruned from the last to the one in which the length falls, and one that gave nothing has nothing past it:
+-- so a spare of one is one of all, and without any all past is empty.
 use Rattle.std.proofs.Common.{Bool, false, ◌≡◌, ℕ, ◌+◌, ◌*◌, ◌-◌, ◌<◌, ◌≤◌, ◌/◌, ◌%◌, None, arith, ap, ◌∙◌, inl, inr}
 use Rattle.std.proofs.lemmas.Nat.{div-add-mod', le-div}
 use Rattle.std.proofs.lemmas.Bool.{cases_lt}

@@ -1,0 +1,9 @@
+pub mod LogTable
+pub mod Cells
+pub mod Threads
+pub mod Rows
+pub mod Opening
+pub mod Rooms
+pub use Rattle.nat.specs.Taken
+pub mod Freed
+pub mod Slips

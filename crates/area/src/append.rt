@@ -1,0 +1,255 @@
+//! Appends to a log.
+ghost use Rattle.std.specs.Prelude.{◌≡◌, ◌<◌, ◌≤◌, ◌∷◌, ◌⊎◌, Some, length, MatchOption, OnOk, OnErr, IfOk, IfErr, IfSome};
+ghost use Rattle.geometry.specs.declared.error.Error.TheVariants.{Device, NoSpace};
+ghost use Rattle.geometry.specs.Shape.{block_bytes};
+ghost use Rattle.geometry.specs.Address.{address_of};
+ghost use Rattle.geometry.specs.Area.{block_count};
+ghost use Rattle.sit.specs.Segment.{placed, HasPlaced};
+ghost use Rattle.geometry.specs.Owner.{IsOwner};
+ghost use Rattle.rights_names.specs.Names.{layout_of};
+
+use crate::cells::{LogCell, SegmentCell};
+use crate::log::Log;
+use crate::main_area::MainArea;
+use device::Block;
+use geometry::{Error, Owner};
+use pool::Pool;
+use rights_books::{Books, Permit};
+use rights_names::VolumeName;
+use std::sync::Wait;
+use tickets::Ticket;
+use words::{FreeSlip, Words};
+
+/// Which free segments an append may draw on.
+#[derive(Clone, Copy, Debug, PartialEq, Eq)]
+pub enum Who {
+    /// Those of the ordinary queue.
+    Ordinary,
+    /// Those of the ordinary queue, then those of the reserve: for cleaning and for checkpoints.
+    Reserved,
+}
+
+impl<V: VolumeName> LogCell<V> {
+    // The slip of a free segment, where there is one to draw on.
+    fn take<R: Wait>(
+        &mut self,
+        rt: &R,
+        pool: &Pool<V::Words, V::Pool>,
+        who: Who,
+    ) -> Option<FreeSlip>
+        ensures words { IfSome result (λ slip. slip.table ≡ V.Words.words) }
+        ensures open { self.new.slip ≡ self.old.slip }
+    {
+        match who {
+            Who::Ordinary => pool.take_ordinary(rt, &mut self.pass),
+            Who::Reserved => pool.take_any(rt, &mut self.pass),
+        }
+    }
+
+    // Writes the next block of the log into its open segment.
+    fn append<B: Block + Drop>(
+        &mut self,
+        books: &Books,
+        words: &Words,
+        segment: &mut SegmentCell<V, B>,
+        hand: &mut Permit,
+        owner: Owner,
+        now: u64,
+        bytes: &[u8],
+    ) -> Result<Ticket<B>, Error>
+        requires books { books.now ≡ V.Books.books }
+        requires layout { V.Books.books.key ≡ layout_of V.Numbers.geometry }
+        requires words { words.now.table ≡ V.Words.words }
+        requires book { hand.old.book ≡ V.Books.books.book }
+        requires open { self.old.slip ≡ Some (record { table = V.Words.words; segment = segment.old.number }) }
+        requires owner { IsOwner owner }
+        requires bytes { length bytes.now ≡ block_bytes V.Numbers.geometry.shape }
+        ensures hand { IfOk result (λ ticket. hand.new ≡ record hand.old { tickets = ticket.mark ∷ hand.old.tickets }) }
+        ensures owner { IfOk result (λ ticket. ticket.mark.owner ≡ owner) }
+        ensures content { IfOk result (λ ticket. ticket.content ≡ bytes.now) }
+        ensures place { IfOk result (λ ticket. ticket.mark.address ≡ address_of V.Numbers.geometry.shape segment.old.number segment.old.state.segment.next) }
+        ensures placed { OnOk result (HasPlaced (placed segment.old.state.segment owner now segment.new.state.segment.failed) segment.new.state.segment) }
+        ensures low { IfOk result (λ ticket. 1 ≤ ticket.mark.address) }
+        ensures high { IfOk result (λ ticket. ticket.mark.address ≤ block_count V.Numbers.geometry) }
+        ensures err { OnErr result (hand.new ≡ hand.old) }
+        ensures error { IfErr result (λ error. error ≡ Device) }
+    {
+        segment.append(books, words, hand, &mut self.slip, owner, now, bytes)
+    }
+}
+
+impl<V: VolumeName, B: Block + Drop> MainArea<V, B> {
+    /// Writes the next block of a log, and gives its ticket, which is in hand from then on. The block lies in the log's open
+    /// segment, or in a hole of the one that it threads: an ordinary append of data that finds each queue empty threads the
+    /// first segment, in ascending order, that can be threaded.
+    ///
+    /// Answers NoSpace where the log has no place, each queue that the call may draw on was empty, and no segment can be threaded
+    /// or the append may not do so; and Device where the device failed: then the log stands at the place that it tried. After both what is in hand is as before.
+    pub fn append<R: Wait>(
+        &self,
+        rt: &R,
+        hand: &mut Permit,
+        log: Log,
+        owner: Owner,
+        now: u64,
+        bytes: &[u8],
+        who: Who,
+    ) -> Result<Ticket<B>, Error>
+        requires book { hand.old.book ≡ V.Books.books.book }
+        requires owner { IsOwner owner }
+        requires bytes { length bytes.now ≡ block_bytes V.Numbers.geometry.shape }
+        ensures hand { IfOk result (λ ticket. hand.new ≡ record hand.old { tickets = ticket.mark ∷ hand.old.tickets }) }
+        ensures owner { IfOk result (λ ticket. ticket.mark.owner ≡ owner) }
+        ensures content { IfOk result (λ ticket. ticket.content ≡ bytes.now) }
+        ensures low { IfOk result (λ ticket. 1 ≤ ticket.mark.address) }
+        ensures high { IfOk result (λ ticket. ticket.mark.address ≤ block_count V.Numbers.geometry) }
+        ensures err { OnErr result (hand.new ≡ hand.old) }
+        ensures error { IfErr result (λ error. (error ≡ Device) ⊎ (error ≡ NoSpace)) }
+    {
+        let mut cell = self.lock_log(rt, log.number());
+        if let Some(ticket) = self.fill_hole(rt, &mut *cell, hand, owner, now, bytes)? {
+            return Ok(ticket);
+        }
+        match self.open_segment(rt, &mut *cell, who) {
+            Some(number) => {
+                let mut segment = self.lock_segment(rt, number);
+                let ticket = cell.append(
+                    self.books(),
+                    self.words(),
+                    &mut *segment,
+                    hand,
+                    owner,
+                    now,
+                    bytes,
+                )?;
+                Ok(ticket)
+            }
+            None if who == Who::Ordinary && log.is_data() => {
+                self.thread_segment(rt, &mut *cell, hand, owner, now, bytes)
+            }
+            None => Err(Error::NoSpace),
+        }
+    }
+
+    // Writes the block in the next hole of the segment that the log threads. Where it threads none any more, it has no place.
+    fn fill_hole<R: Wait>(
+        &self,
+        rt: &R,
+        log: &mut LogCell<V>,
+        hand: &mut Permit,
+        owner: Owner,
+        now: u64,
+        bytes: &[u8],
+    ) -> Result<Option<Ticket<B>>, Error>
+        requires book { hand.old.book ≡ V.Books.books.book }
+        requires owner { IsOwner owner }
+        requires bytes { length bytes.now ≡ block_bytes V.Numbers.geometry.shape }
+        ensures hand { IfOk result (λ found. MatchOption found (hand.new ≡ hand.old) (λ ticket. hand.new ≡ record hand.old { tickets = ticket.mark ∷ hand.old.tickets })) }
+        ensures owner { IfOk result (λ found. IfSome found (λ ticket. ticket.mark.owner ≡ owner)) }
+        ensures content { IfOk result (λ found. IfSome found (λ ticket. ticket.content ≡ bytes.now)) }
+        ensures low { IfOk result (λ found. IfSome found (λ ticket. 1 ≤ ticket.mark.address)) }
+        ensures high { IfOk result (λ found. IfSome found (λ ticket. ticket.mark.address ≤ block_count V.Numbers.geometry)) }
+        ensures err { OnErr result (hand.new ≡ hand.old) }
+        ensures error { IfErr result (λ error. error ≡ Device) }
+    {
+        let Some(number) = log.threads else {
+            return Ok(None);
+        };
+        let mut segment = self.lock_segment(rt, number);
+        let found = segment.fill(self.books(), hand, log.number, owner, now, bytes)?;
+        if found.is_none() {
+            log.threads = None;
+        }
+        Ok(found)
+    }
+
+    // Threads the first segment that can be threaded, and writes the block in its first hole.
+    fn thread_segment<R: Wait>(
+        &self,
+        rt: &R,
+        log: &mut LogCell<V>,
+        hand: &mut Permit,
+        owner: Owner,
+        now: u64,
+        bytes: &[u8],
+    ) -> Result<Ticket<B>, Error>
+        requires book { hand.old.book ≡ V.Books.books.book }
+        requires owner { IsOwner owner }
+        requires bytes { length bytes.now ≡ block_bytes V.Numbers.geometry.shape }
+        ensures hand { IfOk result (λ ticket. hand.new ≡ record hand.old { tickets = ticket.mark ∷ hand.old.tickets }) }
+        ensures owner { IfOk result (λ ticket. ticket.mark.owner ≡ owner) }
+        ensures content { IfOk result (λ ticket. ticket.content ≡ bytes.now) }
+        ensures low { IfOk result (λ ticket. 1 ≤ ticket.mark.address) }
+        ensures high { IfOk result (λ ticket. ticket.mark.address ≤ block_count V.Numbers.geometry) }
+        ensures err { OnErr result (hand.new ≡ hand.old) }
+        ensures error { IfErr result (λ error. (error ≡ Device) ⊎ (error ≡ NoSpace)) }
+    {
+        for number in 0..self.geometry().segments {
+            if let Some(ticket) = self.thread_one(rt, log, hand, number, owner, now, bytes)? {
+                return Ok(ticket);
+            }
+        }
+        Err(Error::NoSpace)
+    }
+
+    // Threads a segment, where it can be threaded, and writes the block in its first hole, under one hold of its lock.
+    fn thread_one<R: Wait>(
+        &self,
+        rt: &R,
+        log: &mut LogCell<V>,
+        hand: &mut Permit,
+        number: u32,
+        owner: Owner,
+        now: u64,
+        bytes: &[u8],
+    ) -> Result<Option<Ticket<B>>, Error>
+        requires book { hand.old.book ≡ V.Books.books.book }
+        requires within { number < V.Numbers.geometry.segments }
+        requires owner { IsOwner owner }
+        requires bytes { length bytes.now ≡ block_bytes V.Numbers.geometry.shape }
+        ensures hand { IfOk result (λ found. MatchOption found (hand.new ≡ hand.old) (λ ticket. hand.new ≡ record hand.old { tickets = ticket.mark ∷ hand.old.tickets })) }
+        ensures owner { IfOk result (λ found. IfSome found (λ ticket. ticket.mark.owner ≡ owner)) }
+        ensures content { IfOk result (λ found. IfSome found (λ ticket. ticket.content ≡ bytes.now)) }
+        ensures low { IfOk result (λ found. IfSome found (λ ticket. 1 ≤ ticket.mark.address)) }
+        ensures high { IfOk result (λ found. IfSome found (λ ticket. ticket.mark.address ≤ block_count V.Numbers.geometry)) }
+        ensures err { OnErr result (hand.new ≡ hand.old) }
+        ensures error { IfErr result (λ error. error ≡ Device) }
+    {
+        let mut segment = self.lock_segment(rt, number);
+        match segment.thread(
+            self.books(),
+            self.words(),
+            hand,
+            log.number,
+            owner,
+            now,
+            bytes,
+        ) {
+            Ok(None) => Ok(None),
+            Ok(Some(ticket)) => {
+                log.threads = Some(number);
+                Ok(Some(ticket))
+            }
+            Err(error) => {
+                log.threads = Some(number);
+                Err(error)
+            }
+        }
+    }
+
+    // The number of the log's open segment: the one that it had, or a free one, which is opened. None where each queue that
+    // the call may draw on was empty.
+    fn open_segment<R: Wait>(&self, rt: &R, log: &mut LogCell<V>, who: Who) -> Option<u32>
+        ensures open { IfSome result (λ number. log.new.slip ≡ Some (record { table = V.Words.words; segment = number })) }
+        ensures within { IfSome result (λ number. number < V.Numbers.geometry.segments) }
+    {
+        if let Some(slip) = &log.slip {
+            return Some(slip.segment());
+        }
+        let slip = log.take(rt, self.pool(), who)?;
+        let number = self.words().segment_of(&slip);
+        let mut free = self.lock_segment(rt, number);
+        log.slip = Some(free.open(self.words(), slip));
+        Some(number)
+    }
+}

@@ -1,0 +1,168 @@
+//! The main area, and its locks.
+ghost use Rattle.std.specs.Prelude.{◌≡◌, ◌<◌, ◌≤◌, vec_len, vec_capacity};
+ghost use Rattle.std.specs.Sync.Mutex.{mutex_guard_value};
+ghost use Rattle.rights_names.specs.Names.{layout_of};
+
+use crate::cells::{LogCell, SegmentCell, ShardCell};
+use device::Block;
+use geometry::Geometry;
+use pool::Pool;
+use rights_books::Books;
+use rights_names::VolumeName;
+use rights_permits::Turnstile;
+use std::sync::atomic::AtomicU32;
+use std::sync::{Mutex, MutexGuard, Wait};
+use words::Words;
+
+/// The main area of a volume. All threads share it by `&`. No call takes memory.
+pub struct MainArea<V: VolumeName, B: Block + Drop> {
+    pub(crate) geometry: Geometry,
+    pub(crate) turnstile: Turnstile<V::Books, V::Turns>,
+    pub(crate) words: Words,
+    pub(crate) pool: Pool<V::Words, V::Pool>,
+    pub(crate) segments: Vec<Mutex<SegmentCell<V, B>>>,
+    pub(crate) shards: Vec<Mutex<ShardCell<V, B>>>,
+    pub(crate) logs: Vec<Mutex<LogCell<V>>>,
+    // Each node number up to this was taken when a search came by. The next search begins behind it.
+    pub(crate) nodes_seen: AtomicU32,
+    ghost numbers: { geometry ≡ V.Numbers.geometry },
+    ghost laid: { V.Books.books.key ≡ layout_of V.Numbers.geometry },
+    ghost worded: { words ≡ record { table = V.Words.words; segments = V.Numbers.geometry.segments } },
+    ghost segmented: { vec_len segments ≡ V.Numbers.geometry.segments },
+    ghost sharded: { vec_len shards ≡ 16 },
+    ghost logged: { vec_len logs ≡ 6 },
+}
+
+impl<V: VolumeName, B: Block + Drop> MainArea<V, B> {
+    /// A main area of these parts: its segments, shards and logs in the order of their numbers.
+    pub fn new(
+        geometry: Geometry,
+        turnstile: Turnstile<V::Books, V::Turns>,
+        words: Words,
+        pool: Pool<V::Words, V::Pool>,
+        segments: Vec<Mutex<SegmentCell<V, B>>>,
+        shards: Vec<Mutex<ShardCell<V, B>>>,
+        logs: Vec<Mutex<LogCell<V>>>,
+    ) -> MainArea<V, B>
+        requires geometry { geometry ≡ V.Numbers.geometry }
+        requires layout { V.Books.books.key ≡ layout_of V.Numbers.geometry }
+        requires words { words ≡ record { table = V.Words.words; segments = V.Numbers.geometry.segments } }
+        requires segments { vec_len segments ≡ V.Numbers.geometry.segments }
+        requires shards { vec_len shards ≡ 16 }
+        requires logs { vec_len logs ≡ 6 }
+    {
+        MainArea {
+            geometry,
+            turnstile,
+            words,
+            pool,
+            segments,
+            shards,
+            logs,
+            nodes_seen: AtomicU32::new(0),
+        }
+    }
+
+    /// The turnstile, the words, and what lies in the locks of the segments and the shards, in the order of their numbers.
+    pub fn into_parts(
+        self,
+    ) -> (
+        Turnstile<V::Books, V::Turns>,
+        Words,
+        Vec<Mutex<SegmentCell<V, B>>>,
+        Vec<Mutex<ShardCell<V, B>>>,
+    )
+        ensures words { result.1 ≡ record { table = V.Words.words; segments = V.Numbers.geometry.segments } }
+        ensures segments { vec_len result.2 ≡ V.Numbers.geometry.segments }
+        ensures shards { vec_len result.3 ≡ 16 }
+    {
+        let MainArea {
+            geometry: _,
+            turnstile,
+            words,
+            pool: _,
+            segments,
+            shards,
+            logs: _,
+            nodes_seen: _,
+        } = self;
+        (turnstile, words, segments, shards)
+    }
+
+    /// The volume's numbers.
+    pub fn geometry(&self) -> Geometry
+        ensures { result ≡ V.Numbers.geometry }
+    {
+        self.geometry
+    }
+
+    /// The books, which have an account for each segment, file and shard of the volume.
+    pub fn books(&self) -> &Books
+        ensures books { result.now ≡ V.Books.books }
+        ensures layout { V.Books.books.key ≡ layout_of V.Numbers.geometry }
+    {
+        self.turnstile.books()
+    }
+
+    /// The permits of the books.
+    pub fn turnstile(&self) -> &Turnstile<V::Books, V::Turns> {
+        &self.turnstile
+    }
+
+    /// The words of the segments.
+    pub fn words(&self) -> &Words
+        ensures { result.now ≡ record { table = V.Words.words; segments = V.Numbers.geometry.segments } }
+    {
+        &self.words
+    }
+
+    /// The free segments.
+    pub fn pool(&self) -> &Pool<V::Words, V::Pool> {
+        &self.pool
+    }
+
+    /// Locks the segment of this number.
+    pub fn lock_segment<R: Wait>(&self, rt: &R, number: u32) -> MutexGuard<'_, SegmentCell<V, B>>
+        requires { number < V.Numbers.geometry.segments }
+        ensures { (mutex_guard_value result).number ≡ number }
+    {
+        // Nothing ties a lock's place to what is in it, so the number is compared; it is always the one.
+        for _ in rt.forever() {
+            let cell = self.segments[number as usize].lock(rt);
+            if cell.number == number {
+                return cell;
+            }
+        }
+        unreachable!()
+    }
+
+    /// Locks the shard of this number.
+    pub fn lock_shard<R: Wait>(&self, rt: &R, number: u32) -> MutexGuard<'_, ShardCell<V, B>>
+        requires { number < 16 }
+        ensures { (mutex_guard_value result).number ≡ number }
+    {
+        // As for a segment.
+        for _ in rt.forever() {
+            let cell = self.shards[number as usize].lock(rt);
+            if cell.number == number {
+                return cell;
+            }
+        }
+        unreachable!()
+    }
+
+    /// Locks the log of this number.
+    pub fn lock_log<R: Wait>(&self, rt: &R, number: u32) -> MutexGuard<'_, LogCell<V>>
+        requires { number < 6 }
+        ensures { (mutex_guard_value result).number ≡ number }
+    {
+        // As for a segment.
+        for _ in rt.forever() {
+            let cell = self.logs[number as usize].lock(rt);
+            if cell.number == number {
+                return cell;
+            }
+        }
+        unreachable!()
+    }
+}

@@ -1,5 +1,0 @@
-use Rattle.books.proofs.Opening.{opens}
-use Rattle.books.proofs.books.Books.open.Goals as goal
-
-pub open-requires : goal.open-requires
-open-requires c = opens c.args.layout.now

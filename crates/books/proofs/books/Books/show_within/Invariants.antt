@@ -1,6 +1,0 @@
-use Rattle.books.specs.Accounts.{file_view}
-use Rattle.books.specs.Lodged.{AreWithin}
-use Rattle.books.proofs.books.Books.show_within.Given as goal
-
-abbrev pub ghosts-step : goal.ghosts-step
-ghosts-step a = record { after = a.holder.now.claims; told = AreWithin a.self.now.key (file_view a.holder.now).tickets }

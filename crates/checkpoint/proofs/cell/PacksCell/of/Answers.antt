@@ -1,0 +1,17 @@
+use Rattle.checkpoint.proofs.Counting.{whole_counts}
+use Rattle.checkpoint.proofs.cell.PacksCell.of.Goals as goal
+
+pub invariant_of-result : goal.invariant_of-result
+invariant_of-result g c =
+    let is = c.requires in
+    record {
+      size = is.size;
+      numbers = is.numbers;
+      of_words = is.words;
+      whole = λ sound. is.whole;
+      front = is.front;
+      counts = whole_counts g.M.Meta.seen g.M.Meta.may_leave g.V.Numbers.GeometryName.geometry c.args.packs is.whole is.numbers is.front;
+      complete = λ sound. is.complete;
+      slips = is.slips;
+      room = is.room;
+    }

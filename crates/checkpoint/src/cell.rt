@@ -1,0 +1,166 @@
+//! What a checkpoint needs, in its lock.
+ghost use Rattle.std.specs.Prelude.{◌≡◌, ◌≤◌, ◌+◌, ◌^◌, ◌-◌, ◌<◌, ◌⊎◌, ◌∷◌, [], true, false, All, length, vec_capacity, OnOk, IfOk, IfErr};
+ghost use Rattle.geometry.specs.Area.{meta_bytes};
+ghost use Rattle.geometry.specs.declared.error.Error.TheVariants.{NoMemory, Device, Wounded, Exhausted};
+ghost use Rattle.image.specs.Rules.{IsInRange};
+ghost use Rattle.image.specs.View.{image_view};
+ghost use Rattle.checkpoint.specs.Holding.{AreWhole, IsInPack};
+ghost use Rattle.packs_format.specs.Holding.{HoldsTables};
+ghost use Rattle.device.specs.Disk.{Leaves};
+ghost use Rattle.packs_format.specs.Grammar.{HasSuper};
+ghost use Rattle.checkpoint.specs.Standing.{HasVolume};
+
+use crate::slips::end_slips;
+use crate::{ImagePacks, Stored, Taken};
+use device::{Block, Meta};
+use geometry::Error;
+use packs::Packs;
+use pool::PoolPass;
+use rights_names::VolumeName;
+use std::alloc::Global;
+use words::{CheckpointSeat, FreeSlip, Words};
+
+/// What a checkpoint needs: the two packs of the meta area, the right to advance the version, and with what it gives free
+/// segments back.
+///
+/// Whatever crash comes leaves the superblock of the volume's numbers and a pack that counts. Until a pack write fails the
+/// packs are whole: it is always the same pack, and its version is complete.
+pub struct PacksCell<V: VolumeName, M: Meta> {
+    // The version is advanced by `store` alone, once the next pack is the one that counts: so no segment that this pack no
+    // longer names is free before.
+    pub(crate) packs: ImagePacks<M>,
+    // Whether a pack write failed: it is not known then which pack counts.
+    pub(crate) wounded: bool,
+    // The right to advance the version.
+    pub(crate) checkpoint: CheckpointSeat,
+    /// With which it puts the slips of free segments into the pool.
+    pub pass: PoolPass<V::Words, V::Pool>,
+    /// The slips that the pool did not take.
+    pub kept: Vec<FreeSlip>,
+    pub ghost size: { length (M.seen packs.area.meta) ≡ meta_bytes V.Numbers.geometry },
+    pub ghost numbers: { packs.geometry ≡ V.Numbers.geometry },
+    pub ghost of_words: { checkpoint.table ≡ V.Words.words },
+    pub ghost whole: { wounded ≡ false → AreWhole M.seen M.may_leave packs },
+    pub ghost front: { HasSuper V.Numbers.geometry (M.seen packs.area.meta) },
+    pub ghost counts: { Leaves M.may_leave packs.area.meta (HasVolume V.Numbers.geometry) },
+    pub ghost complete: { wounded ≡ false → checkpoint.version ≡ packs.area.version },
+    pub ghost slips: { All (λ slip. (slip.table ≡ V.Words.words) × (slip.segment < V.Numbers.geometry.segments)) kept.items },
+    pub ghost room: { V.Numbers.geometry.segments ≤ vec_capacity kept },
+}
+
+impl<V: VolumeName, M: Meta> PacksCell<V, M> {
+    /// What a checkpoint needs of a volume whose packs are whole.
+    pub fn of(
+        packs: ImagePacks<M>,
+        checkpoint: CheckpointSeat,
+        pass: PoolPass<V::Words, V::Pool>,
+        kept: Vec<FreeSlip>,
+    ) -> PacksCell<V, M>
+        requires size { length (M.seen packs.area.meta) ≡ meta_bytes V.Numbers.geometry }
+        requires numbers { packs.geometry ≡ V.Numbers.geometry }
+        requires words { checkpoint.table ≡ V.Words.words }
+        requires whole { AreWhole M.seen M.may_leave packs }
+        requires front { HasSuper V.Numbers.geometry (M.seen packs.area.meta) }
+        requires complete { checkpoint.version ≡ packs.area.version }
+        requires slips { All (λ slip. (slip.table ≡ V.Words.words) × (slip.segment < V.Numbers.geometry.segments)) kept.items }
+        requires room { V.Numbers.geometry.segments ≤ vec_capacity kept }
+        ensures packs { result.packs ≡ packs }
+        ensures sound { result.wounded ≡ false }
+    {
+        PacksCell {
+            packs,
+            wounded: false,
+            checkpoint,
+            pass,
+            kept,
+        }
+    }
+
+    /// Whether a pack write failed: it is not known then which pack counts.
+    pub fn is_wounded(&self) -> bool
+        ensures { result ≡ self.now.wounded }
+    {
+        self.wounded
+    }
+
+    /// The version of the next pack.
+    ///
+    /// Answers Wounded where a pack write failed, and Exhausted where the version is the largest that there is.
+    pub fn next_version(&self) -> Result<u32, Error>
+        ensures next { IfOk result (λ version. (self.now.wounded ≡ false) × (version ≡ self.now.packs.area.version + 1)) }
+        ensures error { IfErr result (λ error. ((error ≡ Wounded) × (self.now.wounded ≡ true))
+            ⊎ ((error ≡ Exhausted) × (self.now.packs.area.version ≡ 2 ^ 32 - 1))) }
+    {
+        if self.wounded {
+            return Err(Error::Wounded);
+        }
+        match self.packs.area.version.checked_add(1) {
+            Some(version) => Ok(version),
+            None => Err(Error::Exhausted),
+        }
+    }
+
+    /// Writes an image as the next pack, and advances the version once it is the one that counts.
+    ///
+    /// Answers NoMemory before any call of the device, and then nothing has changed. Answers Device where the device failed:
+    /// the volume is wounded then.
+    pub fn store<B: Block>(
+        &mut self,
+        alloc: Global,
+        words: &Words,
+        taken: Taken<B>,
+    ) -> Result<Stored<M, B>, Error>
+        requires words { words.now.table ≡ V.Words.words }
+        requires sound { self.old.wounded ≡ false }
+        requires range { IsInRange V.Numbers.geometry (image_view taken.image) }
+        requires next { taken.image.version ≡ self.old.packs.area.version + 1 }
+        ensures taken { IfOk result (λ stored. stored.taken ≡ taken) }
+        ensures sound { OnOk result (self.new.wounded ≡ false) }
+        ensures written { IfOk result (λ stored. IsInPack M.may_leave V.Numbers.geometry (image_view taken.image) stored.pack.shown.items) }
+        ensures complete { OnOk result (self.new.checkpoint.version ≡ taken.image.version) }
+        ensures held { OnOk result (Leaves M.may_leave self.new.packs.area.meta (HoldsTables V.Numbers.geometry (image_view taken.image))) }
+        ensures area { IfOk result (λ stored. stored.pack.shown.items ≡ (self.new.packs.area, self.new.packs.area.version) ∷ []) }
+        ensures error { IfErr result (λ error. ((error ≡ NoMemory) × (self.new.wounded ≡ false)) ⊎ ((error ≡ Device) × (self.new.wounded ≡ true))) }
+        ensures memory { IfErr result (λ error. error ≡ NoMemory → self.new.packs ≡ self.old.packs) }
+        // A version is complete only once its pack is on the device.
+        ensures refused { IfErr result (λ error. self.new.checkpoint ≡ self.old.checkpoint) }
+    {
+        // A version fits its field.
+        let _version = taken.image().version;
+        match self.packs.write(alloc, taken) {
+            Ok(stored) => {
+                words.advance(&mut self.checkpoint);
+                Ok(stored)
+            }
+            Err(Error::NoMemory) => Err(Error::NoMemory),
+            Err(error) => {
+                self.wounded = true;
+                Err(error)
+            }
+        }
+    }
+
+    /// The meta area alone.
+    pub fn into_meta(self) -> M
+        ensures meta { result ≡ self.packs.area.meta }
+        ensures size { length (M.seen result) ≡ meta_bytes V.Numbers.geometry }
+        ensures counts { Leaves M.may_leave result (HasVolume V.Numbers.geometry) }
+    {
+        let PacksCell {
+            packs,
+            wounded: _,
+            checkpoint: _,
+            pass: _,
+            kept,
+        } = self;
+        end_slips(kept);
+        let ImagePacks { area, geometry: _ } = packs;
+        let Packs {
+            meta,
+            geometry: _,
+            version: _,
+            map: _,
+        } = area;
+        meta
+    }
+}

@@ -1,0 +1,9 @@
+pub mod Putting
+pub mod Stored
+pub mod Held
+pub mod Slots
+pub mod Laws
+pub mod Owned
+pub mod Contents
+pub mod Filing
+pub mod TreeRows

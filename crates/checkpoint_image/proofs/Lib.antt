@@ -1,0 +1,15 @@
+pub mod Places
+pub mod SegmentParts
+pub mod ShardParts
+pub mod LogParts
+pub mod Balance
+pub mod Written
+pub mod Rowing
+pub mod Imaging
+pub mod ReadBack
+pub mod Found
+pub mod Laws
+pub mod Rows
+pub mod Taking
+pub mod Turning
+pub mod Joining

@@ -1,0 +1,29 @@
+//! What lies in a volume's locks at a sync, as the parts of an image: where a settled audit has learned all of it, the
+//! parts keep the law from which a lawful image follows.
+//! The image of a sync: what lies in a volume's locks, while all of them are held, is copied into an image.
+//! An audit of the books over all that lies in a volume's locks: it learns each account in its place, in ascending order.
+//! The image of a sync: with all locks and all permits in hand, an audit learns all accounts, and the image is taken.
+#![tactic(auto)]
+
+mod audit;
+mod audited;
+mod files;
+mod held;
+pub mod law;
+mod nodes;
+mod segment;
+mod segments;
+mod shard;
+mod shards;
+mod tables;
+mod take;
+mod taken;
+
+pub use audit::learn_all;
+pub use audited::{AuditedFile, AuditedSegment, AuditedShard};
+pub use held::{HoldsFile, HoldsLog, HoldsSegment, HoldsShard};
+pub use law::{audit_law, blocks_law, image_law, read_law, taken_law};
+pub use segments::learn_segments;
+pub use shards::learn_shards;
+pub use take::take_audited;
+pub use taken::take_image;

@@ -1,0 +1,64 @@
+//! The image of a main area and of files.
+ghost use Rattle.std.specs.Prelude.{◌≡◌, ◌≤◌, map, vec_len, IfOk, IfErr};
+ghost use Rattle.geometry.specs.declared.error.Error.TheVariants.{NoMemory};
+ghost use Rattle.image.specs.Rules.{IsLawful};
+ghost use Rattle.image.specs.View.{image_view};
+ghost use Rattle.rights_books.specs.Accounts.{AreFiles};
+ghost use Rattle.checkpoint_locks.specs.Held.{AreHeldFiles, HasTrees};
+ghost use Rattle.rights_permits.specs.Turns.{at_home};
+ghost use Rattle.checkpoint_sync.specs.TakenFrom.{IsTakenFrom};
+
+use area::MainArea;
+use checkpoint_flush::AuditedFile;
+use checkpoint_locks::lock_area;
+use device::Block;
+use geometry::Error;
+use image::Image;
+use rights_names::VolumeName;
+use rights_permits::AllPermits;
+use std::alloc::Global;
+use std::sync::Wait;
+
+/// Takes an image of this version of the main area and of all files, whose nodes are written, and which nobody changes
+/// meanwhile. All permits are in hand, so no call is under way, and all locks of the main area are held until the image is
+/// whole. The files stay as they were.
+///
+/// The only error is NoMemory.
+pub fn take_image<V: VolumeName, B: Block + Drop, F: AuditedFile, R: Wait>(
+    rt: &R,
+    alloc: Global,
+    area: &MainArea<V, B>,
+    files: &mut Vec<F>,
+    all: AllPermits<V::Books, V::Turns>,
+    version: u32,
+) -> (AllPermits<V::Books, V::Turns>, Result<Image, Error>)
+    requires home { all.hand ≡ at_home V.Books.books.book }
+    requires accounts { AreFiles V.Books.books.book (map F.account files.old.items) }
+    requires files { AreHeldFiles V.Numbers.geometry (map F.shown files.old.items) }
+    requires every { vec_len files.old ≡ V.Numbers.geometry.files }
+    requires version { 1 ≤ version }
+    ensures home { result.0.hand ≡ at_home V.Books.books.book }
+    ensures accounts { map F.account files.new.items ≡ map F.account files.old.items }
+    ensures files { map F.shown files.new.items ≡ map F.shown files.old.items }
+    ensures taken { IfOk result.1 (λ image. IsTakenFrom V.Numbers.geometry (map F.shown files.old.items) (image_view image)) }
+    ensures trees { IfOk result.1 (λ image. HasTrees (image_view image) (map F.shown files.old.items)) }
+    ensures version { IfOk result.1 (λ image. image.version ≡ version) }
+    ensures lawful { IfOk result.1 (λ image. IsLawful V.Numbers.geometry (image_view image)) }
+    ensures error { IfErr result.1 (λ error. error ≡ NoMemory) }
+{
+    let mut held = match lock_area(rt, alloc, area) {
+        Ok(held) => held,
+        Err(error) => return (all, Err(error)),
+    };
+    let mut auditing = area.turnstile().audit(all);
+    let image = held.take_image(
+        alloc,
+        area.books(),
+        area.words(),
+        &mut auditing.audit,
+        &area.geometry(),
+        version,
+        files,
+    );
+    (area.turnstile().end_audit(auditing), image)
+}

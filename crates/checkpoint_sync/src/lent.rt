@@ -1,0 +1,39 @@
+//! The files of the passes that are lent to a checkpoint.
+ghost use Rattle.std.specs.Prelude.{◌≡◌, map, reverse, vec_len};
+ghost use Rattle.rights_books.specs.Accounts.{AreFiles};
+ghost use Rattle.image.specs.View.{image_view};
+ghost use Rattle.checkpoint_flush.specs.FileParts.{filed_of};
+ghost use Rattle.checkpoint_locks.specs.Held.{HasTrees};
+ghost use Rattle.checkpoint.specs.Files.{files_of};
+ghost use Rattle.checkpoint_sync.specs.Lent.{shown_by};
+
+use checkpoint::Taken;
+use checkpoint_flush::{FilePass, HeldFile};
+use device::Block;
+use image::Image;
+use rights_books::Books;
+use rights_names::VolumeName;
+
+// An image, which has the trees of all files, and with it the file of each pass, the last one first.
+pub(crate) fn add_files<'a, V: VolumeName + 'a, B: Block + Drop + 'a>(
+    books: &Books,
+    image: Image,
+    files: &Vec<HeldFile<'a, V, B>>,
+    passes: &[&FilePass<V>],
+) -> Taken<B>
+    requires books { books.now ≡ V.Books.books }
+    requires every { vec_len files.now ≡ V.Numbers.geometry.files }
+    requires accounts { AreFiles V.Books.books.book (map (λ file. file.account) files.now.items) }
+    requires trees { HasTrees (image_view image) (map (λ file. filed_of file.account file.state) files.now.items) }
+    ensures image { result.image ≡ image }
+    ensures files { files_of result.added.items ≡ reverse (map (λ pass. shown_by pass.now) passes.now) }
+{
+    let mut taken = Taken::of(image);
+    for k in 0..passes.len() {
+        let pass = passes[k];
+        let file = &files[pass.number() as usize - 1];
+        file.law();
+        taken.add(file.find(books, pass));
+    }
+    taken
+}

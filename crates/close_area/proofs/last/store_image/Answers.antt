@@ -1,0 +1,29 @@
+use Rattle.std.proofs.Common.{◌≡◌, IfOk, List, ap, sym, subst, ◌∙◌, arith}
+use Rattle.packs_format.specs.Holding.{HoldsTables}
+use Rattle.device.specs.Disk.{Leaves}
+use Rattle.rights_books.specs.Accounts.{AreFiles}
+use Rattle.image.specs.Rules.{IsLawful, IsInRange}
+use Rattle.image.specs.View.{image_view}
+use Rattle.close_area.proofs.Laws.{accounts_are, held_are}
+use Rattle.close_area.proofs.last.store_image.Goals as goal
+
+pub take_image-all-requires-clause-accounts : goal.take_image-all-requires-clause-accounts
+take_image-all-requires-clause-accounts g c = accounts_are g.V.Books.BooksName.books.book g.V.Numbers.GeometryName.geometry c.args.files.now.items c.requires.files
+
+pub take_image-all-requires-clause-files : goal.take_image-all-requires-clause-files
+take_image-all-requires-clause-files g c = held_are g.V.Books.BooksName.books.book g.V.Numbers.GeometryName.geometry c.args.files.now.items c.requires.files
+
+pub tell_written-requires : goal.tell_written-requires
+tell_written-requires g c =
+    let book = g.V.Books.BooksName.books.book in
+    subst (AreFiles book) (sym c.take_image-all.ensures.accounts) (accounts_are book g.V.Numbers.GeometryName.geometry c.args.files.now.items c.requires.files)
+
+pub store-requires-clause-range : goal.store-requires-clause-range
+store-requires-clause-range g c =
+    let lawful = subst (λ r. IfOk r (λ image. IsLawful g.V.Numbers.GeometryName.geometry (image_view image))) c.in-Ok.is c.take_image-all.ensures.lawful in
+    subst (λ image. IsInRange g.V.Numbers.GeometryName.geometry (image_view image)) (sym c.of.ensures.image) (lawful 1 (omega arith) (omega arith))
+
+pub returns-in-Ok-store-clause-tables : goal.returns-in-Ok-store-clause-tables
+returns-in-Ok-store-clause-tables g c =
+    let written = c.into_image.ensures ∙ ap (λ t. t.image) c.in-Ok-store.ensures.taken in
+    subst (λ image. Leaves g.M.Meta.may_leave c.store.new.self.packs.area.meta (HoldsTables g.V.Numbers.GeometryName.geometry (image_view image))) (sym written) c.in-Ok-store.ensures.held

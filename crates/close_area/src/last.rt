@@ -1,0 +1,150 @@
+//! The last checkpoint of a volume, which nobody shares any more.
+ghost use Rattle.std.specs.Prelude.{◌≡◌, ◌+◌, ◌≤◌, false, [], map, vec_len, vec_capacity, OnOk, IfOk, IfErr};
+ghost use Rattle.packs_format.specs.Holding.{HoldsTables};
+ghost use Rattle.device.specs.Disk.{Leaves};
+ghost use Rattle.close_area.specs.FileParts.{filed_of};
+ghost use Rattle.close_area.specs.Held.{AreWritten};
+ghost use Rattle.image.specs.Rules.{IsLawful};
+ghost use Rattle.image.specs.View.{image_view};
+ghost use Rattle.close_area.specs.TakenFrom.{IsTakenFrom};
+ghost use Rattle.rights_permits.specs.Turns.{at_home};
+ghost use Rattle.close_area.specs.Returned.{living};
+ghost use Rattle.close_area.specs.Refused.{IsNotWritten};
+
+use crate::telling::tell_written;
+use crate::{FileCell, FlushBuffer, WrittenFile, count_living, own_files, share_files, take_image};
+use area::MainArea;
+use checkpoint::{PacksCell, Taken};
+use device::{Block, Meta};
+use geometry::{Error, Geometry};
+use image::Image;
+use rights_names::VolumeName;
+use rights_permits::AllPermits;
+use std::alloc::Global;
+use std::sync::{Mutex, Wait};
+
+/// What a last checkpoint leaves: all permits, the files out of their locks, and the image that was written.
+pub struct Last<V: VolumeName, B: Block + Drop> {
+    pub all: AllPermits<V::Books, V::Turns>,
+    pub files: Vec<WrittenFile<V, B>>,
+    pub image: Image,
+}
+
+/// Takes all permits and the files out of their locks, writes the marked nodes of all files, and then an image of the volume
+/// as the next pack, where no more files live than there are passes.
+///
+/// Answers Wounded where a pack write failed before, then Exhausted where the version is the largest that there is; NoMemory
+/// where a growth was refused, NoSpace where a log has no open segment for a node and none is free, Device where the device
+/// failed, and PassesOut where more files live. Then the files are in their locks again, and what they are stays.
+pub fn write_last<V: VolumeName, M: Meta, B: Block + Drop, R: Wait>(
+    rt: &R,
+    alloc: Global,
+    area: &MainArea<V, B>,
+    files: Vec<Mutex<FileCell<V, B>>>,
+    packs: &mut PacksCell<V, M>,
+    passes: usize,
+) -> Result<Last<V, B>, (Vec<Mutex<FileCell<V, B>>>, Error)>
+    requires every { vec_len files ≡ V.Numbers.geometry.files }
+    ensures tables { IfOk result (λ last. Leaves M.may_leave packs.new.packs.area.meta (HoldsTables V.Numbers.geometry (image_view last.image))) }
+    ensures sound { OnOk result (packs.new.wounded ≡ false) }
+    ensures home { IfOk result (λ last. last.all.hand ≡ at_home V.Books.books.book) }
+    ensures written { IfOk result (λ last. AreWritten V.Books.books.book V.Numbers.geometry last.files.items) }
+    ensures every { IfOk result (λ last. vec_len last.files ≡ V.Numbers.geometry.files) }
+    ensures enough { IfOk result (λ last. living last.files.items ≤ passes) }
+    ensures taken { IfOk result (λ last. IsTakenFrom V.Numbers.geometry (map (λ c. filed_of c.account c.state) last.files.items) (image_view last.image)) }
+    ensures lawful { IfOk result (λ last. IsLawful V.Numbers.geometry (image_view last.image)) }
+    ensures back { IfErr result (λ refused. vec_len refused.0 ≡ V.Numbers.geometry.files) }
+    ensures error { IfErr result (λ refused. IsNotWritten refused.1) }
+{
+    let (version, mut buffer, room) = match prepare(alloc, &area.geometry(), packs) {
+        Ok(prepared) => prepared,
+        Err(error) => return Err((files, error)),
+    };
+    let mut all = area.turnstile().gather(rt);
+    area.end_threads(rt);
+    match own_files(rt, area, &mut all.hand, files, room, &mut buffer) {
+        Ok((locks, mut files)) => {
+            let (all, image) = store_image(
+                rt, alloc, area, all, &mut files, packs, version, passes,
+            );
+            match image {
+                Ok(image) => {
+                    locks.destroy_empty();
+                    Ok(Last { all, files, image })
+                }
+                Err(error) => {
+                    area.turnstile().scatter(rt, all);
+                    Err((share_files(locks, files), error))
+                }
+            }
+        }
+        Err(refused) => {
+            area.turnstile().scatter(rt, all);
+            Err(refused)
+        }
+    }
+}
+
+// The version of the next pack, and the memory that the files ask for.
+fn prepare<V: VolumeName, M: Meta, B: Block + Drop>(
+    alloc: Global,
+    geometry: &Geometry,
+    packs: &PacksCell<V, M>,
+) -> Result<(u32, FlushBuffer, Vec<WrittenFile<V, B>>), Error>
+    requires geometry { geometry.now ≡ V.Numbers.geometry }
+    ensures sound { OnOk result (packs.now.wounded ≡ false) }
+    ensures version { IfOk result (λ made. made.0 ≡ packs.now.packs.area.version + 1) }
+    ensures buffer { IfOk result (λ made. made.1.shape ≡ V.Numbers.geometry.shape) }
+    ensures none { IfOk result (λ made. made.2.items ≡ []) }
+    ensures room { IfOk result (λ made. V.Numbers.geometry.files ≤ vec_capacity made.2) }
+    ensures error { IfErr result IsNotWritten }
+{
+    let version = packs.next_version()?;
+    let buffer = FlushBuffer::new(alloc, geometry.shape)?;
+    let room = Vec::with_capacity(alloc, geometry.files as usize)?;
+    Ok((version, buffer, room))
+}
+
+// Takes an image of the area and the files, and writes it as the next pack.
+fn store_image<V: VolumeName, M: Meta, B: Block + Drop, R: Wait>(
+    rt: &R,
+    alloc: Global,
+    area: &MainArea<V, B>,
+    all: AllPermits<V::Books, V::Turns>,
+    files: &mut Vec<WrittenFile<V, B>>,
+    packs: &mut PacksCell<V, M>,
+    version: u32,
+    passes: usize,
+) -> (AllPermits<V::Books, V::Turns>, Result<Image, Error>)
+    requires home { all.hand ≡ at_home V.Books.books.book }
+    requires files { AreWritten V.Books.books.book V.Numbers.geometry files.old.items }
+    requires every { vec_len files.old ≡ V.Numbers.geometry.files }
+    requires sound { packs.old.wounded ≡ false }
+    requires next { version ≡ packs.old.packs.area.version + 1 }
+    ensures home { result.0.hand ≡ at_home V.Books.books.book }
+    ensures files { AreWritten V.Books.books.book V.Numbers.geometry files.new.items }
+    ensures every { vec_len files.new ≡ V.Numbers.geometry.files }
+    ensures enough { OnOk result.1 (living files.new.items ≤ passes) }
+    ensures taken { IfOk result.1 (λ image. IsTakenFrom V.Numbers.geometry (map (λ c. filed_of c.account c.state) files.new.items) (image_view image)) }
+    ensures lawful { IfOk result.1 (λ image. IsLawful V.Numbers.geometry (image_view image)) }
+    ensures tables { IfOk result.1 (λ image. Leaves M.may_leave packs.new.packs.area.meta (HoldsTables V.Numbers.geometry (image_view image))) }
+    ensures sound { OnOk result.1 (packs.new.wounded ≡ false) }
+    ensures error { IfErr result.1 IsNotWritten }
+{
+    let (all, image) = take_image(rt, alloc, area, files, all, version);
+    tell_written(files);
+    let image = match image {
+        Ok(image) => image,
+        Err(error) => return (all, Err(error)),
+    };
+    // What was counted under the locks is not known of the files that came out of them, so they are counted again.
+    let _geometry = area.geometry();
+    let living = count_living(files);
+    if passes < living {
+        return (all, Err(Error::PassesOut((living - passes) as u32)));
+    }
+    match packs.store::<B>(alloc, area.words(), Taken::of(image)) {
+        Ok(stored) => (all, Ok(stored.into_image())),
+        Err(error) => (all, Err(error)),
+    }
+}

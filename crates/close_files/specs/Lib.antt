@@ -1,0 +1,3 @@
+pub mod HeldTokens
+pub use Rattle.checkpoint_flush.specs.Held
+pub use Rattle.checkpoint_flush.specs.FileParts

@@ -1,5 +1,0 @@
-pub mod NumberLemmas
-pub mod PartLemmas
-pub mod SpellingLemmas
-pub mod ReadingLemmas
-pub mod WritingLemmas

@@ -1,0 +1,40 @@
+use Rattle.std.proofs.Common.{ap, sym, ◌∙◌}
+use Rattle.geometry.specs.Path.{node_entries}
+use Rattle.geometry.specs.Shape.{block_bytes}
+use Rattle.tree.specs.Change.{unnumbered}
+use Rattle.nodes.specs.Lacking.{spare_tokens}
+use Rattle.nodes_law.specs.Law.{ragged, strange}
+use Rattle.file_calls.proofs.Beside.{spares_there, serves_beside}
+use Rattle.file_calls.proofs.write.write_block.Goals as goal
+
+pub write_with-done-requires-clause-spare : goal.write_with-done-requires-clause-spare
+write_with-done-requires-clause-spare g c = record {
+  empty = c.new-spares.ensures.empty (node_entries c.args.file.now.shape);
+  numbered = c.new-spares.ensures.none unnumbered;
+}
+
+pub give_back-requires-clause-held : goal.give_back-requires-clause-held
+give_back-requires-clause-held g c =
+    let held = c.requires.held in
+    spares_there c.args.file.now c.write_with-done.new.file c.new-spares.result c.write_with-done.new.spares c.args.hand.now c.write_with-done.new.hand
+    c.new-spares.ensures.none c.write_with-done.ensures.serves held.0 held.1
+
+pub returns-clause-serves : goal.returns-clause-serves
+returns-clause-serves g c =
+    let gave = c.give_back.ensures in
+    serves_beside c.args.file.now c.write_with-done.new.file c.new-spares.result c.write_with-done.new.spares c.args.hand.now c.write_with-done.new.hand
+    c.new-spares.ensures.none c.write_with-done.ensures.serves c.give_back.new.hand gave.tokens gave.tickets gave.book
+
+pub write_with-done-requires-clause-law : goal.write_with-done-requires-clause-law
+write_with-done-requires-clause-law g c = record {
+  law = c.requires.law;
+  own = record {
+    below = c.new-spares.ensures.none (strange g.V.Numbers.GeometryName.geometry.files c.args.file.now.token.number);
+    whole = c.new-spares.ensures.none (ragged (block_bytes c.args.file.now.shape));
+  };
+}
+
+pub give_back-requires-clause-whole : goal.give_back-requires-clause-whole
+give_back-requires-clause-whole g c =
+    let done = c.write_with-done.ensures in
+    ap (λ s. spare_tokens (ragged (block_bytes s)) c.write_with-done.new.spares) (sym (done.serves.shape ∙ c.requires.shape)) ∙ done.law.own.whole

@@ -1,0 +1,30 @@
+-- A call that works on a file with spare nodes beside it: what is in hand is the file's, the spare nodes' and others'.
+use Rattle.std.specs.Prelude.{◌≡◌, ℕ}
+use Rattle.geometry.specs.Path.{node_entries}
+use Rattle.rights_books.specs.Accounts.{HandView}
+use Rattle.tree.specs.Change.{unnumbered}
+use Rattle.nodes.specs.declared.file.FileState.{FileState}
+use Rattle.nodes.specs.declared.spare.SparePath.{SparePath}
+use Rattle.nodes.specs.Lacking.{spare_tokens, AreEmptyNodes}
+use Rattle.nodes.specs.Held.{Others, with_spares}
+use Rattle.nodes_law.specs.Law.{FileStateLaw, HaveOwnTokens}
+use Rattle.file_calls.specs.Contents.{IsStored, InHand}
+
+-- nodes that may come into the file: none names anything, and each has a number
+pub record IsSpareFor {B L : Type 0} (f : FileState B L) (spares : SparePath B L) : Type 0 where
+  pub empty : AreEmptyNodes (node_entries f.shape) spares
+  pub numbered : spare_tokens unnumbered spares ≡ 0
+
+-- A call worked on one file: it is stored as before, and what others have is still in hand.
+pub record ServesBeside {B L : Type 0} (old new : FileState B L) (had has : SparePath B L) (before after : HandView) : Type 0 where
+  pub stored : IsStored new
+  pub spare : IsSpareFor new has
+  pub shape : new.shape ≡ old.shape
+  pub number : new.token.number ≡ old.token.number
+  pub others : (others : Others) → InHand (with_spares had others) old before → InHand (with_spares has others) new after
+  pub book : after.book ≡ before.book
+
+-- the law of a file whose spare nodes are beside it: their tokens are the file's too
+pub record HasLawBeside {B L : Type 0} (files : ℕ) (f : FileState B L) (spares : SparePath B L) : Type 0 where
+  pub law : FileStateLaw files f
+  pub own : HaveOwnTokens files f.shape f.token.number spares

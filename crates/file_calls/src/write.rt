@@ -1,0 +1,127 @@
+//! One block of a file is written.
+ghost use Rattle.std.specs.Prelude.{◌≡◌, ◌<◌, ◌⊎◌, length, OnOk, OnErr, IfErr};
+ghost use Rattle.geometry.specs.declared.error.Error.TheVariants.{NoMemory, NoNode, NoSpace, Device};
+ghost use Rattle.geometry.specs.File.{written};
+ghost use Rattle.geometry.specs.Path.{largest_length};
+ghost use Rattle.geometry.specs.Shape.{block_bytes};
+ghost use Rattle.nodes.specs.File.{file_of};
+ghost use Rattle.nodes.specs.Held.{Others, with_spares};
+ghost use Rattle.nodes.specs.Lacking.{lacking_to};
+ghost use Rattle.nodes.specs.Useful.{IsUseful, each_node};
+ghost use Rattle.nodes_law.specs.Law.{FileStateLaw};
+ghost use Rattle.file_calls.specs.Contents.{IsStored, InHand, Serves};
+ghost use Rattle.file_calls.specs.Beside.{IsSpareFor, ServesBeside, HasLawBeside};
+
+use crate::path::{give_back, plant_path, prepare_path};
+use area::{MainArea, Who, log_for};
+use device::Block;
+use geometry::{Class, Error};
+use nodes::{FileState, SparePath};
+use rights_books::Permit;
+use rights_names::VolumeName;
+use std::alloc::Global;
+use std::sync::Wait;
+
+/// Writes a block of a file at an index below the largest length: the bytes are appended to the log for data of the file's
+/// kind, and the block that stood there is given back. The nodes on the way are made before that, beside the file.
+///
+/// Answers NoNode where a node is missing on the way and no number is free for it, NoMemory where a growth was refused,
+/// NoSpace where the log has no open segment and no segment is free, and Device where the device failed. After each of them
+/// the file, its nodes and their marks are as they were, and the numbers that were taken are given back.
+pub fn write_block<V: VolumeName, B: Block + Drop, R: Wait>(
+    rt: &R,
+    alloc: Global,
+    area: &MainArea<V, B>,
+    hand: &mut Permit,
+    file: &mut FileState<B>,
+    index: u32,
+    bytes: &[u8],
+    now: u64,
+) -> Result<(), Error>
+    requires book { hand.old.book ≡ V.Books.books.book }
+    requires shape { file.old.shape ≡ V.Numbers.geometry.shape }
+    requires inside { index < largest_length file.old.shape }
+    requires bytes { length bytes.now ≡ block_bytes file.old.shape }
+    requires stored { IsStored file.old }
+    requires law { FileStateLaw V.Numbers.geometry.files file.old }
+    requires held { (others : Others) × InHand others file.old hand.old }
+    ensures serves { Serves file.old file.new hand.old hand.new }
+    ensures law { FileStateLaw V.Numbers.geometry.files file.new }
+    ensures file { OnOk result (file_of file.new ≡ written (file_of file.old) index bytes.now) }
+    ensures useful { IsUseful each_node file.old → IsUseful each_node file.new }
+    ensures err { OnErr result (file.new ≡ file.old) }
+    ensures error { IfErr result (λ error. (error ≡ NoMemory) ⊎ ((error ≡ NoNode) ⊎ ((error ≡ NoSpace) ⊎ (error ≡ Device)))) }
+{
+    let mut spares = SparePath::new();
+    let done = write_with(rt, alloc, area, hand, file, &mut spares, index, bytes, now);
+    give_back(rt, area, hand, spares);
+    done
+}
+
+// The same, where what is left of the spare nodes is still to be given back.
+fn write_with<V: VolumeName, B: Block + Drop, R: Wait>(
+    rt: &R,
+    alloc: Global,
+    area: &MainArea<V, B>,
+    hand: &mut Permit,
+    file: &mut FileState<B>,
+    spares: &mut SparePath<B>,
+    index: u32,
+    bytes: &[u8],
+    now: u64,
+) -> Result<(), Error>
+    requires book { hand.old.book ≡ V.Books.books.book }
+    requires shape { file.old.shape ≡ V.Numbers.geometry.shape }
+    requires inside { index < largest_length file.old.shape }
+    requires bytes { length bytes.now ≡ block_bytes file.old.shape }
+    requires stored { IsStored file.old }
+    requires spare { IsSpareFor file.old spares.old }
+    requires law { HasLawBeside V.Numbers.geometry.files file.old spares.old }
+    requires held { (others : Others) × InHand (with_spares spares.old others) file.old hand.old }
+    ensures serves { ServesBeside file.old file.new spares.old spares.new hand.old hand.new }
+    ensures law { HasLawBeside V.Numbers.geometry.files file.new spares.new }
+    ensures file { OnOk result (file_of file.new ≡ written (file_of file.old) index bytes.now) }
+    ensures useful { IsUseful each_node file.old → IsUseful each_node file.new }
+    ensures err { OnErr result (file.new ≡ file.old) }
+    ensures error { IfErr result (λ error. (error ≡ NoMemory) ⊎ ((error ≡ NoNode) ⊎ ((error ≡ NoSpace) ⊎ (error ≡ Device)))) }
+{
+    prepare_path(rt, alloc, area, hand, file, spares, index)?;
+    append_at(rt, area, hand, file, spares, index, bytes, now)
+}
+
+// Appends a block, puts the spare nodes and its ticket in the file, and gives back the ticket that stood there.
+fn append_at<V: VolumeName, B: Block + Drop, R: Wait>(
+    rt: &R,
+    area: &MainArea<V, B>,
+    hand: &mut Permit,
+    file: &mut FileState<B>,
+    spares: &mut SparePath<B>,
+    index: u32,
+    bytes: &[u8],
+    now: u64,
+) -> Result<(), Error>
+    requires book { hand.old.book ≡ V.Books.books.book }
+    requires shape { file.old.shape ≡ V.Numbers.geometry.shape }
+    requires inside { index < largest_length file.old.shape }
+    requires bytes { length bytes.now ≡ block_bytes file.old.shape }
+    requires stored { IsStored file.old }
+    requires spare { IsSpareFor file.old spares.old }
+    requires law { HasLawBeside V.Numbers.geometry.files file.old spares.old }
+    requires ready { lacking_to file.old index spares.old ≡ 0 }
+    requires held { (others : Others) × InHand (with_spares spares.old others) file.old hand.old }
+    ensures serves { ServesBeside file.old file.new spares.old spares.new hand.old hand.new }
+    ensures law { HasLawBeside V.Numbers.geometry.files file.new spares.new }
+    ensures file { OnOk result (file_of file.new ≡ written (file_of file.old) index bytes.now) }
+    ensures useful { IsUseful each_node file.old → IsUseful each_node file.new }
+    ensures err { OnErr result (file.new ≡ file.old) }
+    ensures error { IfErr result (λ error. (error ≡ Device) ⊎ (error ≡ NoSpace)) }
+{
+    let owner = file.owner_with(index, spares);
+    let log = log_for(file.kind(), Class::Data, false);
+    let ticket = area.append(rt, hand, log, owner, now, bytes, Who::Ordinary)?;
+    plant_path(file, spares, index);
+    if let Some(before) = file.put(index, ticket) {
+        area.release(rt, hand, before);
+    }
+    Ok(())
+}

@@ -1,0 +1,54 @@
+//! In which states the segments are.
+ghost use Rattle.std.specs.Prelude.{◌≡◌, ◌+◌, ◌<◌};
+ghost use Rattle.file_readers.specs.Status.{all};
+
+use device::Block;
+use file_calls::MainArea;
+use geometry::State;
+use rights_names::VolumeName;
+use std::sync::Wait;
+
+/// How many segments are in each state. Each was counted in a state that it had while its lock was held, one segment after
+/// another.
+#[derive(Clone, Copy, Debug, PartialEq, Eq)]
+pub struct Status {
+    pub free: u32,
+    pub prefree: u32,
+    pub opened: u32,
+    pub sealed: u32,
+}
+
+impl Status {
+    // One more segment of this state.
+    fn add(&mut self, state: State)
+        requires { all self.old < 4096 }
+        ensures { all self.new ≡ all self.old + 1 }
+    {
+        match state {
+            State::Free => self.free += 1,
+            State::Prefree => self.prefree += 1,
+            State::Open => self.opened += 1,
+            State::Sealed => self.sealed += 1,
+        }
+    }
+}
+
+/// Counts all segments of the volume.
+pub fn count_states<V: VolumeName, B: Block + Drop, R: Wait>(
+    rt: &R,
+    area: &MainArea<V, B>,
+) -> Status
+    ensures { all result ≡ V.Numbers.geometry.segments }
+{
+    let mut status = Status {
+        free: 0,
+        prefree: 0,
+        opened: 0,
+        sealed: 0,
+    };
+    for number in 0..area.geometry().segments {
+        let cell = area.lock_segment(rt, number);
+        status.add(cell.state.state());
+    }
+    status
+}

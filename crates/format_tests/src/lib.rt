@@ -1,0 +1,18 @@
+//! Tests of sizes and shapes, of the device in memory, of packs, of the byte formats and of the checker, by their public calls. They
+//! stand apart, so that to prove them does not take the proofs of those crates again.
+#![tactic(auto)]
+
+#[cfg(test)]
+mod checker_calls;
+#[cfg(test)]
+mod error;
+#[cfg(test)]
+mod faulty;
+#[cfg(test)]
+mod index;
+#[cfg(test)]
+mod memory;
+#[cfg(test)]
+mod packs_calls;
+#[cfg(test)]
+mod tables_calls;

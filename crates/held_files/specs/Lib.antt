@@ -1,4 +1,0 @@
-pub mod Held
-pub use Rattle.file_cells.specs.Pass
-pub use Rattle.file_cells.specs.Cell
-pub use Rattle.file_parts.specs.FileParts

@@ -1,7 +1,0 @@
-use Rattle.std.proofs.Common.{◌≡◌, map, reverse, take}
-use Rattle.checkpoint.specs.Files.{files_of}
-use Rattle.imaging.specs.Lent.{shown_by}
-use Rattle.imaging.proofs.lent.add_files.Given as goal
-
-abbrev pub invariant-loop-k : goal.invariant-loop-k
-invariant-loop-k g l = (l.taken.image ≡ l.fn.image) × (files_of l.taken.added.items ≡ reverse (map (λ pass. shown_by pass.now) (take l.k l.fn.passes)))

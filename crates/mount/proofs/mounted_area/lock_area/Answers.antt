@@ -1,0 +1,26 @@
+use Rattle.std.proofs.Common.{◌≡◌, length, ap, subst, arith}
+use Rattle.geometry.specs.declared.geometry.Geometry.{Geometry}
+use Rattle.image.specs.View.{image_view}
+use Rattle.pool.specs.declared.law.Account.{Account}
+use Rattle.mount.specs.Logs.{EachStands}
+use Rattle.mount.proofs.Slips.{loaded_slips, few_free, loaded_logs}
+use Rattle.mount.proofs.mounted_area.lock_area.Goals as goal
+
+pub put_slips-requires-clause-words : goal.put_slips-requires-clause-words
+put_slips-requires-clause-words g c =
+    loaded_slips c.args.geometry (image_view c.args.image.now) g.V.Books.BooksName.books.book g.V.Words.WordsName.words _ _ _ c.requires.segments
+
+pub put_slips-requires-clause-room : goal.put_slips-requires-clause-room
+put_slips-requires-clause-room g c =
+    let few = few_free c.args.geometry (image_view c.args.image.now) g.V.Books.BooksName.books.book g.V.Words.WordsName.words _ _ _ c.requires.segments in
+    let long = c.args.loaded.free.ok.0 in
+    let none = ap (λ (a : Account). length a.ordinary.put) c.requires.pass in
+    let slots = c.requires.pool in
+    let same = ap (λ (x : Geometry). x.segments) c.requires.geometry in
+    omega arith
+
+pub lock_loaded_logs-logs-requires-clause-slips : goal.lock_loaded_logs-logs-requires-clause-slips
+lock_loaded_logs-logs-requires-clause-slips g c =
+    let table = g.V.Words.WordsName.words in
+    subst (λ (x : Geometry). EachStands table x.segments c.args.loaded.logs.items) c.requires.geometry
+    (loaded_logs c.args.geometry (image_view c.args.image.now) g.V.Books.BooksName.books.book table _ _ _ c.requires.segments c.requires.lawful)

@@ -1,0 +1,4 @@
+pub mod Made
+pub mod Logs
+pub mod Mounted
+pub mod Lodged

@@ -1,0 +1,136 @@
+//! A volume under all its names.
+ghost use Rattle.std.specs.Prelude.{◌≡◌, ◌≤◌, map, vec_len, IfOk, IfErr};
+ghost use Rattle.geometry.specs.declared.error.Error.TheVariants.{NoMemory};
+ghost use Rattle.image.specs.Files.{files as image_files};
+ghost use Rattle.image_codec.specs.Blocks.{bytes_at};
+ghost use Rattle.volume.specs.Picked.{HaveNames};
+
+use crate::files::lock_loaded_files;
+use crate::frames::MountFrames;
+use crate::mounted::{Mounted, MountedQueues, NamedMount};
+use crate::mounted_area::lock_area;
+use crate::{MountTables, free_memory};
+use device::{Block, Meta};
+use file_cells::FilePass;
+use file_readers::Seat;
+use mount_files::{LoadedVolume, load_volume};
+use mount_reading::{OpenFault, OpenedDevice};
+use rights_names::{BooksName, GeometryName, Named, PoolName, TurnName, WordsName};
+use std::sync::Wait;
+use volume::{Base, PacksCell, SpareCell, Volume};
+
+impl<L: BooksName, W: WordsName, N: GeometryName, M: Meta, B: Block + Drop> MountedQueues<
+    L,
+    W,
+    N,
+    M,
+    B,
+> {
+    /// The volume under all its names, the seats of its readers, and a pass of each file in the order of their numbers: each
+    /// shows the file that the image and the blocks say. Nothing is written.
+    ///
+    /// The only error is NoMemory, and hands the parts back.
+    pub fn name<P: PoolName, T: TurnName, R: Wait>(
+        self,
+        rt: &R,
+    ) -> Result<
+        (
+            Volume<Named<L, W, P, T, N>, M, B>,
+            Vec<Seat<Named<L, W, P, T, N>>>,
+            Vec<FilePass<Named<L, W, P, T, N>>>,
+        ),
+        OpenFault<M, B>,
+    >
+        requires named { HaveNames self.queues self.channel P.ordinary P.reserve T.turns T.key }
+        ensures seats { IfOk result (λ opened. vec_len opened.1 ≡ 64) }
+        ensures base { IfOk result (λ opened. opened.0.base ≡ record { version = self.named.mounted.image.version; total = self.named.mounted.image.total }) }
+        ensures passes { IfOk result (λ opened. map (λ pass. (pass.number, pass.file)) opened.2.items
+            ≡ image_files self.named.mounted.geometry self.named.mounted.image (bytes_at B.content_of self.named.mounted.parts.blocks.items)) }
+        ensures back { IfErr result (λ fault. fault.parts ≡ self.named.mounted.parts) }
+        ensures error { IfErr result (λ fault. fault.error ≡ NoMemory) }
+    {
+        let MountedQueues {
+            named,
+            channel,
+            queues,
+        } = self;
+        let NamedMount { mounted, names: _ } = named;
+        let Mounted {
+            device,
+            tables,
+            alloc,
+        } = mounted;
+        let MountTables {
+            books,
+            permits,
+            words,
+            seats,
+            checkpoint,
+            memory,
+        } = tables;
+        let geometry = device.packs.geometry;
+        let frames = match MountFrames::new(alloc, &geometry, seats) {
+            Ok(frames) => frames,
+            Err(error) => {
+                free_memory(&geometry, &device.image, memory);
+                let parts = device.into_parts();
+                return Err(OpenFault { parts, error });
+            }
+        };
+        let MountFrames {
+            seats,
+            area,
+            files: file_frames,
+            spare,
+            accounts: spare_accounts,
+            kept,
+        } = frames;
+        let OpenedDevice {
+            packs,
+            mut blocks,
+            image,
+        } = device;
+        let (turnstile, mut all) = channel.named::<T>(books, permits);
+        let (pool, mut pass) = queues.named::<P>();
+        let LoadedVolume {
+            segments,
+            shards,
+            accounts,
+            files,
+            stock,
+        } = load_volume(
+            &geometry,
+            &image,
+            turnstile.books(),
+            &words,
+            &mut all.hand,
+            memory,
+            &mut blocks,
+        );
+        let area = lock_area(
+            rt, geometry, &image, turnstile, words, pool, &mut pass, segments, shards, area,
+        );
+        let (cells, passes) = lock_loaded_files(
+            area.books(),
+            &geometry,
+            &image,
+            &stock,
+            accounts,
+            files,
+            file_frames,
+        );
+        stock.end();
+        area.turnstile().scatter(rt, all);
+        let packs = PacksCell::of(packs, checkpoint, pass, kept);
+        let spare = SpareCell {
+            rows: spare.with_blocks(blocks),
+            accounts: spare_accounts,
+        };
+        let base = Base {
+            version: image.version,
+            total: image.total,
+        };
+        let volume = Volume::of(alloc, area, cells, packs, spare, base);
+        Ok((volume, seats, passes))
+    }
+}

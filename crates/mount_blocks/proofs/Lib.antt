@@ -1,0 +1,9 @@
+pub mod Bits
+pub mod Tables
+pub mod States
+pub mod Comings
+pub mod Rights
+pub mod Lodgings
+pub mod Naming
+pub mod Passing
+pub mod Shards

@@ -1,0 +1,4 @@
+pub mod Goods
+pub mod Loaded
+pub mod FileLoaded
+pub mod Marked

@@ -1,1 +1,0 @@
-pub use Rattle.files_loading.specs.Files

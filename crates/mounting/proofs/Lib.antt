@@ -1,4 +1,0 @@
-pub mod Rest
-pub mod Slips
-pub mod Passes
-pub use Rattle.device_opening.proofs.Blocks

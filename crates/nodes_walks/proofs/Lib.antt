@@ -1,0 +1,3 @@
+pub mod Flushed
+pub mod Search
+pub mod Ranges

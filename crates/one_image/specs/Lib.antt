@@ -1,2 +1,0 @@
-pub mod OneImage
-pub use Rattle.checkpoint.specs.Holding

@@ -1,0 +1,12 @@
+use Rattle.std.proofs.Common.{◌≡◌, ◌≢◌, ◌≤◌, ◌<◌, ◌-◌, ◌+◌, ◌^◌, ◌∙◌, sym, ap, subst, suc, List, ℕ, Bool, true, false, length, arith}
+use Rattle.device.specs.Disk.{part}
+use Rattle.packs.specs.Parts.{place as place_of_part, body_bytes}
+use Rattle.packs.specs.Area.{area_bytes}
+use Rattle.packs.proofs.Sizes.{is_small}
+use Rattle.packs.proofs.packs.Packs.side_for.Goals as goal
+
+pub equals-requires-clause-within : goal.equals-requires-clause-within
+equals-requires-clause-within g c = omega (arith, c.part_at-at.ensures.within, c.part_of-bytes.ensures.long, c.requires.area.long)
+
+pub equals-requires-clause-fits : goal.equals-requires-clause-fits
+equals-requires-clause-fits g c = omega (arith, c.part_at-at.ensures.within, c.part_of-bytes.ensures.long, c.requires.area.fits)

@@ -1,0 +1,13 @@
+pub mod Fronts
+pub mod Bytes
+pub mod Bits
+pub mod Rooms
+pub mod Widths
+pub mod Parts
+pub mod SuperLemmas
+pub mod RowLemmas
+pub mod RoundTrip
+pub mod PickLemmas
+pub mod FileLemmas
+pub mod Ranging
+pub mod Bodies

@@ -1,0 +1,26 @@
+use Rattle.std.proofs.Common.{◌<◌, ◌^◌, subst, List, rules}
+use Rattle.std.specs.Prelude.{All}
+use Rattle.std.proofs.lemmas.List.Elements.{All-map}
+use Rattle.image.specs.declared.image.SegmentInfo.{SegmentInfo as SegmentValue}
+use Rattle.geometry.specs.declared.owner.Summary.{Summary}
+use Rattle.image.specs.Image.{SegmentInfo}
+use Rattle.image.specs.View.{image_view, info_view}
+use Rattle.packs_format.specs.Grammar.{IsSummaryRow}
+use Rattle.packs_format.proofs.Ranging.{has_spelling}
+use Rattle.packs_format.proofs.encoding.encode.Goals as goal
+
+abbrev IsSmall : SegmentInfo → Type 0
+IsSmall info = (info.count < 2 ^ 32) × (info.mtime < 2 ^ 64)
+
+pub returns-clause-spelled : goal.returns-clause-spelled
+returns-clause-spelled c =
+    let segments : List SegmentValue → Type 0 = λ xs. All (λ (info : SegmentValue). (info.count < 2 ^ 32) × (info.mtime < 2 ^ 64)) xs in
+    λ range. (
+      has_spelling c.args.geometry.now (image_view c.args.image.now) (record {
+        version = c.in_ok-push_pair.ensures.small.0;
+        total = c.in_ok-push_pair.ensures.small.1;
+        infos = All-map IsSmall info_view c.args.image.now.sit.items (subst segments c.deref-3.ensures.value c.in_ok-push_segments.ensures.small);
+        owners = subst (λ (xs : List Summary). All IsSummaryRow xs) c.deref-4.ensures.value c.in_ok-push_summaries.ensures.small;
+      }) range,
+      search rules,
+    )

@@ -1,0 +1,6 @@
+pub mod Grammar
+pub mod Rows
+pub mod Parts
+pub mod Fields
+pub mod File
+pub mod Holding

@@ -1,0 +1,165 @@
+//! What is told at the end of a script: its device is mounted, and the files are read. A function for each step of the mount, so
+//! that names are picked between them.
+ghost use Rattle.std.specs.Prelude.{◌≡◌, ◌<◌, ◌++◌, ℕ, false, length, map, IfErr, IfOk, OnOk};
+ghost use Rattle.std.specs.Io.KnownBytes.{Appends};
+ghost use Rattle.device.specs.Parts.{IsBlockRun};
+ghost use Rattle.geometry.specs.Shape.{block_bytes};
+ghost use Rattle.image_codec.specs.Blocks.{bytes_at};
+ghost use Rattle.program_run.specs.Ending.{ToldParts};
+ghost use Rattle.program_session.specs.Lines.{block_text, file_line, image_lines, lines_of, total_line};
+ghost use Rattle.program_run.specs.Run.{names_line};
+ghost use Rattle.volume.specs.Picked.{HaveNames};
+
+use crate::stop::Stop;
+use device::{Block, Meta, Parts};
+use geometry::Error;
+use mount::{Mounted, MountedQueues, mount};
+use program_session::Content;
+use program_session::lines::tell_total;
+use rights_names::{BooksName, GeometryName, PoolName, TurnName, VolumeName, WordsName};
+use std::alloc::Global;
+use std::io::Write;
+use std::marker::Brand;
+use std::sync::Wait;
+use volume::{FilePass, Volume};
+
+/// Mounts the parts of a device, and writes the line of each file and the total of the image that they hold.
+pub fn tell_parts<M: Meta + Drop, B: Block + Drop, R: Wait, O: Write>(
+    rt: &R,
+    alloc: Global,
+    parts: Parts<M, B>,
+    out: &mut O,
+) -> Result<(), Stop>
+    requires run { (bytes : ℕ) × IsBlockRun B.address_of B.content_of bytes 1 parts.blocks.items }
+    ensures told { OnOk result (ToldParts M.seen B.content_of parts (O.contents out.old) (O.contents out.new)) }
+    ensures err { IfErr result (λ stop. names_line stop ≡ false) }
+{
+    match mount(alloc, parts) {
+        Ok(mounted) => tell_mounted::<Brand, Brand, Brand, M, B, R, O>(rt, alloc, mounted, out),
+        Err(fault) => Err(Stop::Refused(fault.error)),
+    }
+}
+
+fn tell_mounted<
+    L: BooksName,
+    W: WordsName,
+    N: GeometryName,
+    M: Meta + Drop,
+    B: Block + Drop,
+    R: Wait,
+    O: Write,
+>(rt: &R, alloc: Global, mounted: Mounted<M, B>, out: &mut O) -> Result<(), Stop>
+    requires books { mounted.books ≡ L.books }
+    requires words { mounted.words ≡ W.words }
+    requires geometry { mounted.geometry ≡ N.geometry }
+    ensures told { OnOk result (Appends (O.contents out.old) (O.contents out.new) (image_lines mounted.geometry mounted.image (bytes_at B.content_of mounted.parts.blocks.items))) }
+    ensures err { IfErr result (λ stop. names_line stop ≡ false) }
+{
+    match mounted.name::<L, W, N>() {
+        Ok(opened) => { tell_opened::<L, W, N, Brand, Brand, M, B, R, O>(rt, alloc, opened, out) }
+        Err(fault) => Err(Stop::Refused(fault.error)),
+    }
+}
+
+fn tell_opened<
+    L: BooksName,
+    W: WordsName,
+    N: GeometryName,
+    P: PoolName,
+    T: TurnName,
+    M: Meta + Drop,
+    B: Block + Drop,
+    R: Wait,
+    O: Write,
+>(rt: &R, alloc: Global, opened: MountedQueues<L, W, N, M, B>, out: &mut O) -> Result<(), Stop>
+    requires named { HaveNames opened.queues opened.channel P.ordinary P.reserve T.turns T.key }
+    ensures told { OnOk result (Appends (O.contents out.old) (O.contents out.new) (image_lines opened.named.mounted.geometry opened.named.mounted.image (bytes_at B.content_of opened.named.mounted.parts.blocks.items))) }
+    ensures err { IfErr result (λ stop. names_line stop ≡ false) }
+{
+    match opened.name::<P, T, R>(rt) {
+        Ok((volume, _seats, passes)) => {
+            let told = tell_volume(rt, alloc, &volume, passes.as_slice(), out);
+            let _parts = volume.discard(rt);
+            told
+        }
+        Err(fault) => Err(Stop::Refused(fault.error)),
+    }
+}
+
+// Writes the line of the file of each pass, and the total of the image at which the volume was opened.
+fn tell_volume<V: VolumeName, M: Meta, B: Block + Drop, R: Wait, O: Write>(
+    rt: &R,
+    alloc: Global,
+    volume: &Volume<V, M, B>,
+    passes: &[FilePass<V>],
+    out: &mut O,
+) -> Result<(), Stop>
+    ensures told { OnOk result (Appends (O.contents out.old) (O.contents out.new)
+        (lines_of V.Numbers.geometry.shape (map (λ pass. (pass.number, pass.file)) passes.now) ++ total_line volume.now.base.total)) }
+    ensures err { IfErr result (λ stop. names_line stop ≡ false) }
+{
+    let mut block = new_block(alloc, volume.geometry().shape.block_bytes())?;
+    let block = block.as_mut_slice();
+    for pass in passes {
+        tell_pass(rt, volume, pass, block, out)?;
+    }
+    tell_total(volume.base().total, out)?;
+    Ok(())
+}
+
+// A block of zeros. The only error is NoMemory.
+fn new_block(alloc: Global, bytes: u32) -> Result<Vec<u8>, Error>
+    ensures { IfOk result (λ block. length block.items ≡ bytes) }
+{
+    let block = vec![in alloc; 0; bytes as usize]?;
+    Ok(block)
+}
+
+// Writes the line of the file of a pass: its number, its length, and each of its blocks.
+fn tell_pass<V: VolumeName, M: Meta, B: Block + Drop, R: Wait, O: Write>(
+    rt: &R,
+    volume: &Volume<V, M, B>,
+    pass: &FilePass<V>,
+    block: &mut [u8],
+    out: &mut O,
+) -> Result<(), Stop>
+    requires { length block.old ≡ block_bytes V.Numbers.geometry.shape }
+    ensures told { OnOk result (Appends (O.contents out.old) (O.contents out.new) (file_line V.Numbers.geometry.shape pass.now.number pass.now.file)) }
+    ensures err { IfErr result (λ stop. names_line stop ≡ false) }
+{
+    let file = pass.number();
+    let length = pass.length();
+    write!(out, "file {file} length {length}")?;
+    for index in 0..length {
+        tell_block(rt, volume, pass, index, block, out)?;
+    }
+    writeln!(out)?;
+    Ok(())
+}
+
+// Writes what a block of the file of a pass is. Where it cannot be read its line ends.
+fn tell_block<V: VolumeName, M: Meta, B: Block + Drop, R: Wait, O: Write>(
+    rt: &R,
+    volume: &Volume<V, M, B>,
+    pass: &FilePass<V>,
+    index: u32,
+    block: &mut [u8],
+    out: &mut O,
+) -> Result<(), Stop>
+    requires block { length block.old ≡ block_bytes V.Numbers.geometry.shape }
+    requires below { index < pass.now.file.length }
+    ensures told { OnOk result (Appends (O.contents out.old) (O.contents out.new) (block_text V.Numbers.geometry.shape pass.now.file index)) }
+    ensures err { IfErr result (λ stop. names_line stop ≡ false) }
+{
+    match volume.read(rt, pass, index, block) {
+        Ok(true) => {
+            Content::of(block).tell(out)?;
+            Ok(())
+        }
+        Ok(false) => unreachable!(),
+        Err(error) => {
+            writeln!(out)?;
+            Err(Stop::Refused(error))
+        }
+    }
+}

@@ -1,0 +1,5 @@
+pub mod Answers
+pub mod Lines
+pub mod Tasks
+pub mod Duties
+pub mod Part

@@ -1,0 +1,13 @@
+use Rattle.std.proofs.Common.{◌≡◌, ℕ, ◌+◌, ◌-◌, [], ◌++◌, length, slice_get, drop, Some}
+use Rattle.rights_books.specs.declared.claim.Claim.TheVariants.{Segment}
+use Rattle.rights_books.specs.Rules.{each_from}
+use Rattle.rights_books.specs.Accounts.{SegmentView}
+use Rattle.rights_books.proofs.books.Books.deal_segments.Given as goal
+
+abbrev pub invariant-loop : goal.invariant-loop
+invariant-loop l = record {
+  book : l.dealer.book ≡ l.self.book;
+  claims : l.dealer.claims ≡ each_from (l.counter + 0) (l.count - l.counter) (λ n. Segment n []) ++ drop l.count l.initial.dealer.claims;
+  count : length l.segments.items ≡ l.counter;
+  items : (k : ℕ) (v : SegmentView) → slice_get l.segments.items k ≡ Some v → v ≡ record { book = l.self.book; segment = k; marks = [] };
+}

@@ -1,0 +1,155 @@
+//! Node numbers and their tokens: a number is taken and given back, its node gets a block, and its token goes into a file
+//! and out of it.
+ghost use Rattle.std.specs.Prelude.{◌≡◌, ◌%◌, ◌<◌, ℕ, List, [], ◌∷◌};
+ghost use Rattle.geometry.specs.Mark.{same_mark};
+ghost use Rattle.geometry.specs.declared.owner.Owner.TheVariants as owner;
+ghost use Rattle.rights_books.specs.Lists.{times, without};
+ghost use Rattle.rights_books.specs.Sameness.{same_entry};
+ghost use Rattle.rights_books.specs.Rules.{bare_entry, moved_to, with_lodged, lodged_of};
+
+use crate::account::{FileAccount, Permit, ShardAccount, Ticket, Token};
+use crate::books::Books;
+use geometry::{Mark, Owner};
+use rights_claims::Remembered;
+use std::marker::Brand;
+use std::snapshot::Snapshot;
+
+/// The bytes of a node's new block, for the proof alone. A type of the caller's names them, or a call at `Brand` picks them.
+pub trait Written {
+    ghost bytes: { List ℕ };
+}
+
+impl Written for Brand {
+    ghost bytes = { [] };
+}
+
+impl Books {
+    /// Takes a number of the shard for a node that has no block yet, and gives its token into the hand (Linux
+    /// `filesystems/f2fs`, node address table). Whether the number was free, the shard's own slots tell.
+    pub fn take(
+        &self,
+        shard: &mut ShardAccount,
+        permit: &mut Permit,
+        number: u32,
+        inode: u32,
+    ) -> Token
+        requires books { (shard.old.book ≡ self.now.book) × (permit.old.book ≡ self.now.book) }
+        requires home { number % 16 ≡ shard.old.shard }
+        ensures token { result ≡ bare_entry number inode }
+        ensures shard { shard.new ≡ record shard.old { taken = result ∷ shard.old.taken } }
+        ensures permit { permit.new ≡ record permit.old { tokens = result ∷ permit.old.tokens } }
+    {
+        let about = (number, inode);
+        self.exchange::<(u32, u32), Brand>(&mut shard.holder, &mut permit.holder, &about);
+        Token {
+            number,
+            inode,
+            address: 0,
+            hand: Remembered::of(&permit.holder),
+        }
+    }
+
+    /// Spends a token that is in hand. Its number was taken, and is no more. The ticket of its node, where it has a block,
+    /// comes into the hand.
+    pub fn give(
+        &self,
+        shard: &mut ShardAccount,
+        permit: &mut Permit,
+        token: Token,
+    ) -> Option<Ticket>
+        requires books { (shard.old.book ≡ self.now.book) × (permit.old.book ≡ self.now.book) }
+        requires home { token.number % 16 ≡ shard.old.shard }
+        requires held { 0 < times same_entry token permit.old.tokens }
+        ensures taken { 0 < times same_entry token shard.old.taken }
+        ensures ticket { result ≡ lodged_of token }
+        ensures shard { shard.new ≡ record shard.old { taken = without same_entry token shard.old.taken } }
+        ensures permit { permit.new ≡ record permit.old {
+          tickets = with_lodged token permit.old.tickets;
+          tokens = without same_entry token permit.old.tokens;
+        } }
+    {
+        self.exchange::<Token, Brand>(&mut shard.holder, &mut permit.holder, &token);
+        let spent = ticket_of(&token);
+        let Token {
+            number: _,
+            inode: _,
+            address: _,
+            hand: _,
+        } = token;
+        spent
+    }
+
+    /// A node gets the block of a ticket that is in hand: the ticket is lodged beside the node's number, and the one of its
+    /// old block, where it had one, comes into the hand. The token goes on to be in hand, with the new address and bytes.
+    pub fn swap<N: Written>(
+        &self,
+        shard: &mut ShardAccount,
+        permit: &mut Permit,
+        token: &mut Token,
+        ticket: Ticket,
+    ) -> Option<Ticket>
+        requires books { (shard.old.book ≡ self.now.book) × (permit.old.book ≡ self.now.book) }
+        requires home { token.old.number % 16 ≡ shard.old.shard }
+        requires token { 0 < times same_entry token.old permit.old.tokens }
+        requires ticket { 0 < times same_mark ticket permit.old.tickets }
+        requires owner { ticket.owner ≡ owner.Node token.old.number }
+        ensures taken { 0 < times same_entry token.old shard.old.taken }
+        ensures ticket { result ≡ lodged_of token.old }
+        ensures address { 0 < ticket.address }
+        ensures token { token.new ≡ moved_to ticket.address N.bytes token.old }
+        ensures shard { shard.new ≡ record shard.old { taken = token.new ∷ without same_entry token.old shard.old.taken } }
+        ensures permit { permit.new ≡ record permit.old {
+          tickets = with_lodged token.old (without same_mark ticket permit.old.tickets);
+          tokens = token.new ∷ without same_entry token.old permit.old.tokens;
+        } }
+    {
+        let Ticket { mark } = ticket;
+        let old = ticket_of(token);
+        let about = (Snapshot::of(token), mark.address);
+        self.exchange::<(Snapshot<Token>, u32), Brand>(
+            &mut shard.holder,
+            &mut permit.holder,
+            &about,
+        );
+        token.address = mark.address;
+        token.hand = Remembered::of(&permit.holder);
+        old
+    }
+
+    /// Lodges a token that is in hand in a file.
+    pub fn lodge_token(&self, file: &mut FileAccount, permit: &mut Permit, token: &Token)
+        requires books { (file.old.book ≡ self.now.book) × (permit.old.book ≡ self.now.book) }
+        requires held { 0 < times same_entry token.now permit.old.tokens }
+        ensures file { file.new ≡ record file.old { tokens = token.now ∷ file.old.tokens } }
+        ensures permit { permit.new ≡ record permit.old { tokens = without same_entry token.now permit.old.tokens } }
+    {
+        self.exchange::<Token, Brand>(&mut file.holder, &mut permit.holder, token);
+    }
+
+    /// Takes a token that is lodged in a file into the hand.
+    pub fn unlodge_token(&self, file: &mut FileAccount, permit: &mut Permit, token: &Token)
+        requires books { (file.old.book ≡ self.now.book) × (permit.old.book ≡ self.now.book) }
+        requires lodged { 0 < times same_entry token.now file.old.tokens }
+        ensures file { file.new ≡ record file.old { tokens = without same_entry token.now file.old.tokens } }
+        ensures permit { permit.new ≡ record permit.old { tokens = token.now ∷ permit.old.tokens } }
+    {
+        let unlodged = token;
+        self.exchange::<Token, Brand>(&mut file.holder, &mut permit.holder, unlodged);
+    }
+}
+
+// The ticket of a token's node, where it has a block.
+fn ticket_of(token: &Token) -> Option<Ticket>
+    ensures { result ≡ lodged_of token.now }
+{
+    if token.address == 0 {
+        None
+    } else {
+        Some(Ticket {
+            mark: Mark {
+                address: token.address,
+                owner: Owner::Node(token.number),
+            },
+        })
+    }
+}

@@ -1,0 +1,5 @@
+mod Parts
+mod Looking
+mod Fields
+pub mod Weighing
+pub mod Keeping

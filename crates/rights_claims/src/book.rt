@@ -1,0 +1,128 @@
+//! A book, and the steps of its holders.
+ghost use Rattle.std.specs.Prelude.{◌≡◌, ◌≢◌, ℕ, ◌++◌, ◌<◌, take, drop, IfOk};
+ghost use Rattle.sums.specs.Weights.{weigh};
+ghost use Rattle.rights_claims.specs.Rules.{Follows, Tells};
+
+use crate::holder::Holder;
+use crate::law::{Change, Law, Lesson};
+use crate::plays::{Both, Changes, Count, Cut, Learned, Obeys};
+use crate::{Shown, agree};
+use atomic_table::Table;
+use std::alloc::{AllocError, Global};
+use std::collections::LinkedList;
+use std::marker::{Brand, Model};
+
+/// A book, `{ book; key }` to contracts: which it is, and what its law was told. All holders share it.
+#[derive(Drop)]
+pub struct Book<C, K, L: Law<C, K>> {
+    table: Table<(), LinkedList<C>, K, Obeys<L>, Global>,
+}
+
+impl<C, K, L: Law<C, K>> Model for Book<C, K, L> {
+    ghost use Rattle.std.specs.Prelude.{◌<◌};
+    ghost use Rattle.rights_claims.specs.Rules.{Ruled};
+
+    ghost Value = { Ruled K };
+
+    ghost view = { λ b. record { book = b.table.shared.table_id; key = b.table.shared.key } };
+
+    ghost invariant = { λ b. 0 < b.table.shared.table_id.words };
+}
+
+impl<C, K, L: Law<C, K>> Book<C, K, L> {
+    /// A new book, and the holder of its first claims. It fails only where memory is out, and then nothing is left.
+    pub fn open(alloc: Global, key: &K) -> Result<(Book<C, K, L>, Holder<C>), AllocError>
+        requires { L.lawful key.now (λ h. weigh h (L.first key.now)) }
+        ensures key { IfOk result (λ r. r.0.key ≡ key.now) }
+        ensures holder { IfOk result (λ r. (r.1.book ≡ r.0.book) × (r.1.claims ≡ L.first key.now)) }
+    {
+        let (table, seat) = Table::of_words(alloc, &[0], key)?;
+        let seat = Shown::of_seat(seat);
+        Ok((Book { table }, Holder { seat }))
+    }
+
+    /// Changes the holder's claims, in one atomic step, where the law goes on to hold whatever the others have.
+    pub fn step<M: Change<C>>(&self, holder: &mut Holder<C>)
+        requires book { holder.old.book ≡ self.now.book }
+        requires rule { Follows (L.lawful self.now.key) holder.old.claims M.after M.told }
+        ensures book { holder.new.book ≡ holder.old.book }
+        ensures claims { holder.new.claims ≡ M.after }
+        ensures told { M.told }
+    {
+        let mut seat = holder.seat.take_seat::<()>();
+        self.table.shared.fetch_add::<Changes<M>>(&mut seat, 0, 1);
+        holder.seat = Shown::of_seat(seat);
+    }
+
+    /// Tells what the law says of two holders' claims, whatever the others have. Nothing runs and nothing changes, so both
+    /// may be lent to many at once. They have different claims, so they are two.
+    pub fn tell<M: Lesson>(&self, one: &Holder<C>, other: &Holder<C>)
+        requires books { (one.now.book ≡ self.now.book) × (other.now.book ≡ self.now.book) }
+        requires apart { one.now.claims ≢ other.now.claims }
+        requires rule { Tells (L.lawful self.now.key) (one.now.claims ++ other.now.claims) M.told }
+        ensures told { M.told }
+    {
+        agree::<(), LinkedList<C>, K, Obeys<L>, Learned<M>>(
+            &self.table.shared,
+            &one.seat,
+            &other.seat,
+        );
+    }
+
+    fn cut<N: Count>(&self, from: &mut Holder<C>) -> Holder<C>
+        requires book { from.old.book ≡ self.now.book }
+        ensures books { (from.new.book ≡ from.old.book) × (result.book ≡ from.old.book) }
+        ensures claims { (from.new.claims ≡ take N.kept from.old.claims) × (result.claims ≡ drop N.kept from.old.claims) }
+    {
+        let mut seat = from.seat.take_seat::<()>();
+        let cut = self.table.shared.split_seat::<Cut<N>>(&mut seat);
+        from.seat = Shown::of_seat(seat);
+        Holder {
+            seat: Shown::of_seat(cut),
+        }
+    }
+
+    fn part_by<N: Count>(&self, from: &mut Holder<C>, keep: usize) -> Holder<C>
+        requires keep { keep ≡ N.kept }
+        requires book { from.old.book ≡ self.now.book }
+        ensures books { (from.new.book ≡ from.old.book) × (result.book ≡ from.old.book) }
+        ensures claims { (from.new.claims ≡ take keep from.old.claims) × (result.claims ≡ drop keep from.old.claims) }
+    {
+        self.cut::<N>(from)
+    }
+
+    /// A new holder, with all claims past the first `keep`.
+    pub fn part(&self, from: &mut Holder<C>, keep: usize) -> Holder<C>
+        requires book { from.old.book ≡ self.now.book }
+        ensures books { (from.new.book ≡ from.old.book) × (result.book ≡ from.old.book) }
+        ensures kept { from.new.claims ≡ take keep from.old.claims }
+        ensures parted { result.claims ≡ drop keep from.old.claims }
+    {
+        self.part_by::<Brand>(from, keep)
+    }
+
+    /// Puts the other holder's claims behind this one's.
+    pub fn join(&self, holder: &mut Holder<C>, other: Holder<C>)
+        requires books { (holder.old.book ≡ self.now.book) × (other.book ≡ self.now.book) }
+        ensures book { holder.new.book ≡ holder.old.book }
+        ensures claims { holder.new.claims ≡ holder.old.claims ++ other.claims }
+    {
+        let Holder { seat: mut others } = other;
+        let mut seat = holder.seat.take_seat::<()>();
+        self.table
+            .shared
+            .join_seat::<Both>(&mut seat, others.take_seat::<()>());
+        holder.seat = Shown::of_seat(seat);
+    }
+
+    /// Puts all claims past the first `keep` behind those of `to`.
+    pub fn give(&self, from: &mut Holder<C>, to: &mut Holder<C>, keep: usize)
+        requires books { (from.old.book ≡ self.now.book) × (to.old.book ≡ self.now.book) }
+        ensures books { (from.new.book ≡ from.old.book) × (to.new.book ≡ to.old.book) }
+        ensures from { from.new.claims ≡ take keep from.old.claims }
+        ensures to { to.new.claims ≡ to.old.claims ++ drop keep from.old.claims }
+    {
+        let piece = self.part(from, keep);
+        self.join(to, piece);
+    }
+}

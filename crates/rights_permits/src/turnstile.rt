@@ -1,0 +1,215 @@
+//! The turnstile: the books, and both ends of the channel of their permits.
+ghost use Rattle.std.specs.Prelude.{◌≡◌, ◌<◌, ◌+◌, ◌-◌, []};
+ghost use Rattle.crossbeam_channel.specs.Ends.{sends_on, receives_on};
+ghost use Rattle.rights_permits.specs.Turns.{all_permits, at_home, IsRing};
+
+use crate::all::{AllPermits, Auditing};
+use crate::law::{Receives, Sends};
+use crate::permit::{Card, Permit};
+use crate::token::{AtRest, Token};
+use rights_books::{Books, Permits};
+use rights_names::{BooksName, TurnName};
+use std::sync::{Mutex, Wait};
+
+const PERMITS: u32 = 64;
+
+/// The books, and the permits for the calls that change the volume. All threads share it by `&`. No call takes memory.
+/// It has one end, with all permits in hand.
+pub struct Turnstile<B: BooksName, J: TurnName> {
+    books: Books,
+    sender: Sends<B>,
+    receiver: Receives<B>,
+    sending: Mutex<AtRest<B, J>>,
+    receiving: Mutex<AtRest<B, J>>,
+    ghost books_are: { books ≡ B.books },
+    ghost sends: { IsRing J.turns J.key (sends_on sender) },
+    ghost receives: { IsRing J.turns J.key (receives_on receiver) },
+}
+
+impl<B: BooksName, J: TurnName> Turnstile<B, J> {
+    pub(crate) fn of_parts(
+        books: Books,
+        sender: Sends<B>,
+        receiver: Receives<B>,
+        sending: AtRest<B, J>,
+        receiving: AtRest<B, J>,
+    ) -> Turnstile<B, J>
+        requires books { books ≡ B.books }
+        requires sends { IsRing J.turns J.key (sends_on sender) }
+        requires receives { IsRing J.turns J.key (receives_on receiver) }
+    {
+        Turnstile {
+            books,
+            sender,
+            receiver,
+            sending: Mutex::new(sending),
+            receiving: Mutex::new(receiving),
+        }
+    }
+
+    /// The books whose permits these are.
+    pub fn books(&self) -> &Books
+        ensures { result.now ≡ B.books }
+    {
+        &self.books
+    }
+
+    /// Takes a permit, with nothing in hand, and waits for one.
+    pub fn enter<R: Wait>(&self, rt: &R) -> Permit<B, J>
+        ensures hand { result.hand ≡ at_home B.books.book }
+    {
+        let mut rest = self.receiving.lock(rt);
+        self.take_one(rt, &mut *rest)
+    }
+
+    /// Gives a permit back, which has nothing in hand.
+    pub fn leave<R: Wait>(&self, rt: &R, permit: Permit<B, J>)
+        requires tickets { permit.hand.tickets ≡ [] }
+        requires tokens { permit.hand.tokens ≡ [] }
+    {
+        let mut rest = self.sending.lock(rt);
+        self.put_one(rt, &mut *rest, permit);
+    }
+
+    /// Takes all permits, with nothing in hand, and waits for them.
+    pub fn gather<R: Wait>(&self, rt: &R) -> AllPermits<B, J>
+        ensures hand { result.hand ≡ at_home B.books.book }
+    {
+        let mut rest = self.receiving.lock(rt);
+        self.take_all(rt, &mut *rest)
+    }
+
+    /// Gives all permits back, which have nothing in hand.
+    pub fn scatter<R: Wait>(&self, rt: &R, all: AllPermits<B, J>)
+        requires tickets { all.hand.tickets ≡ [] }
+        requires tokens { all.hand.tokens ≡ [] }
+    {
+        let mut rest = self.sending.lock(rt);
+        self.put_all(rt, &mut *rest, all);
+    }
+
+    /// Begins an audit of the books, with all permits, which have nothing in hand. It has learned nothing yet.
+    pub fn audit(&self, all: AllPermits<B, J>) -> Auditing<B, J>
+        requires tickets { all.hand.tickets ≡ [] }
+        requires tokens { all.hand.tokens ≡ [] }
+        ensures audit { result.audit ≡ record { book = B.books.book; copies = [] } }
+    {
+        let (permits, token) = all.into_parts(&self.books);
+        Auditing::of_parts(self.books.audit(permits), token)
+    }
+
+    /// Ends an audit, and gives all permits back, with nothing in hand.
+    pub fn end_audit(&self, auditing: Auditing<B, J>) -> AllPermits<B, J>
+        ensures hand { result.hand ≡ at_home B.books.book }
+    {
+        let (audit, token) = auditing.into_parts();
+        AllPermits::of_parts(&self.books, self.books.end_audit(audit), token)
+    }
+
+    /// The end, with all permits in hand: no call is under way.
+    pub fn end(self, all: AllPermits<B, J>)
+        requires tickets { all.hand.tickets ≡ [] }
+        requires tokens { all.hand.tokens ≡ [] }
+    {
+        let Turnstile {
+            books: _,
+            sender,
+            receiver: _,
+            sending,
+            receiving,
+        } = self;
+        let AtRest { token: sent } = sending.into_inner();
+        let AtRest { token: received } = receiving.into_inner();
+        let mut token = all.into_token();
+        token.join(&sender, sent);
+        token.join(&sender, received);
+        token.end(sender);
+    }
+
+    // Receives a permit. A receive that comes back without one is tried again.
+    fn receive<R: Wait>(&self, rt: &R, token: &mut Token<B, J>) -> Card<B>
+        ensures { token.new ≡ token.old + 1 }
+    {
+        for _ in rt.forever() {
+            if let Some(card) = token.receive(rt, &self.receiver) {
+                return card;
+            }
+        }
+        unreachable!()
+    }
+
+    // Sends a permit. One that comes back is tried again.
+    fn send<R: Wait>(&self, rt: &R, token: &mut Token<B, J>, mut card: Card<B>)
+        requires out { 0 < token.old }
+        ensures { token.new ≡ token.old - 1 }
+    {
+        for _ in rt.forever() {
+            match token.send(rt, &self.sender, card) {
+                Ok(()) => return,
+                Err(back) => card = back,
+            }
+        }
+        unreachable!()
+    }
+
+    fn take_one<R: Wait>(&self, rt: &R, rest: &mut AtRest<B, J>) -> Permit<B, J>
+        ensures { result.hand ≡ at_home B.books.book }
+    {
+        let card = self.receive(rt, &mut rest.token);
+        let token = rest.token.split(&self.sender);
+        Permit::of_parts(card.into_hand(), token)
+    }
+
+    fn put_one<R: Wait>(&self, rt: &R, rest: &mut AtRest<B, J>, permit: Permit<B, J>)
+        requires tickets { permit.hand.tickets ≡ [] }
+        requires tokens { permit.hand.tokens ≡ [] }
+    {
+        let (card, token) = permit.into_parts();
+        rest.token.join(&self.sender, token);
+        self.send(rt, &mut rest.token, card);
+    }
+
+    fn receive_all<R: Wait>(&self, rt: &R, token: &mut Token<B, J>) -> Permits
+        requires none { token.old ≡ 0 }
+        ensures all { token.new ≡ all_permits }
+        ensures permits { result ≡ record { book = B.books.book; count = all_permits } }
+    {
+        let first = self.receive(rt, token);
+        let mut permits = self.books.pool(first.into_hand());
+        for _ in 1..PERMITS {
+            let card = self.receive(rt, token);
+            permits = self.books.add(permits, card.into_hand());
+        }
+        permits
+    }
+
+    fn send_all<R: Wait>(&self, rt: &R, token: &mut Token<B, J>, permits: Permits)
+        requires all { token.old ≡ all_permits }
+        requires permits { permits ≡ record { book = B.books.book; count = all_permits } }
+        ensures none { token.new ≡ 0 }
+    {
+        let mut left = permits;
+        for _ in 0..PERMITS {
+            let (others, hand) = self.books.take_permit(left);
+            self.send(rt, token, Card::of_hand(hand));
+            left = others;
+        }
+    }
+
+    fn take_all<R: Wait>(&self, rt: &R, rest: &mut AtRest<B, J>) -> AllPermits<B, J>
+        ensures { result.hand ≡ at_home B.books.book }
+    {
+        let permits = self.receive_all(rt, &mut rest.token);
+        let token = rest.token.split(&self.sender);
+        AllPermits::of_parts(&self.books, permits, token)
+    }
+
+    fn put_all<R: Wait>(&self, rt: &R, rest: &mut AtRest<B, J>, all: AllPermits<B, J>)
+        requires tickets { all.hand.tickets ≡ [] }
+        requires tokens { all.hand.tokens ≡ [] }
+    {
+        let (permits, token) = all.into_parts(&self.books);
+        rest.token.join(&self.sender, token);
+        self.send_all(rt, &mut rest.token, permits);
+    }
+}

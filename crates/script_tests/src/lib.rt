@@ -1,5 +1,0 @@
-//! Tests of `script` by its public calls. They stand apart, so that to prove them does not take the proof of `script` again.
-#![tactic(auto)]
-
-#[cfg(test)]
-mod tests;

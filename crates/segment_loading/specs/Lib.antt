@@ -1,3 +1,0 @@
-pub mod Table
-pub mod States
-pub mod Rights

@@ -1,5 +1,0 @@
-//! Tests of `simulator` by its public calls. They stand apart, so that to prove them does not take its proof again.
-#![tactic(auto)]
-
-#[cfg(test)]
-mod tests;

@@ -1,2 +1,0 @@
-pub mod Spares
-pub mod Laws

@@ -1,5 +1,0 @@
-pub mod Grammar
-pub mod Rows
-pub mod Parts
-pub mod Fields
-pub mod File

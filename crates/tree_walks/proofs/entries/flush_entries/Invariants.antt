@@ -1,0 +1,12 @@
+use Rattle.std.proofs.Common.{◌≡◌, ℕ, ◌<◌, length}
+use Rattle.tree.specs.Tree.{entry_at}
+use Rattle.tree.specs.Change.{each_marked}
+use Rattle.tree_walks.proofs.entries.flush_entries.Given as goal
+
+abbrev pub invariant-loop-place : goal.invariant-loop-place
+invariant-loop-place g l = record {
+  below : l.below ≡ l.fn.below;
+  writer : l.writer ≡ l.fn.writer;
+  room : length l.numbers ≡ length l.fn.numbers;
+  clean : (k : ℕ) → k < l.place → g.C.Subtree.weight each_marked (entry_at l.fn.below.slots.items k) ≡ 0;
+}

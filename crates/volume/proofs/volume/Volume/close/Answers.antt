@@ -1,0 +1,23 @@
+use Rattle.std.proofs.Common.{◌≡◌, sym, subst, ◌∙◌}
+use Rattle.device.specs.Disk.{Leaves}
+use Rattle.image.specs.View.{image_view}
+use Rattle.packs_format.specs.Holding.{HoldsTables}
+use Rattle.packs_format.specs.Grammar.{HasSuper}
+use Rattle.packs_format.proofs.SuperLemmas.{super_stays}
+use Rattle.volume.proofs.volume.Volume.close.Goals as goal
+
+pub returns-in-Ok-clause-mountable : goal.returns-in-Ok-clause-mountable
+returns-in-Ok-clause-mountable g c =
+    let geometry = g.V.Numbers.GeometryName.geometry in
+    let packs = c.write_last.new.packs in
+    let sound = c.in-Ok.ensures.sound in
+    let meta = c.into_meta-meta.ensures.meta in
+    let image = image_view c.in-Ok.last.image in
+    let front : Leaves g.M.Meta.may_leave packs.packs.area.meta (HasSuper geometry) = λ left there. let kept = ((packs.whole sound).settled.left left there).same in super_stays geometry (g.M.Meta.seen packs.packs.area.meta) left packs.front kept.long kept.front in
+    record {
+      size = record { area = c.into_meta-meta.ensures.size; count = sym c.close_area-blocks.result.ok.0 ∙ c.close_area-blocks.ensures.count; run = c.close_area-blocks.ensures.run };
+      front = subst (λ m. Leaves g.M.Meta.may_leave m (HasSuper geometry)) (sym meta) front;
+      tables = subst (λ m. Leaves g.M.Meta.may_leave m (HoldsTables geometry image)) (sym meta) c.in-Ok.ensures.tables;
+      nodes = c.close_area-blocks.ensures.nodes;
+      lawful = c.in-Ok.ensures.lawful;
+    }

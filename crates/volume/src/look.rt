@@ -1,0 +1,42 @@
+//! The calls that look at the volume and change nothing in it.
+ghost use Rattle.std.specs.Prelude.{◌≡◌, ◌⊎◌, IfOk, IfErr};
+ghost use Rattle.geometry.specs.declared.error.Error.TheVariants.{NoMemory, Device};
+ghost use Rattle.file_readers.specs.Reader.{IsPinned};
+ghost use Rattle.file_readers.specs.Status.{all};
+
+use crate::volume::Volume;
+use close_area::FilePass;
+use device::{Block, Meta};
+use file_readers::{Reader, Seat, Status, count_states};
+use geometry::Error;
+use rights_names::VolumeName;
+use std::sync::Wait;
+
+impl<V: VolumeName, M: Meta, B: Block + Drop> Volume<V, M, B> {
+    /// A reader of a file as it is now, whatever is written, cleaned or synced later. The reader's seat has a pin on the segment
+    /// of each block of the file, until the reader is closed. A wounded volume is looked at as any other.
+    ///
+    /// Answers NoMemory where a growth was refused, and Device where the device failed to lend a block. Then the seat comes back
+    /// as it was, without a pin.
+    pub fn snapshot<R: Wait>(
+        &self,
+        rt: &R,
+        pass: &FilePass<V>,
+        seat: Seat<V>,
+    ) -> Result<Reader<'_, V, B>, (Seat<V>, Error)>
+        ensures file { IfOk result (λ reader. reader.file ≡ pass.now.file) }
+        ensures pins { IfOk result (λ reader. IsPinned reader) }
+        ensures seat { IfErr result (λ refused. refused.0 ≡ seat) }
+        ensures error { IfErr result (λ refused. (refused.1 ≡ NoMemory) ⊎ (refused.1 ≡ Device)) }
+    {
+        let mut cell = self.lock_file(rt, pass.number());
+        cell.snapshot(rt, self.alloc, &self.area, pass, seat)
+    }
+
+    /// How many segments are in each state. Each of them is counted once, in a state that it had at a moment of the call.
+    pub fn status<R: Wait>(&self, rt: &R) -> Status
+        ensures { all result ≡ V.Numbers.geometry.segments }
+    {
+        count_states(rt, &self.area)
+    }
+}

@@ -1,0 +1,90 @@
+//! A checkpoint of the running volume.
+ghost use Rattle.std.specs.Prelude.{◌≡◌, ◌<◌, ◌⊎◌, ◌+◌, ◌∷◌, [], map, reverse, true, false, IfOk, IfErr};
+ghost use Rattle.geometry.specs.declared.error.Error.TheVariants.{NoMemory, Device, NoSpace, Wounded, Exhausted};
+ghost use Rattle.image.specs.Rules.{IsInRange, IsLawful};
+ghost use Rattle.image.specs.View.{image_view};
+ghost use Rattle.checkpoint.specs.Files.{files_of};
+ghost use Rattle.checkpoint.specs.Holding.{IsInPack};
+ghost use Rattle.close_area.specs.Lent.{shown_by};
+
+use crate::volume::Volume;
+use area::free_retired;
+use checkpoint::{PacksCell, Stored, Taken};
+use close_area::{FilePass, take_volume};
+use device::{Block, Meta};
+use geometry::Error;
+use rights_names::VolumeName;
+use std::sync::Wait;
+
+impl<V: VolumeName, M: Meta, B: Block + Drop> Volume<V, M, B> {
+    /// Writes a checkpoint: the marked nodes of all files, and then an image of the whole volume as the next pack. It waits for
+    /// each call that is under way, and no other begins meanwhile; readers go on. With the image come the files of the passes
+    /// lent, the last one first: what it has for their numbers is what the passes show. The pack that was written is shown with
+    /// it: each crash right after the write leaves it as the one that counts. Then the segments that nothing names any more
+    /// are freed, but for those that a reader holds (Linux `filesystems/f2fs`, checkpoint).
+    ///
+    /// Answers Wounded where a pack write failed before, then Exhausted where the version is the largest that there is; NoMemory
+    /// where a growth was refused, NoSpace where a log has no open segment for a node and none is free, and Device where the
+    /// device failed. What the files are stays. Only where the device failed in the pack write is the volume wounded.
+    pub fn sync<R: Wait>(&self, rt: &R, passes: &[&FilePass<V>]) -> Result<Stored<M, B>, Error>
+        ensures lawful { IfOk result (λ stored. IsLawful V.Numbers.geometry (image_view stored.taken.image)) }
+        ensures files { IfOk result (λ stored. files_of stored.taken.added.items ≡ reverse (map (λ pass. shown_by pass.now) passes.now)) }
+        ensures written { IfOk result (λ stored. IsInPack M.may_leave V.Numbers.geometry (image_view stored.taken.image) stored.pack.shown.items) }
+        ensures later { IfOk result (λ stored. self.now.base.version < stored.taken.image.version) }
+        ensures error { IfErr result (λ error. (error ≡ Wounded) ⊎ ((error ≡ Exhausted) ⊎ ((error ≡ NoMemory) ⊎ ((error ≡ NoSpace) ⊎ (error ≡ Device))))) }
+    {
+        let mut packs = self.packs.lock(rt);
+        let version = packs.next_version()?;
+        if version <= self.base.version {
+            // Nothing ties the volume to what is in its lock, so the version is compared; it is always later.
+            for _ in rt.forever() {}
+            unreachable!();
+        }
+        let all = self.area.turnstile().gather(rt);
+        self.area.end_threads(rt);
+        let (all, taken) = take_volume(
+            rt,
+            self.alloc,
+            &self.area,
+            &self.files,
+            all,
+            version,
+            passes,
+        );
+        let stored = match taken {
+            Ok(taken) => self.store(rt, &mut packs, taken),
+            Err(error) => Err(error),
+        };
+        self.area.turnstile().scatter(rt, all);
+        stored
+    }
+
+    // Writes an image as the next pack, and frees what it lets be freed.
+    fn store<R: Wait>(
+        &self,
+        rt: &R,
+        packs: &mut PacksCell<V, M>,
+        taken: Taken<B>,
+    ) -> Result<Stored<M, B>, Error>
+        requires sound { packs.old.wounded ≡ false }
+        requires range { IsInRange V.Numbers.geometry (image_view taken.image) }
+        requires next { taken.image.version ≡ packs.old.packs.area.version + 1 }
+        ensures taken { IfOk result (λ stored. stored.taken ≡ taken) }
+        ensures written { IfOk result (λ stored. IsInPack M.may_leave V.Numbers.geometry (image_view stored.taken.image) stored.pack.shown.items) }
+        ensures error { IfErr result (λ error. (error ≡ NoMemory) ⊎ (error ≡ Device)) }
+    {
+        match packs.store(self.alloc, self.area.words(), taken) {
+            Ok(stored) => {
+                self.area.keep_marks(rt);
+                free_retired(rt, &self.area, &mut packs.pass, &mut packs.kept);
+                Ok(stored)
+            }
+            Err(error) => {
+                if packs.is_wounded() {
+                    self.wound();
+                }
+                Err(error)
+            }
+        }
+    }
+}

@@ -1,5 +1,0 @@
-use Rattle.std.proofs.Common.{vec_len}
-use Rattle.volume_packs.proofs.slips.end_slips.Given as goal
-
-abbrev pub decreases-kept : goal.decreases-kept
-decreases-kept l = vec_len l.kept

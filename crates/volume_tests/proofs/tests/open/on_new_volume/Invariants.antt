@@ -1,5 +1,0 @@
-use Rattle.volume_tests.proofs.tests.open.on_new_volume.Given as goal
-
--- the tables that were just made, and the numbers of the volume
-abbrev pub ghosts-with_tables : goal.ghosts-with_tables
-ghosts-with_tables g a = record { books = a.formatted.tables.books; words = a.formatted.tables.words; geometry = a.formatted.tables.geometry }

@@ -1,5 +1,0 @@
-pub mod Looking
-pub mod Doing
-pub mod Giving
-pub mod Keeping
-pub mod Whole
