@@ -54,7 +54,7 @@ fn a_checkpoint_changes_no_time(rt: HostRuntime) -> Result<(), Fail> {
     prints(&rt, alloc, text.as_str(), lines.as_str())
 }
 
-// All free segments of the image can be written to but for the reserve.
+// All free segments of the image are written to, but for the reserve, before a hole is filled.
 #[test]
 fn a_mounted_volume_has_all_free_segments(rt: HostRuntime) -> Result<(), Fail> {
     let alloc = rt.alloc();
@@ -72,7 +72,7 @@ fn a_mounted_volume_has_all_free_segments(rt: HostRuntime) -> Result<(), Fail> {
     }
     text.push_str("write 1 1 43\nstatus\nclean fg\nsync\nwrite 1 1 46\n")?;
     lines.push_str(
-        "refused 3 NoSpace\nfree 4 prefree 5 open 5 sealed 2\nclean section 4 moved 1 gone 0\nversion 3 total 3 free 10\nok\nfile 1 length 2 41 46\ntotal 3\n",
+        "ok\nfree 4 prefree 6 open 5 sealed 1\nclean none\nversion 3 total 3 free 10\nok\nfile 1 length 2 41 46\ntotal 3\n",
     )?;
     prints(&rt, alloc, text.as_str(), lines.as_str())
 }
