@@ -3,7 +3,11 @@
 #![tactic(auto)]
 
 #[cfg(test)]
+mod areas;
+#[cfg(test)]
 mod checker_calls;
+#[cfg(test)]
+mod crash_calls;
 #[cfg(test)]
 mod error;
 #[cfg(test)]

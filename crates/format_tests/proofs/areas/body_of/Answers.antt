@@ -3,7 +3,7 @@ use Rattle.byteorder.specs.Endian.{little_bytes, little_number}
 use Rattle.byteorder.specs.Numbers.{little_number-reads_back}
 use Rattle.image.specs.Slots.{version_of}
 use Rattle.packs.proofs.Footer.{footer_long}
-use Rattle.format_tests.proofs.packs_calls.body_of.Goals as goal
+use Rattle.format_tests.proofs.areas.body_of.Goals as goal
 
 reads : (version : ℕ) (header rest : List ℕ) → version < 2 ^ 32 → header ≡ little_bytes 4 version ++ [] → version_of (header ++ rest) ≡ version
 unfolding version_of
