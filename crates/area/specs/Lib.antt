@@ -4,6 +4,5 @@ pub mod Threads
 pub mod Rows
 pub mod Opening
 pub mod Rooms
-pub use Rattle.nat.specs.Taken
 pub mod Freed
 pub mod Slips

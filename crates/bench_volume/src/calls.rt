@@ -13,12 +13,13 @@ use crate::desk::Desk;
 use crate::fault::Fault;
 use crate::task::Task;
 use device::{MemBlock, MemMeta};
+use file_readers::Seat;
 use geometry::{Error, Kind, Shape};
 use rights_names::VolumeName;
 use std::alloc::{AllocError, Global};
 use std::rt::Runtime;
 use std::sync::Wait;
-use volume::{Seat, Volume};
+use volume::Volume;
 pub use work::Work;
 use work::measure_on;
 

@@ -11,6 +11,8 @@ use crate::fault::Fault;
 use crate::naming::mounted::measure_mount;
 use crate::task::Task;
 use device::{MemBlock, MemMeta};
+use file_cells::FilePass;
+use file_readers::Seat;
 use geometry::Shape;
 use report::Checkpoints;
 pub use report::Report;
@@ -20,7 +22,7 @@ use std::io;
 use std::rt::Runtime;
 use std::sync::Wait;
 use std::time::{Duration, Instant};
-use volume::{Closed, FilePass, Seat, Volume};
+use volume::{Closed, Volume};
 use work::run_checkpoints;
 
 /// What is measured: a volume of so many segments, and a file of so many blocks.

@@ -14,6 +14,7 @@ use crate::naming::mounted::measure_mount;
 use crate::task::Task;
 use check::check_device;
 use device::{MemBlock, MemDevice, MemMeta};
+use file_readers::Seat;
 use geometry::Shape;
 pub use report::Report;
 use rights_names::VolumeName;
@@ -21,7 +22,7 @@ use sparse::make_files;
 use std::alloc::{AllocError, Global};
 use std::rt::Runtime;
 use std::sync::Wait;
-use volume::{Closed, Seat, Volume};
+use volume::{Closed, Volume};
 
 /// A volume of so many segments and node numbers, with so many files, each of which has so many direct nodes.
 #[derive(Clone, Copy)]

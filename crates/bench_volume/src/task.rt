@@ -5,6 +5,7 @@ use crate::fault::Fault;
 use crate::found::Found;
 use crate::{calls, checkpoints, cleans, mounts, threads};
 use device::{MemBlock, MemMeta};
+use file_readers::Seat;
 use geometry::{Error, Geometry};
 use std::alloc::Global;
 use std::fmt::Write;
@@ -12,7 +13,7 @@ use std::io;
 use std::rt::Runtime;
 use std::sync::Wait;
 use std::thread::Threads;
-use volume::{Seat, SharedName, Volume};
+use volume::{SharedName, Volume};
 
 /// A measurement on one new volume.
 #[derive(Clone, Copy)]

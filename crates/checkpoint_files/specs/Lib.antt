@@ -3,4 +3,3 @@ pub mod FileRows
 pub mod TreeOf
 pub mod Owned
 pub mod FileParts
-pub use Rattle.checkpoint_image.specs.Taken

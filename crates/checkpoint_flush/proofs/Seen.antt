@@ -5,7 +5,7 @@ use Rattle.atomic_table.specs.Seated.{TableId}
 use Rattle.rights_books.proofs.Dealing.{slice_get_push}
 use Rattle.geometry.specs.declared.geometry.Geometry.{Geometry}
 use Rattle.file_cells.specs.Cell.{CellView}
-use Rattle.checkpoint_files.specs.Taken.{nodes_in, AreNumbered}
+use Rattle.checkpoint_image.specs.Taken.{nodes_in, AreNumbered}
 use Rattle.checkpoint_files.specs.FileParts.{filed_of}
 use Rattle.checkpoint_flush.specs.Held.{IsWrittenCell, AreWritten}
 

@@ -6,10 +6,6 @@ mod flushing;
 mod held;
 mod rows;
 
-pub use checkpoint_files::copy_tree;
-pub use checkpoint_image::{AuditedFile, HoldsFile};
-pub use file_cells::{FileCell, FilePass};
-pub use file_flush::FlushBuffer;
 pub use flushing::flush_cell;
 pub use held::HeldFile;
 pub use rows::{flush_files, release_files};

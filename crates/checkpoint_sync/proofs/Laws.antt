@@ -13,9 +13,9 @@ use Rattle.nodes.specs.declared.file.FileState.{FileState}
 use Rattle.checkpoint_image.specs.Cells.{Filed, IsFiledAt}
 use Rattle.checkpoint_files.specs.TreeOf.{seen, tree_of}
 use Rattle.checkpoint_files.proofs.Contents.{is_state_of}
-use Rattle.checkpoint_flush.specs.FileParts.{filed_of, IsFlushedOrNone}
-use Rattle.checkpoint_flush.proofs.Filing.{filed}
-use Rattle.checkpoint_flush.specs.Cell.{CellView}
+use Rattle.checkpoint_files.specs.FileParts.{filed_of, IsFlushedOrNone}
+use Rattle.checkpoint_files.proofs.Filing.{filed}
+use Rattle.file_cells.specs.Cell.{CellView}
 use Rattle.checkpoint_flush.specs.Held.{IsWrittenCell, AreWritten}
 use Rattle.checkpoint_locks.specs.Held.{AreHeldFiles, HasTrees}
 use Rattle.checkpoint_locks.proofs.Laws.{shown_by}

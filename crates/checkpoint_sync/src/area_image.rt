@@ -9,7 +9,7 @@ ghost use Rattle.rights_permits.specs.Turns.{at_home};
 ghost use Rattle.checkpoint_sync.specs.TakenFrom.{IsTakenFrom};
 
 use area::MainArea;
-use checkpoint_flush::AuditedFile;
+use checkpoint_image::AuditedFile;
 use checkpoint_locks::lock_area;
 use device::Block;
 use geometry::Error;

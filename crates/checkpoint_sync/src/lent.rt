@@ -2,14 +2,15 @@
 ghost use Rattle.std.specs.Prelude.{◌≡◌, map, reverse, vec_len};
 ghost use Rattle.rights_books.specs.Accounts.{AreFiles};
 ghost use Rattle.image.specs.View.{image_view};
-ghost use Rattle.checkpoint_flush.specs.FileParts.{filed_of};
+ghost use Rattle.checkpoint_files.specs.FileParts.{filed_of};
 ghost use Rattle.checkpoint_locks.specs.Held.{HasTrees};
 ghost use Rattle.checkpoint.specs.Files.{files_of};
 ghost use Rattle.checkpoint_sync.specs.Lent.{shown_by};
 
 use checkpoint::Taken;
-use checkpoint_flush::{FilePass, HeldFile};
+use checkpoint_flush::HeldFile;
 use device::Block;
+use file_cells::FilePass;
 use image::Image;
 use rights_books::Books;
 use rights_names::VolumeName;

@@ -15,7 +15,6 @@ mod survey;
 
 pub use block::migrate_block;
 pub use fate::{Counts, Fate};
-pub use file_calls::{cut_blocks, give_node, give_up, write_block};
 pub use keeper::{Files, migrate};
 pub use node::migrate_node;
 pub use policy::{Policy, choose};

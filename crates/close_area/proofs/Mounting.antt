@@ -23,11 +23,11 @@ use Rattle.nodes.specs.declared.file.FileState.{FileState}
 use Rattle.nodes.specs.File.{file_of}
 use Rattle.checkpoint_files.specs.TreeOf.{seen, tree_of}
 use Rattle.checkpoint_files.proofs.Contents.{content_is}
-use Rattle.close_files.specs.FileParts.{filed_of, IsFlushed, IsFlushedOrNone}
-use Rattle.close_files.proofs.Filing.{filed}
+use Rattle.checkpoint_files.specs.FileParts.{filed_of, IsFlushed, IsFlushedOrNone}
+use Rattle.checkpoint_files.proofs.Filing.{filed}
 use Rattle.file_cells.specs.Cell.{CellView}
 use Rattle.file_cells.specs.Pass.{Pass}
-use Rattle.close_files.specs.Held.{AreWritten}
+use Rattle.checkpoint_flush.specs.Held.{AreWritten}
 use Rattle.checkpoint_sync.specs.TakenFrom.{IsTakenFrom, cells_with}
 use Rattle.close_files.specs.HeldTokens.{HoldTokens}
 use Rattle.close_area.specs.Returned.{IsFileOf}

@@ -1,10 +1,10 @@
 //! The main area of a volume is closed.
 ghost use Rattle.std.specs.Prelude.{◌≡◌, ◌≤◌, map, vec_len, vec_capacity};
 ghost use Rattle.device.specs.Parts.{IsBlockRun};
-ghost use Rattle.close_files.specs.FileParts.{filed_of};
+ghost use Rattle.checkpoint_files.specs.FileParts.{filed_of};
 ghost use Rattle.geometry.specs.Area.{block_count};
 ghost use Rattle.geometry.specs.Shape.{block_bytes};
-ghost use Rattle.close_files.specs.Held.{AreWritten};
+ghost use Rattle.checkpoint_flush.specs.Held.{AreWritten};
 ghost use Rattle.image.specs.Files.{files as files_of};
 ghost use Rattle.image.specs.Reading.{read_nodes};
 ghost use Rattle.image.specs.View.{image_view};

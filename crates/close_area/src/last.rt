@@ -2,20 +2,24 @@
 ghost use Rattle.std.specs.Prelude.{◌≡◌, ◌+◌, ◌≤◌, false, [], map, vec_len, vec_capacity, OnOk, IfOk, IfErr};
 ghost use Rattle.packs_format.specs.Holding.{HoldsTables};
 ghost use Rattle.device.specs.Disk.{Leaves};
-ghost use Rattle.close_area.specs.FileParts.{filed_of};
-ghost use Rattle.close_area.specs.Held.{AreWritten};
+ghost use Rattle.checkpoint_files.specs.FileParts.{filed_of};
+ghost use Rattle.checkpoint_flush.specs.Held.{AreWritten};
 ghost use Rattle.image.specs.Rules.{IsLawful};
 ghost use Rattle.image.specs.View.{image_view};
-ghost use Rattle.close_area.specs.TakenFrom.{IsTakenFrom};
+ghost use Rattle.checkpoint_sync.specs.TakenFrom.{IsTakenFrom};
 ghost use Rattle.rights_permits.specs.Turns.{at_home};
 ghost use Rattle.close_area.specs.Returned.{living};
 ghost use Rattle.close_area.specs.Refused.{IsNotWritten};
 
+use crate::count_living;
 use crate::telling::tell_written;
-use crate::{FileCell, FlushBuffer, WrittenFile, count_living, own_files, share_files, take_image};
 use area::MainArea;
 use checkpoint::{PacksCell, Taken};
+use checkpoint_sync::take_image;
+use close_files::{WrittenFile, own_files, share_files};
 use device::{Block, Meta};
+use file_cells::FileCell;
+use file_flush::FlushBuffer;
 use geometry::{Error, Geometry};
 use image::Image;
 use rights_names::VolumeName;

@@ -10,9 +10,6 @@ mod last;
 mod returning;
 mod telling;
 
-pub use checkpoint_sync::{take_image, take_volume};
-pub use close_files::{FlushBuffer, WrittenFile, own_file, own_files, share_files};
 pub use closing_area::close_area;
 pub use counting::count_living;
-pub use file_cells::{FileCell, FilePass};
 pub use last::{Last, write_last};

@@ -1,9 +1,9 @@
 //! What holds of files that were out of sight for a call.
 ghost use Rattle.std.specs.Prelude.{◌≡◌, map};
 ghost use Rattle.rights_books.specs.Accounts.{AreFiles};
-ghost use Rattle.close_area.specs.Held.{AreWritten};
+ghost use Rattle.checkpoint_flush.specs.Held.{AreWritten};
 
-use crate::WrittenFile;
+use close_files::WrittenFile;
 use device::Block;
 use rights_names::VolumeName;
 

@@ -2,8 +2,8 @@
 use Rattle.std.proofs.Common.{◌≡◌, None, sym, subst}
 use Rattle.atomic_table.specs.Seated.{TableId}
 use Rattle.geometry.specs.declared.geometry.Geometry.{Geometry}
-use Rattle.checkpoint_flush.specs.FileParts.{IsFlushedOrNone}
-use Rattle.checkpoint_flush.specs.Cell.{CellView, IsLawfulCell, Keeps}
+use Rattle.checkpoint_files.specs.FileParts.{IsFlushedOrNone}
+use Rattle.file_cells.specs.Cell.{CellView, IsLawfulCell, Keeps}
 use Rattle.checkpoint_flush.specs.Held.{IsWrittenCell}
 
 -- no node of it is to be written

@@ -13,9 +13,10 @@ ghost use Rattle.close_files.specs.HeldTokens.{HoldTokens};
 use crate::node::return_node;
 use area_emptying::OwnedArea;
 use device::Block;
-use nodes::{FileState, Spare};
+use nodes::FileState;
 use rights_books::Permit;
 use rights_names::VolumeName;
+use tree::Spare;
 
 /// Gives back a file with all that it has, its inode's number too: each of its blocks is at home then, with the bytes that the
 /// file's tickets and tokens show. It takes no memory, and is never refused.

@@ -10,7 +10,6 @@ mod node;
 mod rows;
 mod written;
 
-pub use checkpoint_flush::FlushBuffer;
 pub use file::return_file;
 pub use locks::{own_file, share_files};
 pub use node::return_node;

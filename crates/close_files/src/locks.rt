@@ -2,8 +2,8 @@
 ghost use Rattle.std.specs.Prelude.{◌≡◌, ◌+◌, ◌≤◌, vec_len, vec_capacity};
 
 use crate::written::WrittenFile;
-use checkpoint_flush::FileCell;
 use device::Block;
+use file_cells::FileCell;
 use rights_names::VolumeName;
 use std::sync::{Mutex, Wait};
 

@@ -3,14 +3,16 @@ ghost use Rattle.std.specs.Prelude.{◌≡◌, ◌⊎◌, Some, None, is_some, [
 ghost use Rattle.geometry.specs.declared.error.Error.TheVariants.{NoSpace, Device};
 ghost use Rattle.nodes.specs.File.{file_of};
 ghost use Rattle.rights_permits.specs.Turns.{at_home};
-ghost use Rattle.checkpoint_flush.specs.Cell.{IsLodged};
+ghost use Rattle.file_cells.specs.Cell.{IsLodged};
 ghost use Rattle.checkpoint_flush.specs.Held.{IsWrittenCell};
 
 use area::MainArea;
-use checkpoint_flush::{
-    AuditedFile, FileCell, FilePass, FlushBuffer, HoldsFile, copy_tree, flush_cell,
-};
+use checkpoint_files::copy_tree;
+use checkpoint_flush::flush_cell;
+use checkpoint_image::{AuditedFile, HoldsFile};
 use device::Block;
+use file_cells::{FileCell, FilePass};
+use file_flush::FlushBuffer;
 use geometry::Error;
 use image::Node;
 use nodes::FileState;
@@ -27,7 +29,7 @@ pub struct WrittenFile<V: VolumeName, B: Block + Drop> {
 }
 
 impl<V: VolumeName, B: Block + Drop> Model for WrittenFile<V, B> {
-    ghost use Rattle.checkpoint_flush.specs.Cell.{CellView};
+    ghost use Rattle.file_cells.specs.Cell.{CellView};
     ghost use Rattle.checkpoint_flush.specs.Held.{IsWrittenCell};
 
     ghost Value = { CellView B B.Lease };
@@ -119,7 +121,7 @@ impl<V: VolumeName, B: Block + Drop> WrittenFile<V, B> {
 }
 
 impl<V: VolumeName, B: Block + Drop> HoldsFile for WrittenFile<V, B> {
-    ghost use Rattle.checkpoint_flush.specs.FileParts.{filed_of};
+    ghost use Rattle.checkpoint_files.specs.FileParts.{filed_of};
 
     ghost shown = { λ w. filed_of w.account w.state };
 

@@ -11,6 +11,7 @@ ghost use Rattle.geometry.specs.Shape.{block_bytes};
 ghost use Rattle.volume.specs.Picked.{HaveNames};
 
 use device::{MemBlock, MemDevice, MemMeta};
+use file_cells::FilePass;
 use geometry::{Error, Geometry, Kind, Shape};
 use mount::{Mounted, MountedQueues, mount};
 use rights_names::{BooksOf, NumbersOf, PoolName, TablesName, TurnName, VolumeName, WordsOf};
@@ -19,7 +20,7 @@ use std::marker::Brand;
 use std::sync::Wait;
 use std::thread::Threads;
 use std::{io, thread};
-use volume::{FilePass, SharedName, Volume};
+use volume::{SharedName, Volume};
 use volume_format::format;
 
 fn main(rt: HostRuntime) -> io::Result<()> {

@@ -22,7 +22,7 @@ use Rattle.rights_books.specs.Rules.{with_lodged}
 use Rattle.rights_books.specs.Weights.{mark_of}
 use Rattle.geometry.specs.declared.owner.Owner.TheVariants.{Node}
 use Rattle.geometry.proofs.MarkTests.{mark_self}
-use Rattle.area.specs.Taken.{placed_of}
+use Rattle.nat.specs.Taken.{placed_of}
 use Rattle.tickets.specs.Placed.{Placed}
 use Rattle.tree.specs.declared.spare.Spare.TheVariants.{Ticket, Token}
 use Rattle.tree.specs.Tree.{SetsAt, KeepsNamers, Same, HandsOut}

@@ -13,10 +13,11 @@ ghost use Rattle.file_calls.specs.Contents.{IsStored, InHand, Serves};
 use crate::node::give_node;
 use area::MainArea;
 use device::Block;
-use nodes::{FileState, Spare};
+use nodes::FileState;
 use rights_books::Permit;
 use rights_names::VolumeName;
 use std::sync::Wait;
+use tree::Spare;
 
 /// Cuts a file to a length, in blocks, or leaves it where it is shorter: each block at or past the length, and each node
 /// that names nothing then, is given back. It takes no memory, and is never refused.

@@ -19,10 +19,10 @@ use Rattle.rights_permits.specs.Turns.{at_home}
 use Rattle.nodes.specs.declared.file.FileState.{FileState}
 use Rattle.nodes.specs.File.{IsFile, IsBare, inode_of, ticket_at, blocks_below, content_of, file_of}
 use Rattle.nodes.specs.Held.{AreHeld, no_others}
-use Rattle.cleaning.specs.Law.{FileStateLaw}
-use Rattle.cleaning.proofs.Lasting.{law_new}
-use Rattle.cleaning.specs.Contents.{InHand, Serves}
-use Rattle.cleaning.proofs.Born.{stored_new, in_hand_new}
+use Rattle.nodes_law.specs.Law.{FileStateLaw}
+use Rattle.nodes_law.proofs.Lasting.{law_new}
+use Rattle.file_calls.specs.Contents.{InHand, Serves}
+use Rattle.file_calls.proofs.Born.{stored_new, in_hand_new}
 use Rattle.file_cells.specs.Cell.{IsLodged, IsCell, CellView}
 use Rattle.file_cells.specs.Pass.{Pass, IsPassOf}
 

@@ -7,8 +7,8 @@ use Rattle.rights_books.specs.Contents.{as_content}
 use Rattle.nodes.specs.declared.file.FileState.{FileState}
 use Rattle.nodes.specs.File.{file_of}
 use Rattle.nodes.specs.Held.{AreHeld}
-use Rattle.cleaning.specs.Law.{FileStateLaw}
-use Rattle.cleaning.specs.Contents.{IsStored}
+use Rattle.nodes_law.specs.Law.{FileStateLaw}
+use Rattle.file_calls.specs.Contents.{IsStored}
 
 -- A file's state between calls, under the law that an image of it needs. The account has lodged its tickets and tokens, each
 -- as often.

@@ -11,8 +11,8 @@ ghost use Rattle.rights_permits.specs.Turns.{at_home};
 ghost use Rattle.file_cells.specs.Cell.{IsLodged};
 
 use area::MainArea;
-use cleaning::{cut_blocks, give_up, write_block};
 use device::Block;
+use file_calls::{cut_blocks, give_up, write_block};
 use geometry::Error;
 use nodes::FileState;
 use rights_books::{Books, FileAccount, Noted, PassAccount, Permit};

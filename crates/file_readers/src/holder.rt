@@ -4,8 +4,8 @@ ghost use Rattle.words.specs.Claims.{times};
 ghost use Rattle.words.specs.Steps.{pins_with, pins_without};
 ghost use Rattle.sit.specs.Pinned.{HasBlockIn};
 
+use area::{MainArea, SegmentCell};
 use device::Block;
-use file_calls::{MainArea, SegmentCell};
 use rights_books::FileAccount;
 use rights_names::VolumeName;
 use std::marker::{Model, PhantomData};

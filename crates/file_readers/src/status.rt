@@ -2,8 +2,8 @@
 ghost use Rattle.std.specs.Prelude.{◌≡◌, ◌+◌, ◌<◌};
 ghost use Rattle.file_readers.specs.Status.{all};
 
+use area::MainArea;
 use device::Block;
-use file_calls::MainArea;
 use geometry::State;
 use rights_names::VolumeName;
 use std::sync::Wait;

@@ -19,5 +19,4 @@ mod named;
 mod shards;
 
 pub use made::{MountTables, free_memory};
-pub use mount_reading::OpenFault;
 pub use mounted::{Mounted, MountedQueues, NamedMount, mount};

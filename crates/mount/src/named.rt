@@ -10,6 +10,7 @@ use crate::frames::MountFrames;
 use crate::mounted::{Mounted, MountedQueues, NamedMount};
 use crate::mounted_area::lock_area;
 use crate::{MountTables, free_memory};
+use checkpoint::PacksCell;
 use device::{Block, Meta};
 use file_cells::FilePass;
 use file_readers::Seat;
@@ -17,7 +18,7 @@ use mount_files::{LoadedVolume, load_volume};
 use mount_reading::{OpenFault, OpenedDevice};
 use rights_names::{BooksName, GeometryName, Named, PoolName, TurnName, WordsName};
 use std::sync::Wait;
-use volume::{Base, PacksCell, SpareCell, Volume};
+use volume::{Base, SpareCell, Volume};
 
 impl<L: BooksName, W: WordsName, N: GeometryName, M: Meta, B: Block + Drop> MountedQueues<
     L,

@@ -18,7 +18,6 @@ mod table;
 mod tickets_of;
 mod tokens_of;
 
-pub use mount_trees::free_table;
 pub use numbers::load_nodes;
 pub use segment_rights::SegmentRights;
 pub use segments::load_segments;

@@ -13,7 +13,8 @@ use crate::stock::Stock;
 use device::Block;
 use image::{Image, Node};
 use std::alloc::{AllocError, Global};
-use tree::{Branch, Subtree, Ticket};
+use tickets::Ticket;
+use tree::{Branch, Subtree};
 
 /// A tree that an image names (Linux `filesystems/f2fs`, index structure).
 ///

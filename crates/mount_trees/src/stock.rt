@@ -4,7 +4,7 @@ ghost use Rattle.mount_trees.specs.Goods.{goods_weight, AreLeft};
 
 use std::marker::Model;
 use std::snapshot::Snapshot;
-use tree::NidToken;
+use tickets::NidToken;
 
 /// The tickets of the blocks that files name, each at its address, and the tokens of their nodes, each at its number, which
 /// go out one by one; `{ tickets; tokens; all }` to contracts, where `all` is what was there at first.

@@ -12,4 +12,3 @@ mod spare;
 
 pub use file::FileState;
 pub use spare::SparePath;
-pub use tree::Spare;

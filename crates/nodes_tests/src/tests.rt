@@ -13,12 +13,13 @@ ghost use Rattle.nodes.specs.Lacking.{lacking_to, AreEmptyNodes};
 
 use device::MemBlock;
 use geometry::{Kind, Mark, Owner, Shape};
-use nodes::{FileState, Spare, SparePath};
+use nodes::{FileState, SparePath};
 use rights_books::{Books, Layout, Permit, SegmentAccount, ShardAccount};
 use std::alloc::Global;
 use std::process::Abort;
 use std::test::*;
 use tickets::{NidToken, Ticket};
+use tree::Spare;
 
 mod kernel;
 mod marks;

@@ -10,6 +10,8 @@ use crate::disk::Faults;
 use crate::steps::{Carried, Halt, Opening, run_session};
 use crate::stop::Stop;
 use device::{Block, Meta, Parts};
+use file_cells::FilePass;
+use file_readers::Seat;
 use program_script::Step;
 use program_session::lines::tell_unsynced;
 use program_workers::SharedBlock;
@@ -18,7 +20,7 @@ use std::alloc::Global;
 use std::io::Write;
 use std::sync::Wait;
 use std::thread::Threads;
-use volume::{CloseFault, Closed, FilePass, Seat, SharedName, Volume};
+use volume::{CloseFault, Closed, SharedName, Volume};
 
 /// A device whose volume was left: how many steps were run, and what the script carries on. All were run, or the next one
 /// mounts the device again.

@@ -16,6 +16,7 @@ use crate::leaving::{Left, run_volume};
 use crate::steps::Carried;
 use crate::stop::Stop;
 use device::{Meta, Parts};
+use file_cells::FilePass;
 use mount::{Mounted, MountedQueues, mount};
 use program_script::Step;
 use program_workers::SharedBlock;
@@ -25,7 +26,6 @@ use std::io::Write;
 use std::marker::Brand;
 use std::sync::Wait;
 use std::thread::Threads;
-use volume::FilePass;
 
 /// Mounts the parts of a device, runs the steps on its volume, and leaves it.
 pub fn run_mounted<M: Meta + Drop + Send, B: SharedBlock, R: Threads + Wait + Sync, O: Write>(

@@ -9,6 +9,8 @@ ghost use Rattle.program_run.specs.Run.{CommandWrites, IsHalted, RanSome, StepWr
 use crate::disk::Faults;
 use crate::stop::Stop;
 use device::{Block, Meta};
+use file_cells::FilePass;
+use file_readers::Seat;
 use geometry::Error;
 use program_script::{Command, Step};
 use program_session::lines::{tell_created, tell_done, tell_refusal, tell_status, tell_taken};
@@ -20,7 +22,7 @@ use std::io;
 use std::io::Write;
 use std::sync::Wait;
 use std::thread::Threads;
-use volume::{FilePass, Seat, SharedName, Volume};
+use volume::{SharedName, Volume};
 
 /// What a script carries from one volume to the next: whether the device was just formatted, the time that was set, and how many
 /// readers were taken.

@@ -12,6 +12,7 @@ ghost use Rattle.volume.specs.Picked.{HaveNames};
 
 use crate::stop::Stop;
 use device::{Block, Meta, Parts};
+use file_cells::FilePass;
 use geometry::Error;
 use mount::{Mounted, MountedQueues, mount};
 use program_session::Content;
@@ -21,7 +22,7 @@ use std::alloc::Global;
 use std::io::Write;
 use std::marker::Brand;
 use std::sync::Wait;
-use volume::{FilePass, Volume};
+use volume::Volume;
 
 /// Mounts the parts of a device, and writes the line of each file and the total of the image that they hold.
 pub fn tell_parts<M: Meta + Drop, B: Block + Drop, R: Wait, O: Write>(

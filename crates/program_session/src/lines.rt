@@ -5,10 +5,11 @@ ghost use Rattle.program_session.specs.Lines.{cleaned_line, created_line, done_l
 
 use crate::content::Content;
 use crate::synced::Synced;
+use cleaning::Cleaned;
+use file_readers::Status;
 use geometry::Error;
 use std::io;
 use std::io::Write;
-use volume::{Cleaned, Status};
 
 /// Writes the line of a lawful image: its version and its total, and how many segments are free.
 pub fn tell_numbers<W: Write>(version: u32, total: u32, free: u32, out: &mut W) -> io::Result<()>

@@ -5,10 +5,11 @@ ghost use Rattle.geometry.specs.declared.error.Error.TheVariants.{NoFile, NoMemo
 ghost use Rattle.program_session.specs.Files.{AreAllTaken, AreInOrder, IsFirstFree, StandInPlace, passes_among};
 
 use device::Block;
+use file_cells::FilePass;
+use file_readers::{Reader, Seat};
 use geometry::Error;
 use rights_names::VolumeName;
 use std::alloc::Global;
-use volume::{FilePass, Reader, Seat};
 
 /// Closes the readers that are open, and adds their seats to these. The only error is NoMemory.
 pub(crate) fn close_readers<V: VolumeName, B: Block + Drop>(

@@ -17,13 +17,16 @@ use crate::places::{
     place_passes, reader_place,
 };
 use crate::synced::Synced;
+use cleaning::{Cleaned, Policy};
 use device::{Block, Meta};
+use file_cells::FilePass;
+use file_readers::{Reader, Seat, Status};
 use geometry::{Error, Kind};
 use rights_names::VolumeName;
 use std::alloc::Global;
 use std::marker::Model;
 use std::sync::Wait;
-use volume::{Cleaned, FilePass, Policy, Reader, Seat, Status, Volume};
+use volume::Volume;
 
 // How many seats a volume has.
 const SEATS: u32 = 64;

@@ -7,13 +7,13 @@ ghost use Rattle.program_session.specs.Work.{IsLooked, WorkWrites, Wrote, policy
 
 use crate::lines::{tell_cleaned, tell_done, tell_read, tell_refusal, tell_synced};
 use crate::session::Session;
+use cleaning::Policy;
 use device::{Block, Meta};
 use program_script::{Cleaning, Work};
 use rights_names::VolumeName;
 use std::io;
 use std::io::Write;
 use std::sync::Wait;
-use volume::Policy;
 
 /// Does the work, and writes its line.
 pub fn run_work<V: VolumeName, M: Meta, B: Block + Drop, T: Wait, W: Write>(

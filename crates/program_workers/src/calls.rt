@@ -3,13 +3,13 @@ ghost use Rattle.std.specs.Prelude.{◌≡◌};
 ghost use Rattle.program_session.specs.Work.{IsCut, IsFilled, IsFound, IsSynced, IsTidied, IsWritten};
 
 use crate::gate::Gate;
+use cleaning::Cleaned;
 use device::{Block, Meta};
 use geometry::Error;
 use program_script::Cleaning;
 use program_session::{Content, Session, Synced, policy_of};
 use rights_names::VolumeName;
 use std::sync::Wait;
-use volume::Cleaned;
 
 /// A worker with the number of the calls that it has made.
 #[derive(Drop)]

@@ -1,2 +1,1 @@
 pub mod Placed
-pub use Rattle.rights_books.specs.declared.claim.Entry

@@ -7,6 +7,5 @@ mod node;
 mod tests;
 mod ticket;
 
-pub use device::{Block, DeviceError};
 pub use node::{NidToken, give_block};
 pub use ticket::Ticket;

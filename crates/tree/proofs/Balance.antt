@@ -1,6 +1,6 @@
 -- A node that stays has its token still: so a call's change balances the tickets and the tokens, each for themselves.
 use Rattle.std.proofs.Common.{◌≡◌, ℕ, ◌+◌, Bool, true, false, Some, None, refl, sym, ap, arith}
-use Rattle.tickets.specs.Entry.{Entry}
+use Rattle.rights_books.specs.declared.claim.Entry.{Entry}
 use Rattle.tree.specs.declared.spare.Spare.{Spare}
 use Rattle.tree.specs.declared.spare.Spare.TheVariants.{Ticket, Token}
 use Rattle.tree.specs.Change.{TreeNode, Weighing, Touched, MarksOne, gone, come, Trades, WeighsAs, nothing, each_one, of_tickets, of_tokens}

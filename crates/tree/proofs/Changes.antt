@@ -7,7 +7,7 @@ use Rattle.std.proofs.lemmas.List.{get_or_default}
 use Rattle.sums.specs.Weights.{weigh}
 use Rattle.sums.proofs.Weighing.{weigh-set}
 use Rattle.tree.specs.Tree.{entry_at, AreNone, EmptyFrom}
-use Rattle.tickets.specs.Entry.{Entry}
+use Rattle.rights_books.specs.declared.claim.Entry.{Entry}
 use Rattle.tree.specs.Change.{tree_node, TreeNode, Weighing, Touched, gone, come, MarksOne, Trades, ChangesSlot, ChangesEntries}
 
 -- what the entries weigh, where one is set

@@ -3,7 +3,7 @@
 use Rattle.std.specs.Prelude.{◌≡◌, ℕ, ◌+◌, ◌==◌, ◌&&◌, Bool, true, false, if◌then◌else◌, List, [], map, slice_index_or, Option, Some, None}
 use Rattle.geometry.specs.declared.kind.Kind.{Kind}
 use Rattle.geometry.specs.declared.kind.Kind.TheVariants.{File}
-use Rattle.tickets.specs.Entry.{Entry}
+use Rattle.rights_books.specs.declared.claim.Entry.{Entry}
 use Rattle.sums.specs.Weights.{weigh}
 use Rattle.tree.specs.declared.spare.Spare.{Spare}
 use Rattle.tree.specs.declared.spare.Spare.TheVariants.{Ticket, Token}

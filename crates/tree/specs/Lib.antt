@@ -3,7 +3,6 @@ pub mod Change
 pub mod Laws
 pub mod Pruned
 pub mod Useful
-pub use Rattle.tickets.specs.Entry
 pub mod Padded
 pub mod Lending
 pub mod Spares

@@ -1,6 +1,6 @@
 -- Nodes that are made before they are needed: of each level at most one.
 use Rattle.std.specs.Prelude.{◌≡◌, ℕ, ◌+◌, ◌/◌, ◌%◌, Bool, true, List, length, is_none, if◌then◌else◌, Option, Some, None}
-use Rattle.tree.specs.Entry.{Entry}
+use Rattle.rights_books.specs.declared.claim.Entry.{Entry}
 use Rattle.tree.specs.declared.branch.Branch.{Branch}
 use Rattle.tree.specs.Tree.{AreNone, entry_at, number_of}
 

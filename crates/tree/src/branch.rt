@@ -6,8 +6,9 @@ ghost use Rattle.tree.specs.Change.{tree_node, weight_below};
 use crate::entries::{Entries, Pruned};
 use crate::spare::Spare;
 use crate::subtree::Subtree;
+use device::DeviceError;
 use std::alloc::Global;
-use tickets::{DeviceError, NidToken};
+use tickets::NidToken;
 
 /// A node other than an inode: the token of its number, and its entries.
 pub struct Branch<C> {

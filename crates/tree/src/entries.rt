@@ -6,8 +6,8 @@ ghost use Rattle.tree.specs.Change.{nothing, each_marked};
 
 use crate::slots::Slots;
 use crate::subtree::Subtree;
+use device::DeviceError;
 use std::alloc::{AllocError, Global};
-use tickets::DeviceError;
 
 mod change;
 mod cut;

@@ -18,4 +18,3 @@ pub use slots::Slots;
 pub use spare::Spare;
 pub use spare_entries::{is_ready_in, plant_in, prepare_in};
 pub use subtree::Subtree;
-pub use tickets::{NidToken, Ticket};

@@ -1,15 +1,16 @@
 //! Spare nodes below one entry.
 ghost use Rattle.std.specs.Prelude.{Bool, ◌≡◌, ℕ, ◌+◌, ◌%◌, ◌^◌, ◌<◌, is_none, OnOk, OnErr, IfErr, MatchOption, IsTrue, ◌↔◌, Option, Some, None, true, false};
-ghost use Rattle.tree.specs.Entry.{Entry};
+ghost use Rattle.rights_books.specs.declared.claim.Entry.{Entry};
 ghost use Rattle.tree.specs.Tree.{Same, SparesIndex};
 ghost use Rattle.tree.specs.Change.{TreeNode, ChangesSlot, IsNewNode, nothing};
 ghost use Rattle.tree.specs.Spares.{KeepsNames, lacking_below, token_weight, IsEmptyNode, number_at_end};
 
 use crate::spare_entries::{is_ready_in, plant_in, prepare_in};
-use crate::{Branch, NidToken, Subtree, Ticket};
+use crate::{Branch, Subtree};
 use device::Block;
 use std::alloc::Global;
 use std::mem;
+use tickets::{NidToken, Ticket};
 
 /// A tree whose missing nodes can be made before they are needed.
 ///

@@ -1,13 +1,14 @@
 //! Spare nodes below the entries of a node.
 ghost use Rattle.std.specs.Prelude.{Bool, ◌≡◌, ℕ, ◌+◌, ◌*◌, ◌/◌, ◌%◌, ◌^◌, ◌<◌, length, slice_set, OnOk, OnErr, IfErr, IsTrue, ◌↔◌, true, false, Some};
-ghost use Rattle.tree.specs.Entry.{Entry};
+ghost use Rattle.rights_books.specs.declared.claim.Entry.{Entry};
 ghost use Rattle.tree.specs.Tree.{Same, ShapedIn, UsefulIn, SparesIndex, entry_at, find_in, missing_in};
 ghost use Rattle.tree.specs.Change.{TreeNode, ChangesEntries, IsNewNode, nothing};
 ghost use Rattle.tree.specs.Spares.{KeepsNames, lacking_in};
 
 use crate::planting::Planting;
-use crate::{Entries, NidToken, Subtree};
+use crate::{Entries, Subtree};
 use std::alloc::Global;
+use tickets::NidToken;
 
 /// Whether each node that is missing on the way to the index has been made.
 pub fn is_ready_in<C: Planting>(

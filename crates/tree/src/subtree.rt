@@ -4,8 +4,9 @@ ghost use Rattle.tree.specs.Tree.{SetsAt, Same, KeepsNamers, EmptyFrom, HandsOut
 ghost use Rattle.tree.specs.Change.{Weighing, ticket_weight, ChangesSlot, WeighsAs, nothing, each_marked, each_naming};
 
 use crate::spare::Spare;
+use device::{Block, DeviceError};
 use std::mem;
-use tickets::{Block, DeviceError, Ticket};
+use tickets::Ticket;
 
 /// The ticket of a block, or a node with entries that name subtrees (Linux `filesystems/f2fs`, index structure).
 ///

@@ -9,7 +9,8 @@ use crate::entries::{flush_entries, write_branch};
 use crate::writer::NodeWriter;
 use device::Block;
 use geometry::Error;
-use tree::{Branch, Subtree, Ticket};
+use tickets::Ticket;
+use tree::{Branch, Subtree};
 
 /// A tree whose marked nodes can be written.
 pub trait Walk: Subtree {

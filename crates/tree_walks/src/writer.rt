@@ -6,7 +6,7 @@ ghost use Rattle.tree.specs.Change.{TreeNode};
 ghost use Rattle.tree_walks.specs.Writing.{marked_node};
 
 use geometry::{Class, Error, Kind};
-use tree::NidToken;
+use tickets::NidToken;
 
 /// What a node's block is to spell, beside its number and that of its inode.
 #[derive(Clone, Copy)]

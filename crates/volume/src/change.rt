@@ -7,8 +7,8 @@ ghost use Rattle.geometry.specs.Shape.{block_bytes};
 ghost use Rattle.rights_permits.specs.Turns.{at_home};
 
 use crate::volume::Volume;
-use close_area::FilePass;
 use device::{Block, Meta};
+use file_cells::FilePass;
 use geometry::{Error, Kind};
 use rights_books::Permit;
 use rights_names::VolumeName;

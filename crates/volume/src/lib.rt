@@ -13,13 +13,8 @@ mod sync;
 mod volume;
 mod volume_names;
 
-pub use area_emptying::SpareRows;
 pub use cells::SpareCell;
-pub use checkpoint::{PacksCell, Stored};
-pub use cleaning::{Cleaned, Policy};
-pub use close_area::{FileCell, FilePass, take_volume};
 pub use closing_volume::Closed;
-pub use file_readers::{Reader, Seat, Status};
 pub use leaving::CloseFault;
 pub use queues::open_queues;
 pub use volume::{Base, Volume};

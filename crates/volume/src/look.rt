@@ -5,8 +5,8 @@ ghost use Rattle.file_readers.specs.Reader.{IsPinned};
 ghost use Rattle.file_readers.specs.Status.{all};
 
 use crate::volume::Volume;
-use close_area::FilePass;
 use device::{Block, Meta};
+use file_cells::FilePass;
 use file_readers::{Reader, Seat, Status, count_states};
 use geometry::Error;
 use rights_names::VolumeName;

@@ -5,13 +5,14 @@ ghost use Rattle.image.specs.Rules.{IsInRange, IsLawful};
 ghost use Rattle.image.specs.View.{image_view};
 ghost use Rattle.checkpoint.specs.Files.{files_of};
 ghost use Rattle.checkpoint.specs.Holding.{IsInPack};
-ghost use Rattle.close_area.specs.Lent.{shown_by};
+ghost use Rattle.checkpoint_sync.specs.Lent.{shown_by};
 
 use crate::volume::Volume;
 use area::free_retired;
 use checkpoint::{PacksCell, Stored, Taken};
-use close_area::{FilePass, take_volume};
+use checkpoint_sync::take_volume;
 use device::{Block, Meta};
+use file_cells::FilePass;
 use geometry::Error;
 use rights_names::VolumeName;
 use std::sync::Wait;

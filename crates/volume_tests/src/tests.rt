@@ -13,8 +13,11 @@ mod open;
 mod rows;
 mod trips;
 
+use cleaning::Policy;
 use device::{Block, Fuse, MemBlock, MemMeta, Meta, Parts};
 use ending::{End, end_volume};
+use file_cells::FilePass;
+use file_readers::Seat;
 use geometry::{Error, Geometry, Kind, Shape};
 use open::{on_new_volume, with_mounted};
 use rights_names::VolumeName;
@@ -23,7 +26,7 @@ use std::alloc::Global;
 use std::process::Abort;
 use std::sync::Wait;
 use std::test::*;
-use volume::{FilePass, Policy, Seat, Volume};
+use volume::Volume;
 
 // So many bytes has a block of the tiny shape.
 const BLOCK: usize = 64;

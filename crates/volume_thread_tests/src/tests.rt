@@ -10,6 +10,8 @@ mod waits;
 
 use crowd::Crowd;
 use device::MemMeta;
+use file_cells::FilePass;
+use file_readers::Seat;
 use geometry::Kind;
 use part::Part;
 use rights_names::VolumeName;
@@ -18,7 +20,7 @@ use std::process::Abort;
 use std::sync::Wait;
 use std::test::*;
 use std::thread::Threads;
-use volume::{FilePass, Seat, SharedName, Volume};
+use volume::{SharedName, Volume};
 use waits::{GatedBlock, Gates};
 
 // What the threads do: a part of a script, or one of the others.

@@ -3,12 +3,12 @@ use super::Size;
 use super::work::Timed;
 use crate::desk::Desk;
 use crate::places::Places;
+use file_readers::Seat;
 use rights_names::VolumeName;
 use std::io;
 use std::rt::Runtime;
 use std::sync::Wait;
 use std::time::Instant;
-use volume::Seat;
 
 /// Readers that are taken and closed, one after the other, and the seat that they had.
 pub fn taken<V: VolumeName, R: Runtime + Wait>(

@@ -5,6 +5,7 @@ use super::looking::{looks, taken};
 use crate::depth::Depth;
 use crate::desk::Desk;
 use crate::places::Places;
+use file_readers::Seat;
 use rights_names::VolumeName;
 use std::alloc::Global;
 use std::fmt::Write;
@@ -12,7 +13,6 @@ use std::io;
 use std::rt::Runtime;
 use std::sync::Wait;
 use std::time::{Duration, Instant};
-use volume::Seat;
 
 /// How many calls were done, and the time that all of them took.
 #[derive(Clone, Copy)]

@@ -4,13 +4,14 @@ use super::report::Checkpoints;
 use crate::desk::Desk;
 use crate::fault::Fault;
 use device::{MemBlock, MemMeta};
+use file_cells::FilePass;
 use geometry::Kind;
 use rights_names::VolumeName;
 use std::alloc::Global;
 use std::rt::Runtime;
 use std::sync::Wait;
 use std::time::{Duration, Instant};
-use volume::{FilePass, Volume};
+use volume::Volume;
 
 /// Writes a file, and checkpoints after one of its blocks was written again and after a tenth of them. With their times comes the
 /// file's pass.

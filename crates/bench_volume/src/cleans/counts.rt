@@ -1,8 +1,8 @@
 //! What is counted, and how it is told.
 use super::load::Load;
+use cleaning::Cleaned;
 use std::fmt::Write;
 use std::io;
-use volume::Cleaned;
 
 /// How many blocks were written, how many sections were cleaned, and how many blocks were moved out of them.
 #[derive(Clone, Copy)]

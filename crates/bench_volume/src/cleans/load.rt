@@ -1,8 +1,8 @@
 //! What is written, and how sections are chosen.
+use cleaning::Policy;
 use geometry::Shape;
 use std::fmt::Write;
 use std::io;
-use volume::Policy;
 
 // So many segments are not counted as room for data: those that the six logs have open, and the reserve of the pool.
 const KEPT: u32 = 10;

@@ -2,11 +2,12 @@
 use super::Size;
 use crate::desk::Desk;
 use device::{MemBlock, MemMeta};
+use file_cells::FilePass;
 use geometry::{Error, Kind};
 use rights_names::VolumeName;
 use std::alloc::Global;
 use std::sync::Wait;
-use volume::{FilePass, Volume};
+use volume::Volume;
 
 /// Makes the files of a new volume, and answers their passes.
 pub fn make_files<V: VolumeName, R: Wait>(

@@ -4,13 +4,15 @@ use super::{
     BLOCK, Device, Left, Step, assert_file, is_full, mount_again, new_block, with_volume, write,
 };
 use device::{Block, Meta};
+use file_cells::FilePass;
+use file_readers::Seat;
 use geometry::{Error, Kind};
 use rights_names::VolumeName;
 use std::alloc::Global;
 use std::process::Abort;
 use std::sync::Wait;
 use std::test::*;
-use volume::{CloseFault, Closed, FilePass, Seat, Volume};
+use volume::{CloseFault, Closed, Volume};
 
 // How a volume is left.
 #[derive(Clone, Copy)]

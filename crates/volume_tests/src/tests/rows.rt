@@ -7,14 +7,17 @@ mod space;
 
 use super::open::on_new_volume;
 use super::{Device, End, Left, STALE, Step, read};
+use cleaning::Policy;
 use device::{Block, MemBlock, MemMeta, Meta, Parts};
+use file_cells::FilePass;
+use file_readers::Status;
 use geometry::{Error, Geometry, Kind, Shape};
 use rights_names::VolumeName;
 use std::alloc::Global;
 use std::process::Abort;
 use std::sync::Wait;
 use std::test::*;
-use volume::{FilePass, Policy, Status, Volume};
+use volume::Volume;
 
 // What is done with a new volume.
 #[derive(Clone, Copy)]

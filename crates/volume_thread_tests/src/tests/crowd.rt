@@ -7,6 +7,8 @@ use super::open::with_volume;
 use super::waits::{GatedBlock, Gates, Sign};
 use super::{Alone, Row, create, fill, has, keep};
 use device::MemMeta;
+use file_cells::FilePass;
+use file_readers::Seat;
 use geometry::Kind;
 use rights_names::VolumeName;
 use std::alloc::Global;
@@ -15,7 +17,7 @@ use std::sync::{Arc, Wait};
 use std::test::*;
 use std::thread;
 use std::thread::Threads;
-use volume::{FilePass, Seat, SharedName, Volume};
+use volume::{SharedName, Volume};
 
 // So many threads of each kind.
 #[derive(Clone, Copy)]

@@ -2,7 +2,9 @@
 use super::open::with_volume;
 use super::waits::{Gate, GatedBlock, Gates};
 use super::{Alone, Row, create, fill, has, keep};
+use cleaning::Policy;
 use device::MemMeta;
+use file_cells::FilePass;
 use geometry::Kind;
 use rights_names::VolumeName;
 use std::alloc::Global;
@@ -11,7 +13,7 @@ use std::sync::{Arc, Wait};
 use std::test::*;
 use std::thread;
 use std::thread::Threads;
-use volume::{FilePass, Policy, SharedName, Volume};
+use volume::{SharedName, Volume};
 
 // Writes the first block of a directory and of a file, side by side.
 pub(crate) fn write_in_two_logs<V: SharedName, R: Threads + Wait + Abort + Sync>(

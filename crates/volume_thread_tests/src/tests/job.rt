@@ -2,12 +2,15 @@
 use super::fill;
 use super::looks::look;
 use super::waits::{GatedBlock, Sign};
+use cleaning::Policy;
 use device::MemMeta;
+use file_cells::FilePass;
+use file_readers::{Reader, Seat};
 use rights_names::VolumeName;
 use std::alloc::Global;
 use std::process::Abort;
 use std::sync::Wait;
-use volume::{FilePass, Policy, Reader, Seat, Volume};
+use volume::Volume;
 
 /// So many blocks has each file.
 pub(crate) const BLOCKS: u32 = 10;

@@ -7,6 +7,8 @@ use super::open::with_volume;
 use super::waits::{GatedBlock, Gates};
 use super::{Alone, Row, create, fill, has, is_full, keep};
 use device::MemMeta;
+use file_cells::FilePass;
+use file_readers::{Reader, Seat};
 use geometry::Kind;
 use rights_names::VolumeName;
 use std::alloc::Global;
@@ -15,7 +17,7 @@ use std::sync::{Arc, Wait};
 use std::test::*;
 use std::thread;
 use std::thread::Threads;
-use volume::{FilePass, Reader, Seat, SharedName, Volume};
+use volume::{SharedName, Volume};
 
 // The file has so many blocks, full of one byte before the reader was taken and of another one after.
 const BLOCKS: u32 = 8;

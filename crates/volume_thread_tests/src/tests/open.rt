@@ -6,6 +6,8 @@ use super::part::{Part, begin, end};
 use super::waits::{GatedBlock, Gates, gated_parts};
 use super::{Row, run_alone};
 use device::MemMeta;
+use file_cells::FilePass;
+use file_readers::Seat;
 use geometry::{Error, Geometry, Shape};
 use mount::{Mounted, MountedQueues, mount};
 use program_workers::run_part;
@@ -16,7 +18,7 @@ use std::process::Abort;
 use std::sync::{Arc, Wait};
 use std::test::*;
 use std::thread::Threads;
-use volume::{CloseFault, Closed, FilePass, Seat, Volume};
+use volume::{CloseFault, Closed, Volume};
 use volume_format::format;
 
 /// Does a row on a new volume of so many segments of 8 blocks, with at most 8 files, on a device with gates. Closes the volume,

@@ -5,6 +5,8 @@ use super::Row;
 use super::open::with_volume;
 use super::waits::{GatedBlock, Gates, Sign};
 use device::MemMeta;
+use file_cells::FilePass;
+use file_readers::Seat;
 use geometry::Kind;
 use program_script::{Script, Step, Worker};
 use program_session::{Ended, Session};
@@ -14,7 +16,7 @@ use std::alloc::Global;
 use std::process::Abort;
 use std::sync::{Arc, Wait};
 use std::test::*;
-use volume::{FilePass, Seat, Volume};
+use volume::Volume;
 
 // The workers of a part, what each call of theirs goes through, and the lines that they are to tell.
 #[derive(Clone, Copy)]

@@ -3,6 +3,7 @@ use super::open::with_volume;
 use super::waits::{GatedBlock, Gates, Sign};
 use super::{Alone, Row, create, fill, has, keep};
 use device::MemMeta;
+use file_cells::FilePass;
 use geometry::Kind;
 use rights_names::VolumeName;
 use std::alloc::Global;
@@ -11,7 +12,7 @@ use std::sync::{Arc, Wait};
 use std::test::*;
 use std::thread;
 use std::thread::Threads;
-use volume::{FilePass, SharedName, Volume};
+use volume::{SharedName, Volume};
 
 // Both writers overwrite their block once the other one has written.
 pub(crate) fn write_in_turns<V: SharedName, R: Threads + Wait + Abort + Sync>(

@@ -1,5 +1,5 @@
 use Rattle.std.proofs.Common.{◌≡◌, ◌+◌, ◌-◌, ◌<◌, length, sym, subst, ◌∙◌, arith}
-use Rattle.checkpoint_flush.proofs.Turning.{got}
+use Rattle.checkpoint_image.proofs.Turning.{got}
 use Rattle.image.specs.View.{image_view}
 use Rattle.checkpoint.specs.Files.{IsStateOf}
 use Rattle.checkpoint_sync.proofs.Laws.{number_is, state_is}

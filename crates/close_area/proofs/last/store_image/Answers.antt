@@ -4,7 +4,7 @@ use Rattle.device.specs.Disk.{Leaves}
 use Rattle.rights_books.specs.Accounts.{AreFiles}
 use Rattle.image.specs.Rules.{IsLawful, IsInRange}
 use Rattle.image.specs.View.{image_view}
-use Rattle.close_area.proofs.Laws.{accounts_are, held_are}
+use Rattle.checkpoint_sync.proofs.Laws.{accounts_are, held_are}
 use Rattle.close_area.proofs.last.store_image.Goals as goal
 
 pub take_image-all-requires-clause-accounts : goal.take_image-all-requires-clause-accounts

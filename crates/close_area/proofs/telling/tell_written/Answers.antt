@@ -3,10 +3,10 @@ use Rattle.std.specs.Option.{option_map}
 use Rattle.std.proofs.lemmas.List.{length-take-le, take_all}
 use Rattle.std.proofs.lemmas.Option.{slice_get-map}
 use Rattle.std.proofs.Math.Seq.{take-suc}
-use Rattle.close_area.proofs.Turning.{got}
-use Rattle.close_area.specs.Held.{AreWritten}
-use Rattle.close_area.proofs.Seen.{one_more}
-use Rattle.close_area.specs.Cell.{CellView}
+use Rattle.checkpoint_image.proofs.Turning.{got}
+use Rattle.checkpoint_flush.specs.Held.{AreWritten}
+use Rattle.checkpoint_flush.proofs.Seen.{one_more}
+use Rattle.file_cells.specs.Cell.{CellView}
 use Rattle.close_area.proofs.telling.tell_written.Goals as goal
 
 pub loop-k-preserved : goal.loop-k-preserved

@@ -2,13 +2,14 @@
 use super::super::write;
 use super::{Row, byte_at, create_two, valid, with_row};
 use device::{Block, Meta};
+use file_cells::FilePass;
 use geometry::{Error, Kind};
 use rights_names::VolumeName;
 use std::alloc::Global;
 use std::process::Abort;
 use std::sync::Wait;
 use std::test::*;
-use volume::{FilePass, Volume};
+use volume::Volume;
 
 pub(crate) fn create_five_and_delete<V: VolumeName, M: Meta, B: Block + Drop, R: Wait + Abort>(
     rt: &R,

@@ -3,13 +3,15 @@ use super::super::Left;
 use super::super::ending::{abandon, put_back};
 use super::{Row, with_row};
 use device::{Block, Meta};
+use file_cells::FilePass;
+use file_readers::Seat;
 use geometry::{Error, Kind};
 use rights_names::VolumeName;
 use std::alloc::Global;
 use std::process::Abort;
 use std::sync::Wait;
 use std::test::*;
-use volume::{CloseFault, FilePass, Seat, Volume};
+use volume::{CloseFault, Volume};
 
 pub(crate) fn create_four<V: VolumeName, M: Meta, B: Block + Drop, R: Wait + Abort>(
     rt: &R,

@@ -1,14 +1,16 @@
 //! Nodes that cleaning moves.
 use super::super::write;
 use super::{Row, byte_at, create_two, with_row};
+use cleaning::Policy;
 use device::{Block, Meta};
+use file_cells::FilePass;
 use geometry::Error;
 use rights_names::VolumeName;
 use std::alloc::Global;
 use std::process::Abort;
 use std::sync::Wait;
 use std::test::*;
-use volume::{FilePass, Policy, Volume};
+use volume::Volume;
 
 // Each checkpoint writes the inodes of two files, so four of them fill the first segment of their log, and the last two blocks
 // there are valid. They are moved, and each is found where it was moved to.

@@ -2,13 +2,14 @@
 use super::super::write;
 use super::{Row, byte_at, counts, find_full, valid, with_row};
 use device::{Block, Meta};
+use file_cells::FilePass;
 use geometry::{Error, Kind};
 use rights_names::VolumeName;
 use std::alloc::Global;
 use std::process::Abort;
 use std::sync::Wait;
 use std::test::*;
-use volume::{FilePass, Volume};
+use volume::Volume;
 
 // A block of each kind of file: 0x11 of an ordinary one, 0x22 of a directory, 0x33 of media.
 pub(crate) fn write_first_blocks<V: VolumeName, M: Meta, B: Block + Drop, R: Wait + Abort>(

@@ -1,7 +1,7 @@
 use Rattle.std.proofs.Common.{ap, sym, subst, ◌∙◌}
 use Rattle.rights_books.specs.Accounts.{HandView}
 use Rattle.nodes.specs.Held.{no_others}
-use Rattle.cleaning.specs.Contents.{InHand}
+use Rattle.file_calls.specs.Contents.{InHand}
 use Rattle.file_cells.proofs.Lodging.{empty_hand}
 use Rattle.file_cells.proofs.cell.FileCell.end.Goals as goal
 

@@ -1,4 +1,4 @@
-use Rattle.mount.proofs.Blocks.{run_kept}
+use Rattle.mount_reading.proofs.Blocks.{run_kept}
 use Rattle.volume_tests.proofs.tests.open.with_mounted.Goals as goal
 
 -- a refused mount hands back the same blocks
