@@ -12,6 +12,12 @@ use std::alloc::{AllocError, Global};
 use std::collections::LinkedList;
 use std::marker::{Brand, Model};
 
+/// The words of a book. Steps of different holders add to different ones, each in a line of its own of the processor's cache, so
+/// that they don't wait for each other: 64 lines of eight words. The line before them is only read.
+const WORDS: usize = 520;
+
+const LINE: usize = 8;
+
 /// A book, `{ book; key }` to contracts: which it is, and what its law was told. All holders share it.
 #[derive(Drop)]
 pub struct Book<C, K, L: Law<C, K>> {
@@ -19,14 +25,26 @@ pub struct Book<C, K, L: Law<C, K>> {
 }
 
 impl<C, K, L: Law<C, K>> Model for Book<C, K, L> {
-    ghost use Rattle.std.specs.Prelude.{◌<◌};
+    ghost use Rattle.std.specs.Prelude.{◌≡◌};
     ghost use Rattle.rights_claims.specs.Rules.{Ruled};
 
     ghost Value = { Ruled K };
 
     ghost view = { λ b. record { book = b.table.shared.table_id; key = b.table.shared.key } };
 
-    ghost invariant = { λ b. 0 < b.table.shared.table_id.words };
+    ghost invariant = { λ b. b.table.shared.table_id.words ≡ 520 };
+}
+
+/// The word of the next line.
+fn word_after(word: usize) -> usize
+    requires { word < 520 }
+    ensures { result < 520 }
+{
+    if word + LINE < WORDS {
+        word + LINE
+    } else {
+        LINE
+    }
 }
 
 impl<C, K, L: Law<C, K>> Book<C, K, L> {
@@ -36,9 +54,9 @@ impl<C, K, L: Law<C, K>> Book<C, K, L> {
         ensures key { IfOk result (λ r. r.0.key ≡ key.now) }
         ensures holder { IfOk result (λ r. (r.1.book ≡ r.0.book) × (r.1.claims ≡ L.first key.now)) }
     {
-        let (table, seat) = Table::of_words(alloc, &[0], key)?;
+        let (table, seat) = Table::of_words(alloc, &[0; WORDS], key)?;
         let seat = Shown::of_seat(seat);
-        Ok((Book { table }, Holder { seat }))
+        Ok((Book { table }, Holder { seat, word: LINE }))
     }
 
     /// Changes the holder's claims, in one atomic step, where the law goes on to hold whatever the others have.
@@ -50,7 +68,9 @@ impl<C, K, L: Law<C, K>> Book<C, K, L> {
         ensures told { M.told }
     {
         let mut seat = holder.seat.take_seat::<()>();
-        self.table.shared.fetch_add::<Changes<M>>(&mut seat, 0, 1);
+        self.table
+            .shared
+            .fetch_add::<Changes<M>>(&mut seat, holder.word, 1);
         holder.seat = Shown::of_seat(seat);
     }
 
@@ -79,6 +99,7 @@ impl<C, K, L: Law<C, K>> Book<C, K, L> {
         from.seat = Shown::of_seat(seat);
         Holder {
             seat: Shown::of_seat(cut),
+            word: word_after(from.word),
         }
     }
 
@@ -107,7 +128,10 @@ impl<C, K, L: Law<C, K>> Book<C, K, L> {
         ensures book { holder.new.book ≡ holder.old.book }
         ensures claims { holder.new.claims ≡ holder.old.claims ++ other.claims }
     {
-        let Holder { seat: mut others } = other;
+        let Holder {
+            seat: mut others,
+            word: _,
+        } = other;
         let mut seat = holder.seat.take_seat::<()>();
         self.table
             .shared

@@ -10,4 +10,4 @@ fetch_add-requires g c =
     let key_is : book.key ≡ c.args.self.now.key = ap (λ b. b.key) c.self.view_is in
     let claims_is : mine.me.0 ≡ c.args.holder.now.claims = ap first_view (sym c.take_seat-seat.ensures.view.0) ∙ ap (λ h. h.claims) c.holder.view_is in
     let rule : Follows (g.L.Law.lawful book.key) mine.me.0 g.M.Change.after g.M.Change.told = rw (key_is, claims_is) c.requires.rule in
-    (search rules, search rules, allows (g.L.Law.lawful book.key) book.table_id.slots mine.id 0 (λ n. (n + 1) % 2 ^ 64) mine.me g.M.Change.after g.M.Change.told rule)
+    (search rules, search rules, allows (g.L.Law.lawful book.key) book.table_id.slots mine.id c.holder.inside.word (λ n. (n + 1) % 2 ^ 64) mine.me g.M.Change.after g.M.Change.told rule)

@@ -15,4 +15,4 @@ agree-requires g c =
     let key_is : c.self.inside.table.shared.key ≡ c.args.self.now.key = ap (λ b. b.key) c.self.view_is in
     let apart : v ≢ w = rw (one_is, other_is) c.requires.apart in
     let rule : Tells lawful (v ++ w) g.M.Lesson.told = rw (one_is, other_is, key_is) c.requires.rule in
-    (search rules, search rules, rw (c.one.invariant, c.other.invariant) (tells lawful one.id other.id v w g.M.Lesson.told apart rule))
+    (search rules, search rules, rw (c.one.invariant.0, c.other.invariant.0) (tells lawful one.id other.id v w g.M.Lesson.told apart rule))
