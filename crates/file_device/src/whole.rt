@@ -22,6 +22,7 @@ pub fn keep_in<S: Store + Drop>(
 ) -> Result<Parts<FileMeta<S>, FileBlock<S>>, Error>
     requires size { HasSize ⟦<MemMeta as Meta>⟧.seen ⟦<MemBlock as Block>⟧.address_of ⟦<MemBlock as Block>⟧.content_of geometry.now device.parts }
     ensures size { IfOk result (λ parts. HasSize ⟦<FileMeta<S> as Meta>⟧.seen ⟦<FileBlock<S> as Block>⟧.address_of ⟦<FileBlock<S> as Block>⟧.content_of geometry.now parts) }
+    ensures front { IfOk result (λ parts. ⟦<FileMeta<S> as Meta>⟧.seen parts.meta ≡ ⟦<MemMeta as Meta>⟧.seen device.parts.meta) }
     ensures bytes { IfOk result (λ parts. image_file ⟦<FileMeta<S> as Meta>⟧.seen ⟦<FileBlock<S> as Block>⟧.content_of parts
         ≡ image_file ⟦<MemMeta as Meta>⟧.seen ⟦<MemBlock as Block>⟧.content_of device.parts) }
     ensures places { IfOk result (λ parts. All (λ block. block.kept.at ≡ block_place geometry.now (⟦<MemBlock as Block>⟧.address_of block.kept.block)) parts.blocks.items) }

@@ -9,10 +9,9 @@ pub loop-block-preserved : goal.loop-block-preserved
 loop-block-preserved g c =
     let made = c.of.result in
     let Stands = λ (b : FileBlock g.row.S.Denot). b.kept.at ≡ block_place c.args.geometry.now b.kept.block.address in
-    let here : Stands made = c.of.ensures.at ∙ c.place_of-at.ensures ∙ ap (block_place c.args.geometry.now) (c.address.ensures ∙ ap (λ b. b.address) (sym c.of.ensures.kept)) in
-    (
+    let here : Stands made = c.of.ensures.at ∙ c.place_of-at.ensures ∙ ap (block_place c.args.geometry.now) (c.address.ensures ∙ ap (λ b. b.address) (sym c.of.ensures.kept)) in (
       grind (arith, common_steps),
       search rules,
       subst (All Stands) (sym c.push_reserved.ensures.items)
-      (All-append Stands c.loop-block.kept.items (made ∷ []) c.loop-block.invariant.2 (All-cons Stands made [] here (All-nil Stands))),
+          (All-append Stands c.loop-block.kept.items (made ∷ []) c.loop-block.invariant.2 (All-cons Stands made [] here (All-nil Stands))),
     )
