@@ -101,13 +101,15 @@ fn each_damage_is_told(rt: HostRuntime) -> Result<(), Fail> {
     Ok(())
 }
 
-// An input that cannot be read.
+// An input that cannot be read, or for whose bytes there is no memory.
 #[derive(Drop)]
-pub(super) struct Broken;
+pub(super) struct Broken {
+    pub kind: io::ErrorKind,
+}
 
 impl Read for Broken {
     fn read(&mut self, _buf: &mut [u8]) -> io::Result<usize> {
-        Err(io::Error::from(io::ErrorKind::PermissionDenied))
+        Err(io::Error::from(self.kind))
     }
 }
 
@@ -125,11 +127,16 @@ fn other_inputs_are_told(rt: HostRuntime) -> Result<(), Fail> {
         file.truncate(length);
         assert_refused(&rt, rt.alloc(), &file, wanted);
     }
-    let mut out = Vec::new(rt.alloc());
-    let mut errors = Vec::new(rt.alloc());
-    let status = check_image(rt.alloc(), &mut Broken, &mut out, &mut errors);
-    assert_eq!(rt; status, FAILED);
-    assert_eq!(rt; out.as_slice(), b"".as_slice());
-    assert_eq!(rt; errors.as_slice(), b"input or output failed\n".as_slice());
+    for (kind, wanted) in [
+        (io::ErrorKind::PermissionDenied, "input or output failed\n"),
+        (io::ErrorKind::OutOfMemory, "out of memory\n"),
+    ] {
+        let mut out = Vec::new(rt.alloc());
+        let mut errors = Vec::new(rt.alloc());
+        let status = check_image(rt.alloc(), &mut Broken { kind }, &mut out, &mut errors);
+        assert_eq!(rt; status, FAILED);
+        assert_eq!(rt; out.as_slice(), b"".as_slice());
+        assert_eq!(rt; errors.as_slice(), wanted.as_bytes());
+    }
     Ok(())
 }

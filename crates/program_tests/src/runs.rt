@@ -3,6 +3,7 @@ use super::images::{Broken, told};
 use program_run::run_script;
 use program_run::status::{BAD_LINE, DONE, FAILED, REFUSED};
 use std::alloc::Global;
+use std::io;
 use std::process::Abort;
 use std::sync::Wait;
 use std::test::Fail;
@@ -98,7 +99,10 @@ fn what_cannot_run_is_told(rt: HostRuntime) {
     }
     let mut out = Vec::new(alloc);
     let mut errors = Vec::new(alloc);
-    let status = run_script(&rt, alloc, &mut Broken, &mut out, &mut errors, None);
+    let mut broken = Broken {
+        kind: io::ErrorKind::PermissionDenied,
+    };
+    let status = run_script(&rt, alloc, &mut broken, &mut out, &mut errors, None);
     assert_eq!(rt; status, FAILED);
     assert_eq!(rt; out.as_slice(), b"".as_slice());
     assert_eq!(rt; errors.as_slice(), b"input or output failed\n".as_slice());
