@@ -11,6 +11,8 @@ mod all;
 mod law;
 mod opened;
 mod permit;
+mod rest;
+mod rests;
 mod token;
 mod turnstile;
 
