@@ -33,10 +33,10 @@ pub(crate) fn work_and_leave<
 {
     let mut rights = rights;
     match work.run(rt, alloc, &volume, &mut rights) {
-        Ok(output) => {
-            let parts = leave_volume(rt, volume, rights, leave)?;
-            Ok(Done { parts, output })
-        }
+        Ok(output) => match leave_volume(rt, volume, rights, leave) {
+            Ok(parts) => Ok(Done { parts, output }),
+            Err(fault) => Err(fault),
+        },
         Err(error) => Err(Fault {
             parts: volume.discard(rt),
             stage: Stage::Work,
