@@ -26,6 +26,9 @@ const AUDITS: u32 = 20;
 
 const RESTS: u32 = 48;
 
+/// So many permits never rest.
+const NEVER_REST: u32 = 16;
+
 /// What the threads of a test do. The first gathers, where one does.
 #[derive(Clone, Copy, Drop)]
 enum Play {
@@ -35,7 +38,7 @@ enum Play {
     Rests,
     /// A permit is left at a rest while another gathers.
     Beside,
-    /// All rests serve while sixteen others have what never rests.
+    /// All rests serve while the channel is empty.
     Alone,
 }
 
@@ -141,14 +144,14 @@ fn changes<N: VolumeName, R: Wait>(
 fn gathers<B: BooksName, J: TurnName, R: Wait>(
     rt: &R,
     turnstile: &Turnstile<B, J>,
-    together: &Barrier,
+    both: &Barrier,
 ) -> u32 {
     let mut count = 0;
     for _ in 0..TURNS {
-        together.wait(rt);
+        both.wait(rt);
         let all = turnstile.gather(rt);
         turnstile.scatter(rt, all);
-        together.wait(rt);
+        both.wait(rt);
         count += 1;
     }
     count
@@ -158,14 +161,14 @@ fn gathers<B: BooksName, J: TurnName, R: Wait>(
 fn leaves<B: BooksName, J: TurnName, R: Wait>(
     rt: &R,
     turnstile: &Turnstile<B, J>,
-    together: &Barrier,
+    both: &Barrier,
 ) -> u32 {
     let mut count = 0;
     for _ in 0..TURNS {
         let permit = turnstile.enter_by(rt, 1);
-        together.wait(rt);
+        both.wait(rt);
         turnstile.leave_by(rt, 1, permit);
-        together.wait(rt);
+        both.wait(rt);
         count += 1;
     }
     count
@@ -182,30 +185,19 @@ fn at_each_rest<B: BooksName, J: TurnName, R: Wait>(rt: &R, turnstile: &Turnstil
     count
 }
 
-// The same again while the others have all permits of the channel.
-fn serves<B: BooksName, J: TurnName, R: Wait>(
+// The same while so many permits more are out of the channel.
+fn while_out<B: BooksName, J: TurnName, R: Wait>(
     rt: &R,
     turnstile: &Turnstile<B, J>,
-    together: &Barrier,
+    out: u32,
 ) -> u32 {
-    at_each_rest(rt, turnstile);
-    together.wait(rt);
-    let count = at_each_rest(rt, turnstile);
-    together.wait(rt);
+    if out == 0 {
+        return at_each_rest(rt, turnstile);
+    }
+    let permit = turnstile.enter_by(rt, RESTS + out);
+    let count = while_out(rt, turnstile, out - 1);
+    turnstile.leave_by(rt, RESTS + out, permit);
     count
-}
-
-// Has a permit of the channel meanwhile.
-fn holds<B: BooksName, J: TurnName, R: Wait>(
-    rt: &R,
-    turnstile: &Turnstile<B, J>,
-    together: &Barrier,
-) -> u32 {
-    let permit = turnstile.enter(rt);
-    together.wait(rt);
-    together.wait(rt);
-    turnstile.leave(rt, permit);
-    1
 }
 
 // What one thread of a play does, and how often.
@@ -213,7 +205,7 @@ fn work<N: VolumeName, R: Wait>(
     rt: &R,
     turnstile: &Turnstile<N::Books, N::Turns>,
     first: &Mutex<First<N::Books>>,
-    together: &Barrier,
+    both: &Barrier,
     play: Play,
     thread: u32,
 ) -> u32 {
@@ -221,10 +213,12 @@ fn work<N: VolumeName, R: Wait>(
         Play::Channel | Play::Rests if thread == 0 => audits::<N, R>(rt, turnstile, first),
         Play::Channel => changes::<N, R>(rt, turnstile, first, 0),
         Play::Rests => changes::<N, R>(rt, turnstile, first, thread),
-        Play::Beside if thread == 0 => gathers(rt, turnstile, together),
-        Play::Beside => leaves(rt, turnstile, together),
-        Play::Alone if thread == 0 => serves(rt, turnstile, together),
-        Play::Alone => holds(rt, turnstile, together),
+        Play::Beside if thread == 0 => gathers(rt, turnstile, both),
+        Play::Beside => leaves(rt, turnstile, both),
+        Play::Alone => {
+            at_each_rest(rt, turnstile);
+            while_out(rt, turnstile, NEVER_REST)
+        }
     }
 }
 
@@ -245,7 +239,7 @@ fn with_turnstile<B: BooksName + Send + Sync, J: TurnName + Send + Sync, R: Thre
 {
     let (turnstile, all) = opened.named::<J>(books, permits);
     let first = Mutex::new(first);
-    let together = Barrier::new(threads);
+    let both = Barrier::new(2);
     turnstile.scatter(rt, all);
     let counts = thread::map_indices(
         rt,
@@ -255,7 +249,7 @@ fn with_turnstile<B: BooksName + Send + Sync, J: TurnName + Send + Sync, R: Thre
             rt,
             &turnstile,
             &first,
-            &together,
+            &both,
             play,
             (i % 64) as u32,
         ),
@@ -330,9 +324,7 @@ fn a_permit_left_beside_a_gather_is_found(rt: HostRuntime) -> Result<(), Fail> {
 
 #[test]
 fn rests_serve_while_the_channel_is_empty(rt: HostRuntime) -> Result<(), Fail> {
-    let counts = counted(&rt, rt.alloc(), Play::Alone, 17)?;
-    let mut expected = [1; 17];
-    expected[0] = RESTS;
-    assert_eq!(rt; counts.as_slice(), expected.as_slice());
+    let counts = counted(&rt, rt.alloc(), Play::Alone, 1)?;
+    assert_eq!(rt; counts.as_slice(), [RESTS].as_slice());
     Ok(())
 }
