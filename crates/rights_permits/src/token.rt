@@ -95,7 +95,7 @@ impl<B: BooksName, J: TurnName> Token<B, J> {
 }
 
 /// A token that has no permit out, as it lies under a lock.
-pub struct IdleToken<B: BooksName, J: TurnName> {
+pub struct AtRest<B: BooksName, J: TurnName> {
     pub(crate) token: Token<B, J>,
-    pub(crate) ghost none: { token ≡ 0 },
+    pub(crate) ghost rest: { token ≡ 0 },
 }
