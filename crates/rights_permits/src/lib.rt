@@ -11,8 +11,6 @@ mod all;
 mod law;
 mod opened;
 mod permit;
-mod rest;
-mod rests;
 mod token;
 mod turnstile;
 

@@ -6,7 +6,6 @@ ghost use Rattle.rights_permits.specs.Turns.{all_permits, at_home, IsRing};
 use crate::all::{AllPermits, Auditing};
 use crate::law::{Receives, Sends};
 use crate::permit::{Card, Permit};
-use crate::rests::Rests;
 use crate::token::{AtRest, Token};
 use rights_books::{Books, Permits};
 use rights_names::{BooksName, TurnName};
@@ -22,7 +21,6 @@ pub struct Turnstile<B: BooksName, J: TurnName> {
     receiver: Receives<B>,
     sending: Mutex<AtRest<B, J>>,
     receiving: Mutex<AtRest<B, J>>,
-    rests: Rests<B, J>,
     ghost books_are: { books ≡ B.books },
     ghost sends: { IsRing J.turns J.key (sends_on sender) },
     ghost receives: { IsRing J.turns J.key (receives_on receiver) },
@@ -46,7 +44,6 @@ impl<B: BooksName, J: TurnName> Turnstile<B, J> {
             receiver,
             sending: Mutex::new(sending),
             receiving: Mutex::new(receiving),
-            rests: Rests::new(),
         }
     }
 
@@ -74,26 +71,6 @@ impl<B: BooksName, J: TurnName> Turnstile<B, J> {
         self.put_one(rt, &mut *rest, permit);
     }
 
-    /// As `enter`, for a call on the file of a number: it takes the permit that rests there, if one does.
-    pub fn enter_by<R: Wait>(&self, rt: &R, number: u32) -> Permit<B, J>
-        ensures hand { result.hand ≡ at_home B.books.book }
-    {
-        match self.rests.take(rt, number) {
-            Some(permit) => permit,
-            None => self.enter(rt),
-        }
-    }
-
-    /// As `leave`, for a call on the file of a number: the permit rests there, if it may, for the next call on the file.
-    pub fn leave_by<R: Wait>(&self, rt: &R, number: u32, permit: Permit<B, J>)
-        requires tickets { permit.hand.tickets ≡ [] }
-        requires tokens { permit.hand.tokens ≡ [] }
-    {
-        if let Some(back) = self.rests.put(rt, number, permit) {
-            self.leave(rt, back);
-        }
-    }
-
     /// Takes all permits, with nothing in hand, and waits for them.
     pub fn gather<R: Wait>(&self, rt: &R) -> AllPermits<B, J>
         ensures hand { result.hand ≡ at_home B.books.book }
@@ -107,7 +84,6 @@ impl<B: BooksName, J: TurnName> Turnstile<B, J> {
         requires tickets { all.hand.tickets ≡ [] }
         requires tokens { all.hand.tokens ≡ [] }
     {
-        self.rests.open(rt);
         let mut rest = self.sending.lock(rt);
         self.put_all(rt, &mut *rest, all);
     }
@@ -141,14 +117,12 @@ impl<B: BooksName, J: TurnName> Turnstile<B, J> {
             receiver: _,
             sending,
             receiving,
-            rests,
         } = self;
         let AtRest { token: sent } = sending.into_inner();
         let AtRest { token: received } = receiving.into_inner();
         let mut token = all.into_token();
         token.join(&sender, sent);
         token.join(&sender, received);
-        rests.end(&sender, &mut token);
         token.end(sender);
     }
 
@@ -195,26 +169,6 @@ impl<B: BooksName, J: TurnName> Turnstile<B, J> {
         self.send(rt, &mut rest.token, card);
     }
 
-    // A permit for who gathers: the one that rests at a number, where nothing rests from then on, or one of the channel.
-    fn collect<R: Wait>(&self, rt: &R, token: &mut Token<B, J>, number: u32) -> Card<B>
-        ensures { token.new ≡ token.old + 1 }
-    {
-        match self.rests.close(rt, number) {
-            Some(permit) => self.take_in(token, permit),
-            None => self.receive(rt, token),
-        }
-    }
-
-    fn take_in(&self, token: &mut Token<B, J>, permit: Permit<B, J>) -> Card<B>
-        requires tickets { permit.hand.tickets ≡ [] }
-        requires tokens { permit.hand.tokens ≡ [] }
-        ensures { token.new ≡ token.old + 1 }
-    {
-        let (card, one) = permit.into_parts();
-        token.join(&self.sender, one);
-        card
-    }
-
     fn receive_all<R: Wait>(&self, rt: &R, token: &mut Token<B, J>) -> Permits
         requires none { token.old ≡ 0 }
         ensures all { token.new ≡ all_permits }
@@ -222,8 +176,8 @@ impl<B: BooksName, J: TurnName> Turnstile<B, J> {
     {
         let first = self.receive(rt, token);
         let mut permits = self.books.pool(first.into_hand());
-        for number in 1..PERMITS {
-            let card = self.collect(rt, token, number);
+        for _ in 1..PERMITS {
+            let card = self.receive(rt, token);
             permits = self.books.add(permits, card.into_hand());
         }
         permits
