@@ -14,7 +14,6 @@ use geometry::{Error, Geometry};
 use std::alloc::Global;
 use std::fs::{File, Files, OpenOptions};
 use std::io;
-use std::os::fd::AsRawFd;
 use std::path::Path;
 
 /// The parts of a device over an image file.
@@ -63,7 +62,7 @@ pub fn open_image<R: Files<File = File>>(
     }
     let mut file = OpenOptions::new().read(true).write(true).open(rt, path)?;
     lock(&file)?;
-    settle(&file)?;
+    file.sync_all()?;
     let (geometry, device) = read_device(alloc, &mut file)?;
     if file.metadata()?.len() != file_bytes(&geometry) {
         return Err(FileFault::Refused(Error::BadImage(1)));
@@ -74,17 +73,6 @@ pub fn open_image<R: Files<File = File>>(
 // The bytes of an image file of a volume of these numbers.
 fn file_bytes(geometry: &Geometry) -> u64 {
     place_of(geometry, geometry.blocks() + 1)
-}
-
-// Syncs the file, and drops the system's copies of its pages, which a failed sync of an earlier run may have left other than the
-// disk has them.
-fn settle(file: &File) -> io::Result<()> {
-    file.sync_all()?;
-    let advised = libc::posix_fadvise(file.as_raw_fd(), 0, 0, libc::POSIX_FADV_DONTNEED);
-    if advised != 0 {
-        return Err(io::Error::from_raw_os_error(advised));
-    }
-    Ok(())
 }
 
 // Settles that the folder names the file.
