@@ -3,7 +3,8 @@
 //! At each depth of the index tree a new volume gets a file whose first blocks are appended, then written again at indexes in no
 //! order, and then read; then readers of it are taken and closed, and one shows its blocks. At last the blocks are written again
 //! until no segment is free, and then into the holes of used ones. In a small volume what was done is counted. Otherwise the
-//! nanoseconds a call are told, beside those of one copy of as many bytes, and of finding the path to an index.
+//! nanoseconds a call are told, beside those of one copy of as many bytes, and of finding the path to an index. Writes that were
+//! refused are counted: where there are any, the times of writes are too long.
 mod bare;
 mod looking;
 mod work;

@@ -45,7 +45,7 @@ const MEASURED: Size = Size {
 };
 
 // So many threads write side by side.
-const THREADS: [usize; 3] = [1, 2, 4];
+const THREADS: [usize; 4] = [1, 2, 3, 4];
 
 /// A volume for each number of threads, at each of two depths.
 pub fn tasks(alloc: Global, is_measure: bool) -> Result<Vec<Task>, AllocError> {

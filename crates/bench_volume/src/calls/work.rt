@@ -30,6 +30,11 @@ impl Timed {
         }
     }
 
+    /// How many of so many calls were refused.
+    pub fn refused_of(self, tried: u32) -> u32 {
+        tried.saturating_sub(self.calls)
+    }
+
     /// The nanoseconds of one call.
     pub fn each(self) -> u128 {
         match u128::from(self.calls) {
@@ -51,6 +56,8 @@ pub struct Work {
     pub copy: Timed,
     pub path: Timed,
     pub entries: u32,
+    /// Writes that were refused. Their time is in that of the others.
+    pub refused: u32,
 }
 
 impl Work {
@@ -68,9 +75,10 @@ impl Work {
         let (append, overwrite) = (self.append.calls, self.overwrite.calls);
         let (read, reader, look) = (self.read.calls, self.reader.calls, self.look.calls);
         let (hole, path, entries) = (self.hole.calls, self.path.calls, self.entries);
+        let refused = self.refused;
         write!(
             text,
-            "{append} appended, {overwrite} overwritten, {read} read, {reader} readers, {look} shown, {hole} in holes, {path} found of sum {entries}\n"
+            "{append} appended, {overwrite} overwritten, {read} read, {reader} readers, {look} shown, {hole} in holes, {refused} refused, {path} found of sum {entries}\n"
         )?;
         Ok(())
     }
@@ -80,9 +88,10 @@ impl Work {
         let (append, overwrite) = (self.append.each(), self.overwrite.each());
         let (read, reader, look) = (self.read.each(), self.reader.each(), self.look.each());
         let (hole, path, copy) = (self.hole.each(), self.path.each(), self.copy.each());
+        let refused = self.refused;
         write!(
             text,
-            "append {append} ns, overwrite {overwrite} ns, read {read} ns, reader {reader} ns, look {look} ns, hole {hole} ns, path {path} ns, copy {copy} ns\n"
+            "append {append} ns, overwrite {overwrite} ns, read {read} ns, reader {reader} ns, look {look} ns, hole {hole} ns, path {path} ns, copy {copy} ns, {refused} writes refused\n"
         )?;
         Ok(())
     }
@@ -107,6 +116,10 @@ pub fn measure_on<V: VolumeName, R: Runtime + Wait>(
     let hole = overwrites(rt, desk, first, size)?;
     let copy = copies(rt, alloc, size)?;
     let (path, entries) = paths(rt, size.shape, first, size.calls)?;
+    let refused = append
+        .refused_of(size.blocks)
+        .saturating_add(overwrite.refused_of(size.calls))
+        .saturating_add(hole.refused_of(size.calls));
     Ok(Work {
         append,
         overwrite,
@@ -117,6 +130,7 @@ pub fn measure_on<V: VolumeName, R: Runtime + Wait>(
         copy,
         path,
         entries,
+        refused,
     })
 }
 

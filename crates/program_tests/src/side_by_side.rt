@@ -1,17 +1,6 @@
 //! Scripts whose workers run side by side.
-use super::scripts::prints;
+use super::runs::prints;
 use std::test::Fail;
-
-// The checkpoint lends the passes of its worker, which holds none here; the file is in its image all the same.
-#[test]
-fn a_checkpoint_of_a_worker_is_mounted_again(rt: HostRuntime) -> Result<(), Fail> {
-    prints(
-        &rt,
-        rt.alloc(),
-        "format TINY 32 1 4 64\ncreate file\nwrite 1 0 41\npar\nworker\nsync\nend\nremount\n",
-        "file 1\nok\nworker 0 ok\nmount version 2\nfile 1 length 1 41\ntotal 2\n",
-    )
-}
 
 // Eight writers fill their files twice, beside two cleaners and two readers of what was there before.
 #[test]
@@ -50,7 +39,7 @@ fn writers_cleaners_and_readers_run_side_by_side(rt: HostRuntime) -> Result<(), 
     }
     lines.push_str("total 96\n")?;
     for _run in 0..100 {
-        prints(&rt, alloc, text.as_str(), lines.as_str())?;
+        prints(&rt, alloc, "side by side", text.as_str(), lines.as_str())?;
     }
     Ok(())
 }

@@ -106,8 +106,9 @@ fn each_command(rt: HostRuntime) -> Result<(), Fail> {
     Ok(())
 }
 
+// What is out of the grammar is refused at its line, alone and in a part.
 #[test]
-fn lines_out_of_the_grammar(rt: HostRuntime) -> Result<(), Fail> {
+fn what_is_in_the_grammar_and_out_of_it(rt: HostRuntime) -> Result<(), Fail> {
     let lines = [
         "write 1 0",
         "write 1 0 4",
@@ -158,6 +159,39 @@ fn lines_out_of_the_grammar(rt: HostRuntime) -> Result<(), Fail> {
     for line in lines {
         let text = format!(in rt.alloc(); "# a line\n\nformat TINY 16 1 4 32\n{line}\nsync")?;
         assert_eq!(rt; bad(rt.alloc(), text.as_str()), Some(4), "{line}");
+    }
+    let lawful_parts = [
+        "end",
+        "worker\nend",
+        "worker\nwrite 1 0 41\ncut 1 0\nlook 1\nworker\nread 2 0\nclean fg\nsync\nend\n",
+        "worker\nlook 1\nread 1 0\nworker\nlook 2\nend",
+        "worker\nread 1 0\nend\npar\nworker\nworker\nread 1 0\nend",
+    ];
+    for part in lawful_parts {
+        let text = format!(in rt.alloc(); "format TINY 16 1 4 32\npar\n{part}")?;
+        assert_eq!(rt; bad(rt.alloc(), text.as_str()), None, "{part}");
+    }
+    let parts = [
+        ("worker\nread 1 0\nworker\nread 2 0\nread 1 0\nend", 7),
+        ("worker\nlook 3\nworker\nlook 3\nend", 6),
+        ("sync\nworker\nend", 3),
+        ("worker\npar\nend", 4),
+        ("worker\npar\nworker\nend\nend", 4),
+        ("worker\nstatus\nend", 4),
+        ("worker\nnow 1\nend", 4),
+        ("worker\nformat TINY 16 1 4 32\nend", 4),
+        ("worker\nstatus\nwait\nend", 4),
+        ("", 2),
+        ("worker\nsync\n", 2),
+        ("worker\nstatus\nsync", 2),
+        ("worker\nstatus\n# end\nend ", 2),
+        ("end\nend", 4),
+        ("end\nworker", 4),
+        ("end\npar", 4),
+    ];
+    for (part, line) in parts {
+        let text = format!(in rt.alloc(); "format TINY 16 1 4 32\npar\n{part}")?;
+        assert_eq!(rt; bad(rt.alloc(), text.as_str()), Some(line), "{part}");
     }
     Ok(())
 }
@@ -232,49 +266,6 @@ fn parts(rt: HostRuntime) -> Result<(), Fail> {
             assert_eq!(rt; workers[1].tasks.as_slice(), [read].as_slice());
         }
         _ => return Err("not the steps".into()),
-    }
-    Ok(())
-}
-
-#[test]
-fn parts_of_the_grammar(rt: HostRuntime) -> Result<(), Fail> {
-    let parts = [
-        "end",
-        "worker\nend",
-        "worker\nwrite 1 0 41\ncut 1 0\nlook 1\nworker\nread 2 0\nclean fg\nsync\nend\n",
-        "worker\nlook 1\nread 1 0\nworker\nlook 2\nend",
-        "worker\nread 1 0\nend\npar\nworker\nworker\nread 1 0\nend",
-    ];
-    for part in parts {
-        let text = format!(in rt.alloc(); "format TINY 16 1 4 32\npar\n{part}")?;
-        assert_eq!(rt; bad(rt.alloc(), text.as_str()), None, "{part}");
-    }
-    Ok(())
-}
-
-#[test]
-fn parts_out_of_the_grammar(rt: HostRuntime) -> Result<(), Fail> {
-    let parts = [
-        ("worker\nread 1 0\nworker\nread 2 0\nread 1 0\nend", 7),
-        ("worker\nlook 3\nworker\nlook 3\nend", 6),
-        ("sync\nworker\nend", 3),
-        ("worker\npar\nend", 4),
-        ("worker\npar\nworker\nend\nend", 4),
-        ("worker\nstatus\nend", 4),
-        ("worker\nnow 1\nend", 4),
-        ("worker\nformat TINY 16 1 4 32\nend", 4),
-        ("worker\nstatus\nwait\nend", 4),
-        ("", 2),
-        ("worker\nsync\n", 2),
-        ("worker\nstatus\nsync", 2),
-        ("worker\nstatus\n# end\nend ", 2),
-        ("end\nend", 4),
-        ("end\nworker", 4),
-        ("end\npar", 4),
-    ];
-    for (part, line) in parts {
-        let text = format!(in rt.alloc(); "format TINY 16 1 4 32\npar\n{part}")?;
-        assert_eq!(rt; bad(rt.alloc(), text.as_str()), Some(line), "{part}");
     }
     Ok(())
 }
