@@ -14,7 +14,6 @@ fn main(rt: HostRuntime) -> Result<(), Error> {
     let parts = MemDevice::new(rt.alloc(), &geometry)?.split();
     let written = work_on_new(&rt, rt.alloc(), parts, geometry, Leave::Close, WriteThree)?;
     let read = work_on(&rt, rt.alloc(), written.parts, Leave::Discard, ReadAll)?;
-    // What cannot be said is left unsaid.
     let _ = println!(rt; "the files begin with {:?}", read.output);
     Ok(())
 }
@@ -35,8 +34,7 @@ impl<M: Meta, B: Block + Drop> Work<M, B> for WriteThree {
         for letter in [b'a', b'b', b'c'] {
             let mut pass = volume.create(rt, Kind::File)?;
             let block = vec![in alloc; letter; volume.geometry().shape.block_bytes() as usize]?;
-            // The last number is the time of the write, by which cleaning tells old segments from new ones.
-            volume.write(rt, &mut pass, 0, block.as_slice(), 0)?;
+            volume.write(rt, &mut pass, 0, block.as_slice(), 0)?; // the time of the write is 0
             rights.passes.push(pass)?;
         }
         let _stored = volume.sync(rt, &[])?;
@@ -48,7 +46,11 @@ impl<M: Meta, B: Block + Drop> Work<M, B> for WriteThree {
 struct ReadAll;
 
 impl<M: Meta, B: Block + Drop> Work<M, B> for ReadAll {
+    ghost use Rattle.std.specs.Prelude.{◌≡◌};
+
     type Output = Vec<u8>;
+    // It changes no file: the check proves that.
+    ghost post = { λ work geometry before bytes after. after ≡ before };
 
     fn run<V: VolumeName, R: Wait>(
         self,
