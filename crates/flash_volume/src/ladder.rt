@@ -13,7 +13,7 @@ ghost use Rattle.volume.specs.Picked.{HaveNames};
 
 use crate::leave::{Done, Fault, Leave, Stage};
 use crate::leaving::work_and_leave;
-use crate::rights::{Rights, SharedBlock};
+use crate::rights::Rights;
 use crate::work::Work;
 use device::{Block, Meta, Parts};
 use mount::{Mounted, MountedQueues, mount};
@@ -22,7 +22,6 @@ use rights_names::{BooksOf, NumbersOf, PoolName, TablesName, TurnName, WordsOf};
 use std::alloc::Global;
 use std::marker::Brand;
 use std::sync::Wait;
-use std::thread::Threads;
 
 /// Mounts the volume of a device, does the work on it, and leaves it. After Ok the work's promise holds between the files that the
 /// image on the parts had and those with which it ended. With `Close` the parts that come back hold a lawful image with these
@@ -31,7 +30,7 @@ use std::thread::Threads;
 /// Each fault hands the parts back. At Mount it is a refusal of the parts, as a mount's, and they are as they were. At Work it
 /// is the work's own error, and at Close PassesOut or SeatsOut where a right is missing, or a refusal of the last checkpoint:
 /// then the volume is given up, and a mount finds what the last checkpoint has.
-pub fn work_on<M: Meta + Send, B: SharedBlock, R: Threads + Wait + Sync, W: Work<M, B> + Drop>(
+pub fn work_on<M: Meta, B: Block + Drop, R: Wait, W: Work<M, B> + Drop>(
     rt: &R,
     alloc: Global,
     parts: Parts<M, B>,
@@ -54,13 +53,7 @@ pub fn work_on<M: Meta + Send, B: SharedBlock, R: Threads + Wait + Sync, W: Work
     }
 }
 
-fn on_mounted<
-    K: TablesName + Send + Sync,
-    M: Meta + Send,
-    B: SharedBlock,
-    R: Threads + Wait + Sync,
-    W: Work<M, B> + Drop,
->(
+fn on_mounted<K: TablesName, M: Meta, B: Block + Drop, R: Wait, W: Work<M, B> + Drop>(
     rt: &R,
     alloc: Global,
     mounted: Mounted<M, B>,
@@ -84,12 +77,12 @@ fn on_mounted<
 }
 
 fn on_opened<
-    K: TablesName + Send + Sync,
-    P: PoolName + Send + Sync,
-    T: TurnName + Send + Sync,
-    M: Meta + Send,
-    B: SharedBlock,
-    R: Threads + Wait + Sync,
+    K: TablesName,
+    P: PoolName,
+    T: TurnName,
+    M: Meta,
+    B: Block + Drop,
+    R: Wait,
     W: Work<M, B> + Drop,
 >(
     rt: &R,

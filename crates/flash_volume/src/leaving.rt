@@ -4,22 +4,16 @@ ghost use Rattle.flash_volume.specs.Worked.{AreClosed, AreGivenUp, AreLeft, Ende
 ghost use Rattle.flash_volume.specs.declared.leave.Stage.TheVariants.{Work as AtWork, Close as AtClose};
 
 use crate::leave::{Done, Fault, Leave, Stage};
-use crate::rights::{Rights, SharedBlock};
+use crate::rights::Rights;
 use crate::work::Work;
-use device::{Meta, Parts};
+use device::{Block, Meta, Parts};
+use rights_names::VolumeName;
 use std::alloc::Global;
 use std::sync::Wait;
-use std::thread::Threads;
-use volume::{CloseFault, Closed, SharedName, Volume};
+use volume::{CloseFault, Closed, Volume};
 
 // Works on a volume, and leaves it. Where the work is refused, nothing more is written.
-pub(crate) fn work_and_leave<
-    V: SharedName,
-    M: Meta + Send,
-    B: SharedBlock,
-    R: Threads + Wait + Sync,
-    W: Work<M, B>,
->(
+pub(crate) fn work_and_leave<V: VolumeName, M: Meta, B: Block + Drop, R: Wait, W: Work<M, B>>(
     rt: &R,
     alloc: Global,
     volume: Volume<V, M, B>,
@@ -46,7 +40,7 @@ pub(crate) fn work_and_leave<
 }
 
 // Leaves a volume.
-fn leave_volume<V: SharedName, M: Meta + Send, B: SharedBlock, R: Wait>(
+fn leave_volume<V: VolumeName, M: Meta, B: Block + Drop, R: Wait>(
     rt: &R,
     volume: Volume<V, M, B>,
     rights: Rights<V>,
@@ -64,7 +58,7 @@ fn leave_volume<V: SharedName, M: Meta + Send, B: SharedBlock, R: Wait>(
 }
 
 // Closes a volume. Where that is refused, nothing more is written.
-fn close_volume<V: SharedName, M: Meta + Send, B: SharedBlock, R: Wait>(
+fn close_volume<V: VolumeName, M: Meta, B: Block + Drop, R: Wait>(
     rt: &R,
     volume: Volume<V, M, B>,
     rights: Rights<V>,

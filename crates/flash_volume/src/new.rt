@@ -7,14 +7,12 @@ ghost use Rattle.geometry.specs.declared.error.Error.TheVariants.{NoMemory, Devi
 
 use crate::ladder::work_on;
 use crate::leave::{Done, Fault, Leave, Stage};
-use crate::rights::SharedBlock;
 use crate::work::Work;
-use device::{Meta, Parts};
+use device::{Block, Meta, Parts};
 use geometry::Geometry;
 use mount_law::{format_law, mount_law};
 use std::alloc::Global;
 use std::sync::Wait;
-use std::thread::Threads;
 use volume_format::{FormatFault, format};
 
 /// Writes a volume without files to the parts of a device that has the size of the geometry, mounts it, does the work on it, and
@@ -22,7 +20,7 @@ use volume_format::{FormatFault, format};
 ///
 /// Each fault hands the parts back. At Format and at Mount it is NoMemory, or Device where the device failed; the later ones are
 /// those of `work_on`.
-pub fn work_on_new<M: Meta + Send, B: SharedBlock, R: Threads + Wait + Sync, W: Work<M, B> + Drop>(
+pub fn work_on_new<M: Meta, B: Block + Drop, R: Wait, W: Work<M, B> + Drop>(
     rt: &R,
     alloc: Global,
     parts: Parts<M, B>,
