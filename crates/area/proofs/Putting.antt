@@ -15,6 +15,10 @@ weigh_both : {A : Type 0} (h : A → ℕ) (xs ys : List A) → weigh h (xs ++ ys
 weigh_both h [] ys = omega arith
 weigh_both h (x ∷ xs) ys = let rest = weigh_both h xs ys in omega arith
 
+pub none_left : (slips : List FreeSegment) → length slips ≡ 0 → slips ≡ []
+none_left [] none = refl
+none_left (s ∷ slips) none = absurd (omega arith)
+
 pub put_none : (old : Account) (kept : List FreeSegment) → HavePut [] old old kept kept
 put_none old kept = record { slips = λ h. omega arith; parts = (refl, refl); taken = (refl, refl) }
 
@@ -81,6 +85,18 @@ pub put_again : (old new : Account) (slips rest after : List FreeSegment) (slip 
     → rest ≡ remove slips 0 → HavePut (slip.segment ∷ []) old new rest after → HavePut [] old new slips after
 put_again old new slips rest after slip some is out put = record {
   slips = λ h. let p = put.slips h in let t = taken_first slips rest slip some is out h in omega arith;
+  parts = put.parts;
+  taken = put.taken;
+}
+
+-- the last slip comes out, and is put
+pub put_last : (old new : Account) (slips rest : List FreeSegment) (slip : FreeSegment) → slips ≡ rest ++ slip ∷ []
+    → HavePut (slip.segment ∷ []) old new rest rest → HavePut [] old new slips rest
+put_last old new slips rest slip is put = record {
+  slips = λ h.
+      let p = put.slips h in
+      let all = ap (weigh (λ (s : FreeSegment). h s.segment)) is in
+      let both = weigh_both (λ (s : FreeSegment). h s.segment) rest (slip ∷ []) in omega arith;
   parts = put.parts;
   taken = put.taken;
 }

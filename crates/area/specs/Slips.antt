@@ -1,9 +1,12 @@
 -- What becomes of the slips of free segments.
-use Rattle.std.specs.Prelude.{◌≡◌, ℕ, ◌+◌, ◌<◌, List, length, All}
+use Rattle.std.specs.Prelude.{◌≡◌, ◌⊎◌, ℕ, ◌+◌, ◌<◌, List, length, All, Option, None, Some}
 use Rattle.atomic_table.specs.Seated.{TableId}
 use Rattle.sums.specs.Weights.{weigh}
-use Rattle.words.specs.Tokens.{FreeSegment}
+use Rattle.words.specs.Tokens.{FreeSegment, OpenSegment}
 use Rattle.pool.specs.declared.law.Account.{Account}
+use Rattle.pool.specs.Law.{took_ordinary, took_reserve}
+use Rattle.area.specs.declared.append.Who.{Who}
+use Rattle.area.specs.declared.append.Who.TheVariants.{Ordinary, Reserved}
 
 -- slips of these words, each of one of so many segments
 abbrev pub AreSlipsOf : TableId → ℕ → List FreeSegment → Type 0
@@ -25,3 +28,14 @@ pub record HaveFreed (segments count : ℕ) (old new : Account) (before after : 
   pub count_is : length freed ≡ count
   pub within : All (λ n. n < segments) freed
   pub put : HavePut freed old new before after
+
+-- The pass took the slip of this segment, and nothing else: only who may draw on the reserve took it there.
+abbrev pub HasDrawn : Who → ℕ → Account → Account → Type 0
+HasDrawn Ordinary segment old new = new ≡ took_ordinary old segment
+HasDrawn Reserved segment old new = (new ≡ took_ordinary old segment) ⊎ (new ≡ took_reserve old segment)
+
+-- A log has this open segment: the one that it had, and then its pass took nothing; or, where it had none, the one whose
+-- slip its pass took.
+abbrev pub HasOpened : Who → Option OpenSegment → ℕ → Account → Account → Type 0
+HasOpened who (Some slip) segment old new = (slip.segment ≡ segment) × (new ≡ old)
+HasOpened who None segment old new = HasDrawn who segment old new

@@ -1,5 +1,5 @@
 //! Appends to a log.
-ghost use Rattle.std.specs.Prelude.{◌≡◌, ◌<◌, ◌≤◌, ◌∷◌, ◌⊎◌, Some, length, MatchOption, OnOk, OnErr, IfOk, IfErr, IfSome};
+ghost use Rattle.std.specs.Prelude.{◌≡◌, ◌<◌, ◌≤◌, ◌∷◌, ◌⊎◌, Some, length, MatchOption, OnOk, OnErr, IfOk, IfErr, IfSome, IfNone};
 ghost use Rattle.geometry.specs.declared.error.Error.TheVariants.{Device, NoSpace};
 ghost use Rattle.geometry.specs.Shape.{block_bytes};
 ghost use Rattle.geometry.specs.Address.{address_of};
@@ -7,6 +7,7 @@ ghost use Rattle.geometry.specs.Area.{block_count};
 ghost use Rattle.sit.specs.Segment.{placed, HasPlaced};
 ghost use Rattle.geometry.specs.Owner.{IsOwner};
 ghost use Rattle.rights_names.specs.Names.{layout_of};
+ghost use Rattle.area.specs.Slips.{HasDrawn, HasOpened};
 
 use crate::cells::{LogCell, SegmentCell};
 use crate::log::Log;
@@ -38,6 +39,8 @@ impl<V: VolumeName> LogCell<V> {
         who: Who,
     ) -> Option<FreeSlip>
         ensures words { IfSome result (λ slip. slip.table ≡ V.Words.words) }
+        ensures drawn { IfSome result (λ slip. HasDrawn who slip.segment self.old.pass self.new.pass) }
+        ensures unchanged { IfNone result (self.new.pass ≡ self.old.pass) }
         ensures open { self.new.slip ≡ self.old.slip }
     {
         match who {
@@ -242,6 +245,8 @@ impl<V: VolumeName, B: Block + Drop> MainArea<V, B> {
     fn open_segment<R: Wait>(&self, rt: &R, log: &mut LogCell<V>, who: Who) -> Option<u32>
         ensures open { IfSome result (λ number. log.new.slip ≡ Some (record { table = V.Words.words; segment = number })) }
         ensures within { IfSome result (λ number. number < V.Numbers.geometry.segments) }
+        ensures opened { IfSome result (λ number. HasOpened who log.old.slip number log.old.pass log.new.pass) }
+        ensures unchanged { IfNone result ((log.new.slip ≡ log.old.slip) × (log.new.pass ≡ log.old.pass)) }
     {
         if let Some(slip) = &log.slip {
             return Some(slip.segment());

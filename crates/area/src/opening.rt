@@ -1,7 +1,8 @@
 //! What a main area is put together from.
-ghost use Rattle.std.specs.Prelude.{◌≡◌, ◌+◌, ◌≤◌, length, vec_len, vec_capacity};
+ghost use Rattle.std.specs.Prelude.{◌≡◌, ◌+◌, ◌≤◌, [], length, vec_len, vec_capacity};
 ghost use Rattle.pool.specs.Law.{all_parts};
 ghost use Rattle.area.specs.Opening.{SegmentsFall, AreSlips};
+ghost use Rattle.area.specs.Slips.{HavePut};
 
 use crate::cells::SegmentCell;
 use device::Block;
@@ -12,7 +13,7 @@ use std::sync::{Mutex, Wait};
 use words::StoredSlip;
 
 /// Puts the slips of free segments into the pool, the last one first, so that the reserve is filled before the ordinary
-/// queue. The pass has all parts, so that none is refused, and keeps them. It takes no memory.
+/// queue. The pass has all parts, so that none is refused: each is put, and none is kept. It takes no memory.
 pub fn put_slips<W: WordsName, P: PoolName, R: Wait>(
     rt: &R,
     pool: &Pool<W, P>,
@@ -22,7 +23,7 @@ pub fn put_slips<W: WordsName, P: PoolName, R: Wait>(
     requires all { all_parts ≤ pass.old.ordinary.parts }
     requires words { AreSlips W.words slips.items }
     requires room { length pass.old.ordinary.put + vec_len slips ≤ P.ordinary.slots }
-    ensures parts { pass.new.ordinary.parts ≡ pass.old.ordinary.parts }
+    ensures put { HavePut [] pass.old pass.new slips.items [] }
 {
     'slips: while let Some(stored) = slips.pop() {
         match pool.put(rt, pass, stored.restore()) {

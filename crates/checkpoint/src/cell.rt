@@ -124,6 +124,7 @@ impl<V: VolumeName, M: Meta> PacksCell<V, M> {
         ensures memory { IfErr result (λ error. error ≡ NoMemory → self.new.packs ≡ self.old.packs) }
         // A version is complete only once its pack is on the device.
         ensures refused { IfErr result (λ error. self.new.checkpoint ≡ self.old.checkpoint) }
+        ensures slips { (self.new.pass ≡ self.old.pass) × (self.new.kept ≡ self.old.kept) }
     {
         // A version fits its field.
         let _version = taken.image().version;

@@ -29,6 +29,8 @@ impl<M: Meta> ImagePacks<M> {
         ensures errors { IfErr result (λ e. (e.0 ≡ NoPack) ⊎ (e.0 ≡ Device)) }
         ensures no_pack { IfErr result (λ e. e.0 ≡ NoPack
             → picked (reading_of geometry) (M.seen meta) ≡ None) }
+        // Then nothing was written.
+        ensures untouched { IfErr result (λ e. e.0 ≡ NoPack → M.seen e.1 ≡ M.seen meta) }
         ensures device { IfErr result (λ e. e.0 ≡ Device → M.failed meta < M.failed e.1) }
         ensures failures { IfOk result (λ packs. M.failed meta ≤ M.failed packs.area.meta) }
         ensures failures_err { IfErr result (λ e. M.failed meta ≤ M.failed e.1) }

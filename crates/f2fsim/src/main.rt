@@ -1,27 +1,47 @@
 //! The program: it runs a script, checks an image file, or tells the files of one.
 #![tactic(auto)]
 
-use program_run::status::MISUSED;
-use program_run::{check_image, run_script, tell_failure, tell_files, tell_no_memory};
+mod saving;
+
+use program_run::status::{FAILED, MISUSED};
+use program_run::{check_image, run_script, tell_files, tell_io_failure};
 use program_script::words::USAGE;
 use program_script::{Words, WordsError};
+use saving::save;
 use std::fs::File;
-use std::io::Write;
+use std::io::{LineWriter, Write};
 use std::process::ExitCode;
 use std::rt::Runtime;
 use std::sync::Wait;
 use std::thread::Threads;
 use std::{env, io};
 
+// The bytes of output that are put together at most: a line goes out once it is whole, so that who reads along sees it.
+const BUFFER: usize = 8192;
+
 fn main(rt: HostRuntime) -> ExitCode {
-    let mut out = rt.stdout();
     let mut errors = rt.stderr();
-    let status = match called(&rt, &mut out, &mut errors) {
-        Ok(status) => status,
-        Err(error) if error.kind() == io::ErrorKind::OutOfMemory => tell_no_memory(&mut errors),
-        Err(_) => tell_failure(&mut errors),
+    let status = match LineWriter::with_capacity(rt.alloc(), BUFFER, rt.stdout()) {
+        Ok(mut out) => flushed(&rt, &mut out, &mut errors),
+        Err(error) => tell_io_failure(&error, &mut errors),
     };
     ExitCode::from(status)
+}
+
+// Does what the words ask for, and writes what is left of the output.
+fn flushed<R: Runtime + AllocGlobal + Threads + Wait + Sync, W: Write, E: Write>(
+    rt: &R,
+    out: &mut W,
+    errors: &mut E,
+) -> u8 {
+    let status = match called(rt, out, errors) {
+        Ok(status) => status,
+        Err(error) => return tell_io_failure(&error, errors),
+    };
+    match out.flush() {
+        Err(error) if status != FAILED => tell_io_failure(&error, errors),
+        _ => status,
+    }
 }
 
 // Does what the words ask for, and answers the exit status.
@@ -31,8 +51,15 @@ fn called<R: Runtime + AllocGlobal + Threads + Wait + Sync, W: Write, E: Write>(
     errors: &mut E,
 ) -> io::Result<u8> {
     let mut words = Vec::new(rt.alloc());
-    for word in env::args(rt)? {
-        words.push(word)?;
+    match env::args(rt) {
+        Ok(all) => {
+            for word in all {
+                words.push(word)?;
+            }
+        }
+        // A word that is no text is none that the program knows, and no path that it can take.
+        Err(error) if error.kind() == io::ErrorKind::InvalidData => return misused(errors),
+        Err(error) => return Err(error),
     }
     match Words::parse(rt.alloc(), words.as_slice()) {
         Ok(Words::Check { image }) => {
@@ -44,31 +71,32 @@ fn called<R: Runtime + AllocGlobal + Threads + Wait + Sync, W: Write, E: Write>(
             Ok(tell_files(rt, rt.alloc(), &mut file, out, errors))
         }
         Ok(Words::Run { save }) => run_saving(rt, out, errors, save),
-        Err(WordsError::Usage) => {
-            writeln!(errors, "{USAGE}")?;
-            Ok(MISUSED)
-        }
+        Err(WordsError::Usage) => misused(errors),
         Err(WordsError::NoMemory) => Err(io::Error::from(io::ErrorKind::OutOfMemory)),
     }
 }
 
-// Runs the script on standard input. The bytes of the device, if some were put aside, become those of the file at `save`.
+fn misused<E: Write>(errors: &mut E) -> io::Result<u8> {
+    writeln!(errors, "{USAGE}")?;
+    Ok(MISUSED)
+}
+
+// Runs the script on standard input. The bytes of the device, if some were put aside, become those of the file at `path`.
 fn run_saving<R: Runtime + AllocGlobal + Threads + Wait + Sync, W: Write, E: Write>(
     rt: &R,
     out: &mut W,
     errors: &mut E,
-    save: Option<&str>,
+    path: Option<&str>,
 ) -> io::Result<u8> {
     let mut bytes = Vec::new(rt.alloc());
-    let saved = match save {
+    let saved = match path {
         Some(_) => Some(&mut bytes),
         None => None,
     };
     let status = run_script(rt, rt.alloc(), &mut rt.reader(), out, errors, saved);
-    match save {
+    match path {
         Some(path) if !bytes.is_empty() => {
-            let mut file = File::create(rt, path)?;
-            file.write_all(bytes.as_slice())?;
+            save(rt, rt.alloc(), path, bytes.as_slice())?;
             Ok(status)
         }
         _ => Ok(status),

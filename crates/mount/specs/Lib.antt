@@ -2,3 +2,4 @@ pub mod Made
 pub mod Logs
 pub mod Mounted
 pub mod Lodged
+pub mod Pooled

@@ -1,11 +1,13 @@
 //! A device that holds a volume, and all that is made for the volume while its tables have no name.
-ghost use Rattle.std.specs.Prelude.{◌≡◌, ◌⊎◌, ◌<◌, ℕ, IfOk, IfErr};
+ghost use Rattle.std.specs.Prelude.{◌≡◌, ◌≢◌, ◌⊎◌, ◌<◌, ℕ, IfOk, IfErr};
+ghost use Rattle.device.specs.Disk.{Leaves};
 ghost use Rattle.device.specs.Parts.{IsBlockRun, HasSize};
-ghost use Rattle.mount_reading.specs.Held.{HoldsImage, IsPartsRefusal, AreSameParts};
+ghost use Rattle.mount_reading.specs.Held.{HoldsImage, IsPartsRefusal, AreSameParts, KeepsPack, KeepsBetween};
 ghost use Rattle.geometry.specs.declared.error.Error.TheVariants.{NoMemory, Device};
 ghost use Rattle.image.specs.Rules.{IsLawful};
 ghost use Rattle.sums.specs.Weights.{weigh};
 ghost use Rattle.packs_format.specs.Grammar.{HasSuper};
+ghost use Rattle.packs_format.specs.Holding.{HoldsTables};
 
 use crate::{MountTables, free_memory};
 use device::{Block, Meta, Parts};
@@ -48,7 +50,8 @@ impl<M: Meta, B: Block + Drop> Model for Mounted<M, B> {
 /// Answers BadGeometry where the meta area begins with no superblock, also where it has fewer than 64 bytes; then BadImage(1)
 /// where the parts have another size than it tells; then NoPack where neither pack is sound; then BadImage with the least fault
 /// that is there. Answers Device where the device failed, which counted it, and NoMemory where a growth was refused. Each hands
-/// the parts back, with the same blocks and superblock.
+/// the parts back, with the same blocks and superblock, and after each but Device the pack that counted counts. Where a crash
+/// left one pack or the next, a crash at any moment of the call does too.
 pub fn mount<M: Meta, B: Block + Drop>(
     alloc: Global,
     parts: Parts<M, B>,
@@ -58,11 +61,16 @@ pub fn mount<M: Meta, B: Block + Drop>(
     ensures size { IfOk result (λ mounted. HasSize M.seen B.address_of B.content_of mounted.geometry parts) }
     ensures image { IfOk result (λ mounted. HoldsImage M.seen B.content_of mounted.geometry parts mounted.image) }
     ensures lawful { IfOk result (λ mounted. IsLawful mounted.geometry mounted.image) }
+    // A crash right after finds the same image.
+    ensures held { IfOk result (λ mounted. Leaves M.may_leave mounted.parts.meta (HoldsTables mounted.geometry mounted.image)) }
     ensures parts { IfOk result (λ mounted. AreSameParts M.seen B.address_of B.content_of parts mounted.parts) }
     ensures refused { IfErr result (λ fault. IsPartsRefusal M.seen B.address_of B.content_of parts fault.error) }
     ensures device { IfErr result (λ fault. fault.error ≡ Device → (M.failed parts.meta < M.failed fault.parts.meta)
         ⊎ (weigh B.failed parts.blocks.items < weigh B.failed fault.parts.blocks.items)) }
     ensures back { IfErr result (λ fault. AreSameParts M.seen B.address_of B.content_of parts fault.parts) }
+    ensures kept { IfErr result (λ fault. fault.error ≢ Device → KeepsPack M.seen parts.meta fault.parts.meta) }
+    ensures any_moment { IfOk result (λ mounted. KeepsBetween M.seen M.may_leave M.moment M.left_since parts.meta mounted.parts.meta) }
+    ensures any_moment_err { IfErr result (λ fault. KeepsBetween M.seen M.may_leave M.moment M.left_since parts.meta fault.parts.meta) }
 {
     let device = match open_device(alloc, parts) {
         Ok(device) => device,

@@ -7,6 +7,7 @@ ghost use Rattle.mount_blocks.specs.Goods.{AreShards};
 ghost use Rattle.pool.specs.Pools.{first_account};
 ghost use Rattle.mount_blocks.specs.States.{AreSegmentsFrom};
 ghost use Rattle.mount.specs.Logs.{EachStands};
+ghost use Rattle.mount.specs.Pooled.{HasPutFree, HasSameLists};
 
 use crate::frames::AreaFrames;
 use area::{LogCell, MainArea, ShardCell, lock_segments, put_slips};
@@ -44,7 +45,8 @@ pub(crate) fn lock_area<V: VolumeName, B: Block + Drop, R: Wait>(
     requires pass { pass.old ≡ first_account }
     requires segments { AreSegmentsFrom geometry (image_view image.now) V.Books.books.book V.Words.words 0 loaded.states.items loaded.free.items loaded.logs.items }
     requires shards { AreShards V.Books.books.book geometry.nodes shards.items }
-    ensures pass { pass.new.ordinary.parts ≡ 1 }
+    ensures parts { pass.new.ordinary.parts ≡ 1 }
+    ensures free { HasPutFree geometry (image_view image.now) pass.new }
 {
     let _image = image;
     let LoadedSegments { states, free, logs } = loaded;
@@ -75,6 +77,7 @@ fn lock_loaded_logs<V: VolumeName>(
     requires room { 6 ≤ vec_capacity cells }
     ensures six { vec_len result ≡ 6 }
     ensures parts { pass.new.ordinary.parts + 6 ≡ pass.old.ordinary.parts }
+    ensures lists { HasSameLists pass.old pass.new }
 {
     'slips: for slip in slips {
         let number = cells.len() as u32;

@@ -1,2 +1,3 @@
 pub mod Opened
 pub mod Blocks
+pub mod Moments

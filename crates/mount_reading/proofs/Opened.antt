@@ -1,7 +1,6 @@
 -- Size, geometry, tables and nodes are each read off the parts and told apart in that order: so what was read is what
 -- they hold, and each refusal names what is wrong with them.
-use Rattle.std.proofs.Common.{◌≡◌, ◌⊎◌, ℕ, ◌^◌, ◌<◌, ◌≤◌, List, length, take, drop, Some, None, inl, inr, refl, sym, ap, subst, ◌∙◌, arith}
-use Rattle.std.proofs.lemmas.List.{length-take, take-take}
+use Rattle.std.proofs.Common.{◌≡◌, ◌⊎◌, ℕ, List, length, Some, None, inl, inr, refl, sym, ap, subst, ◌∙◌}
 use Rattle.device.specs.Parts.{IsBlockRun, HasSize}
 use Rattle.device.specs.declared.parts.Parts.{Parts}
 use Rattle.geometry.specs.declared.geometry.Geometry.{Geometry}
@@ -11,7 +10,6 @@ use Rattle.geometry.specs.Area.{block_count, meta_bytes}
 use Rattle.geometry.specs.Shape.{block_bytes}
 use Rattle.image.specs.Image.{Image}
 use Rattle.image.specs.Node.{Node}
-use Rattle.image.specs.Pack.{pack_body}
 use Rattle.image.specs.Faults.{IsRefusal}
 use Rattle.image.specs.Reading.{read_nodes}
 use Rattle.image.specs.Slots.{version_of}

@@ -1,5 +1,6 @@
 -- What the parts of a device hold, and why they are refused (Linux filesystems/f2fs, superblock, checkpoint area and main area).
 use Rattle.std.specs.Prelude.{◌≡◌, ◌⊎◌, ℕ, List, map, Some, None}
+use Rattle.device.specs.Disk.{Leaves, LeavesOnly}
 use Rattle.device.specs.Parts.{HasSize}
 use Rattle.device.specs.declared.parts.Parts.{Parts}
 use Rattle.geometry.specs.declared.geometry.Geometry.{Geometry}
@@ -10,8 +11,8 @@ use Rattle.image.specs.Image.{Image}
 use Rattle.image.specs.Reading.{read_nodes}
 use Rattle.image.specs.Rules.{IsLeastFault}
 use Rattle.packs.specs.Area.{reading_of}
-use Rattle.packs.specs.Device.{IsSameArea}
-use Rattle.packs.specs.Pack.{picked}
+use Rattle.packs.specs.Device.{IsSameArea, KeepsArea}
+use Rattle.packs.specs.Pack.{picked, Between}
 use Rattle.packs_format.specs.Grammar.{HasSuper, SpellsTables, SpellsNoTables}
 use Rattle.packs_format.specs.Holding.{HoldsTables}
 use Rattle.image_codec.specs.Blocks.{bytes_at}
@@ -59,3 +60,15 @@ pub record AreSameParts {M B : Type 0} (seen : M → List ℕ) (address_of : B �
   pub area : IsSameArea (seen old.meta) (seen new.meta)
   pub addresses : map address_of new.blocks.items ≡ map address_of old.blocks.items
   pub contents : map content_of new.blocks.items ≡ map content_of old.blocks.items
+
+-- the pack that counts is the one that did, by the numbers that the superblock tells
+abbrev pub KeepsPack : {M : Type 0} → (M → List ℕ) → M → M → Type 0
+KeepsPack seen old new =
+    (geometry : Geometry) → HasSuper geometry (seen old) → picked (reading_of geometry) (seen new) ≡ picked (reading_of geometry) (seen old)
+
+-- Where a crash before leaves one pack or the next, a crash at any moment since does.
+abbrev pub KeepsBetween : {M : Type 0} → (M → List ℕ) → (M → List ℕ → Type 0) → (M → ℕ) → (M → ℕ → List ℕ → Type 0) → M → M → Type 0
+KeepsBetween seen may_leave moment left_since old new =
+    (geometry : Geometry) (one next : List ℕ) → HasSuper geometry (seen old)
+    → Leaves may_leave old (KeepsArea (seen old) (Between (reading_of geometry) one next))
+    → LeavesOnly moment left_since old new (KeepsArea (seen old) (Between (reading_of geometry) one next))

@@ -1,5 +1,6 @@
 //! The superblock of a device, and whether the device has the size that it tells.
 ghost use Rattle.std.specs.Prelude.{◌≡◌, ◌⊎◌, ◌<◌, ◌≤◌, ℕ, true, false, length, map, IfOk, IfErr};
+ghost use Rattle.device.specs.Disk.{IsQuiet};
 ghost use Rattle.device.specs.Parts.{IsBlockRun};
 ghost use Rattle.geometry.specs.declared.error.Error.TheVariants.{Device, BadGeometry};
 ghost use Rattle.geometry.specs.declared.geometry.Geometry.{Geometry as Numbers};
@@ -25,7 +26,7 @@ pub(crate) fn read_front<M: Meta>(meta: &mut M) -> Result<Geometry, Error>
     ensures errors { IfErr result (λ e. (e ≡ Device) ⊎ ((e ≡ BadGeometry) × ((geometry : Numbers) → ¬ HasSuper geometry (M.seen meta.old)))) }
     ensures device { IfErr result (λ e. e ≡ Device → M.failed meta.old < M.failed meta.new) }
     ensures failures { M.failed meta.old ≤ M.failed meta.new }
-    ensures same { M.seen meta.new ≡ M.seen meta.old }
+    ensures quiet { IsQuiet M.seen M.may_leave M.moment M.left_since meta.old meta.new }
 {
     if meta.len() < SUPER_BYTES as u64 {
         return Err(Error::BadGeometry);

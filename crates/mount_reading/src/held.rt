@@ -1,5 +1,6 @@
 //! The image that a device holds.
 ghost use Rattle.std.specs.Prelude.{◌≡◌, ◌⊎◌, ◌<◌, length, map, IfOk, IfErr};
+ghost use Rattle.device.specs.Disk.{IsQuiet};
 ghost use Rattle.device.specs.Parts.{IsBlockRun};
 ghost use Rattle.geometry.specs.declared.error.Error.TheVariants.{Device};
 ghost use Rattle.geometry.specs.Area.{block_count};
@@ -42,7 +43,8 @@ pub(crate) fn read_image<M: Meta, B: Block>(
     ensures device { IfErr result (λ e. e ≡ Device → (M.failed packs.old.area.meta < M.failed packs.new.area.meta)
         ⊎ (weigh B.failed blocks.old.items < weigh B.failed blocks.new.items)) }
     ensures whole { AreWhole M.seen M.may_leave packs.new }
-    ensures same { (M.seen packs.new.area.meta ≡ M.seen packs.old.area.meta) × (packs.new.geometry ≡ packs.old.geometry) × (packs.new.area.version ≡ packs.old.area.version) }
+    ensures quiet { IsQuiet M.seen M.may_leave M.moment M.left_since packs.old.area.meta packs.new.area.meta }
+    ensures same { (packs.new.geometry ≡ packs.old.geometry) × (packs.new.area.version ≡ packs.old.area.version) }
     ensures run { IsBlockRun B.address_of B.content_of (block_bytes packs.old.geometry.shape) 1 blocks.new.items }
     ensures contents { map B.content_of blocks.new.items ≡ map B.content_of blocks.old.items }
 {

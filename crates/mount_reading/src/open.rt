@@ -1,5 +1,6 @@
 //! The parts of a device are opened.
-ghost use Rattle.std.specs.Prelude.{◌≡◌, ◌⊎◌, ◌<◌, ◌≤◌, ℕ, length, map, IfOk, IfErr};
+ghost use Rattle.std.specs.Prelude.{◌≡◌, ◌≢◌, ◌⊎◌, ◌<◌, ◌≤◌, ℕ, length, map, IfOk, IfErr};
+ghost use Rattle.device.specs.Disk.{Leaves, IsQuiet};
 ghost use Rattle.device.specs.Parts.{IsBlockRun, HasSize};
 ghost use Rattle.geometry.specs.declared.error.Error.TheVariants.{Device, BadGeometry, BadImage};
 ghost use Rattle.geometry.specs.declared.geometry.Geometry.{Geometry as Numbers};
@@ -11,8 +12,9 @@ ghost use Rattle.packs.specs.Device.{IsSameArea};
 ghost use Rattle.checkpoint.specs.Holding.{AreWhole};
 ghost use Rattle.sums.specs.Weights.{weigh};
 ghost use Rattle.packs_format.specs.Grammar.{HasSuper};
+ghost use Rattle.packs_format.specs.Holding.{HoldsTables};
 ghost use Rattle.image_codec.specs.Blocks.{AreBlocks, bytes_at};
-ghost use Rattle.mount_reading.specs.Held.{HoldsImage, IsPartsRefusal, AreSameParts};
+ghost use Rattle.mount_reading.specs.Held.{HoldsImage, IsPartsRefusal, AreSameParts, KeepsPack, KeepsBetween};
 
 use crate::front::{have_size, read_front};
 use crate::held::read_image;
@@ -44,7 +46,8 @@ pub struct OpenFault<M, B> {
 /// Answers BadGeometry where the meta area begins with no superblock, also where it has fewer than 64 bytes; then BadImage(1)
 /// where the parts have another size than it tells, before anything is written; then NoPack where neither pack is sound; then
 /// BadImage with the least fault that is there. Answers Device where the device failed, which counted it, and NoMemory where a
-/// growth was refused. Each refusal hands the parts back.
+/// growth was refused. Each refusal hands the parts back, and after each but Device the pack that counted counts. Where a crash
+/// left one pack or the next, a crash at any moment of the call does too.
 pub fn open_device<M: Meta, B: Block>(
     alloc: Global,
     parts: Parts<M, B>,
@@ -57,6 +60,8 @@ pub fn open_device<M: Meta, B: Block>(
     ensures version { IfOk result (λ opened. opened.image.version ≡ opened.packs.area.version) }
     ensures some_version { IfOk result (λ opened. 0 < opened.image.version) }
     ensures packs { IfOk result (λ opened. AreWhole M.seen M.may_leave opened.packs) }
+    // A crash right after finds the same image.
+    ensures held { IfOk result (λ opened. Leaves M.may_leave opened.packs.area.meta (HoldsTables opened.packs.geometry (image_view opened.image))) }
     ensures area { IfOk result (λ opened. IsSameArea (M.seen parts.meta) (M.seen opened.packs.area.meta)) }
     ensures blocks { IfOk result (λ opened. AreBlocks opened.packs.geometry (image_view opened.image) (bytes_at B.content_of parts.blocks.items)) }
     ensures run { IfOk result (λ opened. IsBlockRun B.address_of B.content_of (block_bytes opened.packs.geometry.shape) 1 opened.blocks.items) }
@@ -65,6 +70,9 @@ pub fn open_device<M: Meta, B: Block>(
     ensures device { IfErr result (λ fault. fault.error ≡ Device → (M.failed parts.meta < M.failed fault.parts.meta)
         ⊎ (weigh B.failed parts.blocks.items < weigh B.failed fault.parts.blocks.items)) }
     ensures back { IfErr result (λ fault. AreSameParts M.seen B.address_of B.content_of parts fault.parts) }
+    ensures kept { IfErr result (λ fault. fault.error ≢ Device → KeepsPack M.seen parts.meta fault.parts.meta) }
+    ensures any_moment { IfOk result (λ opened. KeepsBetween M.seen M.may_leave M.moment M.left_since parts.meta opened.packs.area.meta) }
+    ensures any_moment_err { IfErr result (λ fault. KeepsBetween M.seen M.may_leave M.moment M.left_since parts.meta fault.parts.meta) }
 {
     let Parts {
         mut meta,
@@ -110,7 +118,7 @@ fn read_geometry<M: Meta, B: Block>(meta: &mut M, blocks: &mut Vec<B>) -> Result
         × IsBlockRun B.address_of B.content_of (block_bytes geometry.shape) 1 blocks.old.items))))) }
     ensures device { IfErr result (λ e. e ≡ Device → (M.failed meta.old < M.failed meta.new) ⊎ (weigh B.failed blocks.old.items < weigh B.failed blocks.new.items)) }
     ensures failures { (M.failed meta.old ≤ M.failed meta.new) × (weigh B.failed blocks.old.items ≤ weigh B.failed blocks.new.items) }
-    ensures same { M.seen meta.new ≡ M.seen meta.old }
+    ensures quiet { IsQuiet M.seen M.may_leave M.moment M.left_since meta.old meta.new }
     ensures addresses { map B.address_of blocks.new.items ≡ map B.address_of blocks.old.items }
     ensures contents { map B.content_of blocks.new.items ≡ map B.content_of blocks.old.items }
 {

@@ -6,7 +6,7 @@ ghost use Rattle.program_session.specs.Lines.{name_of, numbers_line, refusal_lin
 
 use crate::reading::read_all;
 use crate::status::{DONE, REFUSED};
-use crate::stop::tell_failure;
+use crate::stop::tell_io_failure;
 use image::Image;
 use packs_format::ReadImage;
 use program_session::lines::{tell_numbers, tell_refusal};
@@ -30,7 +30,7 @@ pub fn check_image<R: Read, W: Write, E: Write>(
 {
     match read_and_tell(alloc, input, out) {
         Ok(status) => status,
-        Err(_) => tell_failure(errors),
+        Err(error) => tell_io_failure(&error, errors),
     }
 }
 

@@ -16,4 +16,4 @@ mod telling;
 pub use check::check_image;
 pub use files::tell_files;
 pub use run::run_script;
-pub use stop::{tell_failure, tell_no_memory};
+pub use stop::{tell_failure, tell_io_failure, tell_no_memory};

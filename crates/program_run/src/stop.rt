@@ -65,6 +65,16 @@ pub fn tell_no_memory<E: Write>(errors: &mut E) -> u8
     FAILED
 }
 
+/// Writes why a stream failed: that no memory was found, or that input or output failed. Answers the exit status.
+pub fn tell_io_failure<E: Write>(error: &io::Error, errors: &mut E) -> u8
+    ensures { result ≡ 4 }
+{
+    match error.kind() {
+        io::ErrorKind::OutOfMemory => tell_no_memory(errors),
+        _ => tell_failure(errors),
+    }
+}
+
 impl From<io::Error> for Stop {
     ghost from_gives = { λ _ stop. names_line stop ≡ false };
 

@@ -5,7 +5,8 @@ use Rattle.device.specs.declared.parts.Parts.{Parts}
 use Rattle.image.specs.View.{image_view}
 use Rattle.image_codec.specs.Blocks.{AreBlocks}
 use Rattle.packs_format.proofs.SuperLemmas.{super_stays}
-use Rattle.mount_reading.specs.Held.{AreSameParts}
+use Rattle.mount_reading.specs.Held.{AreSameParts, KeepsPack, KeepsBetween}
+use Rattle.mount_reading.proofs.Moments.{kept_held}
 use Rattle.mount_reading.proofs.Blocks.{count_kept, addresses_same, bytes_same}
 use Rattle.mount.proofs.mounted.mount.Goals as goal
 
@@ -47,3 +48,17 @@ returns-in-Err-new-clause-back g c =
       addresses = addresses_same g.B.Block.address_of g.B.Block.content_of _ _ c.args.parts.blocks.items c.in-Ok.device.blocks.items all.size.run all.run all.contents;
       contents = all.contents;
     })
+
+pub returns-in-Err-new-clause-kept : goal.returns-in-Err-new-clause-kept
+returns-in-Err-new-clause-kept g c =
+    let seen = g.M.Meta.seen in
+    let all = c.in-Ok.ensures in
+    let packs = c.in-Ok.device.packs in
+    λ other. subst (λ (p : Parts g.row.M.Denot g.row.B.Denot). KeepsPack seen c.args.parts.meta p.meta) (sym c.into_parts.ensures)
+    (kept_held seen c.args.parts.meta packs.area.meta packs.geometry (image_view c.in-Ok.device.image) all.front all.image.tables
+    (all.held (seen packs.area.meta) (g.met.M.Meta.seen_is_left packs.area.meta)))
+
+pub returns-in-Err-new-clause-any_moment_err : goal.returns-in-Err-new-clause-any_moment_err
+returns-in-Err-new-clause-any_moment_err g c =
+    let meta = g.M.Meta in
+    subst (λ (p : Parts g.row.M.Denot g.row.B.Denot). KeepsBetween meta.seen meta.may_leave meta.moment meta.left_since c.args.parts.meta p.meta) (sym c.into_parts.ensures) c.in-Ok.ensures.any_moment

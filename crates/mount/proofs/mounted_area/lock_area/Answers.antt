@@ -1,9 +1,10 @@
-use Rattle.std.proofs.Common.{◌≡◌, length, ap, subst, arith}
+use Rattle.std.proofs.Common.{length, ap, subst, arith}
 use Rattle.geometry.specs.declared.geometry.Geometry.{Geometry}
 use Rattle.image.specs.View.{image_view}
 use Rattle.pool.specs.declared.law.Account.{Account}
 use Rattle.mount.specs.Logs.{EachStands}
 use Rattle.mount.proofs.Slips.{loaded_slips, few_free, loaded_logs}
+use Rattle.mount.proofs.Pooled.{has_put}
 use Rattle.mount.proofs.mounted_area.lock_area.Goals as goal
 
 pub put_slips-requires-clause-words : goal.put_slips-requires-clause-words
@@ -24,3 +25,8 @@ lock_loaded_logs-logs-requires-clause-slips g c =
     let table = g.V.Words.WordsName.words in
     subst (λ (x : Geometry). EachStands table x.segments c.args.loaded.logs.items) c.requires.geometry
     (loaded_logs c.args.geometry (image_view c.args.image.now) g.V.Books.BooksName.books.book table _ _ _ c.requires.segments c.requires.lawful)
+
+pub returns-clause-free : goal.returns-clause-free
+returns-clause-free g c =
+    has_put c.args.geometry (image_view c.args.image.now) g.V.Books.BooksName.books.book g.V.Words.WordsName.words _ _ _ c.requires.segments
+    c.args.pass.now c.put_slips.new.pass c.lock_loaded_logs-logs.new.pass c.requires.pass c.put_slips.ensures.put c.lock_loaded_logs-logs.ensures.lists

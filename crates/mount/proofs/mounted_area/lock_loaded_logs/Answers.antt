@@ -1,5 +1,4 @@
-use Rattle.std.proofs.Common.{◌≡◌, suc, length, ap, subst, arith, rules}
-use Rattle.std.specs.Vec.Iter.{into_iter_items}
+use Rattle.std.proofs.Common.{suc, length, refl, ap, subst, ◌∙◌, arith, rules}
 use Rattle.pool.specs.declared.law.Account.{Account}
 use Rattle.mount.specs.Logs.{EachStands}
 use Rattle.mount.proofs.mounted_area.lock_loaded_logs.Goals as goal
@@ -26,6 +25,17 @@ slips-preserved g c =
       λ k other low. subst (EachStands table count) steps.0 i.2 (suc k) other (omega arith),
       omega (arith, i.3),
       omega (arith, i.4),
+      let shared = c.share-part.ensures.rest in
+          record {
+            put = (
+              ap (λ (a : Account). a.ordinary.put) shared ∙ i.5.put.0,
+              ap (λ (a : Account). a.reserve.put) shared ∙ i.5.put.1,
+            );
+            taken = (
+              ap (λ (a : Account). a.ordinary.taken) shared ∙ i.5.taken.0,
+              ap (λ (a : Account). a.reserve.taken) shared ∙ i.5.taken.1,
+            );
+          },
     )
 
 pub slips-init : goal.slips-init
@@ -36,4 +46,5 @@ slips-init g c =
       search rules,
       search rules,
       omega arith,
+      record { put = (refl, refl); taken = (refl, refl) },
     )

@@ -1,4 +1,4 @@
-use Rattle.std.proofs.Common.{◌≡◌, length, ap, sym, subst, arith, rules}
+use Rattle.std.proofs.Common.{length, ap, sym, subst, arith}
 use Rattle.std.specs.Vec.Iter.{into_iter_items}
 use Rattle.nat.specs.Table.{IsShardAt}
 use Rattle.mount.proofs.Rest.{EachFrom, first_of, rest_of}

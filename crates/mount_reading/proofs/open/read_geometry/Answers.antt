@@ -1,4 +1,4 @@
-use Rattle.std.proofs.Common.{◌≡◌, List, ℕ, length, inl, inr, refl, subst}
+use Rattle.std.proofs.Common.{◌≡◌, List, ℕ, length, inr, refl, subst}
 use Rattle.device.specs.Parts.{IsBlockRun}
 use Rattle.geometry.specs.Area.{block_count, meta_bytes}
 use Rattle.geometry.specs.Shape.{block_bytes}
@@ -13,6 +13,6 @@ returns-else-branch-clause-errors g c =
       (
         geometry,
         c.in_ok-geometry.ensures.front,
-        subst (λ (l : List ℕ). ¬ ((length l ≡ meta_bytes geometry) × (length blocks ≡ block_count geometry) × IsBlockRun g.B.Block.address_of g.B.Block.content_of (block_bytes geometry.shape) 1 blocks)) c.in_ok-geometry.ensures.same (c.in_ok-have_size.ensures.no c.if-branch.false),
+        subst (λ (l : List ℕ). ¬ ((length l ≡ meta_bytes geometry) × (length blocks ≡ block_count geometry) × IsBlockRun g.B.Block.address_of g.B.Block.content_of (block_bytes geometry.shape) 1 blocks)) c.in_ok-geometry.ensures.quiet.same (c.in_ok-have_size.ensures.no c.if-branch.false),
       ),
     ))

@@ -1,0 +1,65 @@
+//! A whole device over an image file.
+ghost use Rattle.std.specs.Prelude.{◌≡◌, map, All, IfOk, IfErr};
+ghost use Rattle.device.specs.Parts.{HasSize, image_file};
+ghost use Rattle.file_device.specs.Place.{block_place};
+ghost use Rattle.geometry.specs.declared.error.Error.TheVariants.{NoMemory};
+
+use crate::block::FileBlock;
+use crate::meta::FileMeta;
+use crate::store::Store;
+use device::{Block, MemBlock, MemDevice, MemMeta, Meta, Parts};
+use geometry::{Error, Geometry};
+use std::alloc::Global;
+use std::sync::Arc;
+
+/// The parts of a device in memory that has the size of a geometry, each write of which goes to the store too, at the place that
+/// it has in an image file. The only error is NoMemory.
+pub fn keep_in<S: Store + Drop>(
+    alloc: Global,
+    device: MemDevice,
+    geometry: &Geometry,
+    store: S,
+) -> Result<Parts<FileMeta<S>, FileBlock<S>>, Error>
+    requires size { HasSize ⟦<MemMeta as Meta>⟧.seen ⟦<MemBlock as Block>⟧.address_of ⟦<MemBlock as Block>⟧.content_of geometry.now device.parts }
+    ensures size { IfOk result (λ parts. HasSize ⟦<FileMeta<S> as Meta>⟧.seen ⟦<FileBlock<S> as Block>⟧.address_of ⟦<FileBlock<S> as Block>⟧.content_of geometry.now parts) }
+    ensures front { IfOk result (λ parts. ⟦<FileMeta<S> as Meta>⟧.seen parts.meta ≡ ⟦<MemMeta as Meta>⟧.seen device.parts.meta) }
+    ensures bytes { IfOk result (λ parts. image_file ⟦<FileMeta<S> as Meta>⟧.seen ⟦<FileBlock<S> as Block>⟧.content_of parts
+        ≡ image_file ⟦<MemMeta as Meta>⟧.seen ⟦<MemBlock as Block>⟧.content_of device.parts) }
+    ensures places { IfOk result (λ parts. All (λ block. block.kept.at ≡ block_place geometry.now (⟦<MemBlock as Block>⟧.address_of block.kept.block)) parts.blocks.items) }
+    ensures error { IfErr result (λ error. error ≡ NoMemory) }
+{
+    wrap(alloc, device, geometry, store)
+}
+
+fn wrap<S: Store + Drop>(
+    alloc: Global,
+    device: MemDevice,
+    geometry: &Geometry,
+    store: S,
+) -> Result<Parts<FileMeta<S>, FileBlock<S>>, Error>
+    ensures meta { IfOk result (λ parts. parts.meta.kept.area ≡ device.parts.meta) }
+    ensures blocks { IfOk result (λ parts. map (λ block. block.kept.block) parts.blocks.items ≡ device.parts.blocks.items) }
+    ensures places { IfOk result (λ parts. All (λ block. block.kept.at ≡ block_place geometry.now (⟦<MemBlock as Block>⟧.address_of block.kept.block)) parts.blocks.items) }
+    ensures error { IfErr result (λ error. error ≡ NoMemory) }
+{
+    let store = match Arc::new(alloc, store) {
+        Ok(store) => store,
+        Err(_) => return Err(Error::NoMemory),
+    };
+    let Parts { meta, blocks } = device.split();
+    let meta = FileMeta::of(meta, Arc::try_clone(&store)?);
+    let mut kept = Vec::with_capacity(alloc, blocks.len())?;
+    for block in blocks {
+        let at = place_of(geometry, block.address());
+        kept.push_reserved(FileBlock::of(block, Arc::try_clone(&store)?, at));
+    }
+    Ok(Parts { meta, blocks: kept })
+}
+
+/// Where the block of an address begins in an image file.
+pub(crate) fn place_of(geometry: &Geometry, address: u32) -> u64
+    ensures { result ≡ block_place geometry.now address }
+{
+    let size = u64::from(geometry.shape.block_bytes());
+    geometry.meta_bytes() + u64::from(address.saturating_sub(1)) * size
+}

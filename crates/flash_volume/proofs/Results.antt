@@ -1,0 +1,26 @@
+-- What follows of an answer, and of a fault by its stage.
+use Rattle.std.proofs.Common.{◌≡◌, ◌⊎◌, Result, Ok, Err, IfOk, IfErr, inl, inr, ◌∙◌, sym}
+use Rattle.flash_volume.specs.Worked.{IsNotClosed}
+use Rattle.flash_volume.specs.declared.leave.Stage.{Stage}
+use Rattle.flash_volume.specs.declared.leave.Stage.TheVariants.{Work, Close}
+use Rattle.geometry.specs.declared.error.Error.{Error}
+
+-- what holds of a value, and what follows from it
+pub ok_then : {T E : Type 0} (result : Result T E) (P Q : T → Type 0) → ((value : T) → P value → Q value) → IfOk result P → IfOk result Q
+ok_then (Ok value) P Q step holds = step value holds
+ok_then (Err error) P Q step holds = tt
+
+-- the same of an error
+pub err_then : {T E : Type 0} (result : Result T E) (P Q : E → Type 0) → ((error : E) → P error → Q error) → IfErr result P → IfErr result Q
+err_then (Ok value) P Q step holds = tt
+err_then (Err error) P Q step holds = step error holds
+
+-- the same of two facts
+pub err_both : {T E : Type 0} (result : Result T E) (P O Q : E → Type 0) → ((error : E) → P error → O error → Q error) → IfErr result P → IfErr result O → IfErr result Q
+err_both (Ok value) P O Q step holds too = tt
+err_both (Err error) P O Q step holds too = step error holds too
+
+-- a fault at the close tells why there was none
+pub why_not_closed : (stage : Stage) (error : Error) → (stage ≡ Work) ⊎ ((stage ≡ Close) × IsNotClosed error) → stage ≡ Close → IsNotClosed error
+why_not_closed stage error (inl at_work) at_close = absurd (let no = sym at_work ∙ at_close in cc)
+why_not_closed stage error (inr (at_close, why)) again = why

@@ -1,0 +1,10 @@
+use Rattle.flash_volume.proofs.Results.{err_then, why_not_closed}
+use Rattle.flash_volume.proofs.ladder.on_opened.Goals as goal
+
+pub returns-in-Ok-clause-given_up : goal.returns-in-Ok-clause-given_up
+returns-in-Ok-clause-given_up g c =
+    err_then c.work_and_leave.result _ _ (λ fault given_up later. (g.K.TablesName.geometry, given_up)) c.work_and_leave.ensures.given_up
+
+pub returns-in-Ok-clause-not_closed : goal.returns-in-Ok-clause-not_closed
+returns-in-Ok-clause-not_closed g c =
+    err_then c.work_and_leave.result _ _ (λ fault cause. why_not_closed fault.stage fault.error cause) c.work_and_leave.ensures.cause

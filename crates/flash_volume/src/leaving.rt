@@ -1,0 +1,97 @@
+//! A volume is worked on, and left.
+ghost use Rattle.std.specs.Prelude.{◌≡◌, ◌⊎◌, IfOk, IfErr};
+ghost use Rattle.flash_volume.specs.Worked.{AreClosed, AreGivenUp, AreLeft, EndedWith, IsNotClosed};
+ghost use Rattle.flash_volume.specs.declared.leave.Stage.TheVariants.{Work as AtWork, Close as AtClose};
+
+use crate::leave::{Done, Fault, Leave, Stage};
+use crate::rights::{Rights, SharedBlock};
+use crate::work::Work;
+use device::{Meta, Parts};
+use std::alloc::Global;
+use std::sync::Wait;
+use std::thread::Threads;
+use volume::{CloseFault, Closed, SharedName, Volume};
+
+// Works on a volume, and leaves it. Where the work is refused, nothing more is written.
+pub(crate) fn work_and_leave<
+    V: SharedName,
+    M: Meta + Send,
+    B: SharedBlock,
+    R: Threads + Wait + Sync,
+    W: Work<M, B>,
+>(
+    rt: &R,
+    alloc: Global,
+    volume: Volume<V, M, B>,
+    rights: Rights<V>,
+    leave: Leave,
+    work: W,
+) -> Result<Done<M, B, W::Output>, Fault<M, B>>
+    ensures done { IfOk result (λ done. EndedWith M.seen M.may_leave B.address_of B.content_of (λ after. W.post work V.Numbers.geometry rights.passes.items done.output after) leave V.Numbers.geometry done.parts) }
+    ensures given_up { IfErr result (λ fault. AreGivenUp M.seen M.may_leave B.address_of B.content_of V.Numbers.geometry fault.parts) }
+    ensures cause { IfErr result (λ fault. (fault.stage ≡ AtWork) ⊎ ((fault.stage ≡ AtClose) × IsNotClosed fault.error)) }
+{
+    let mut rights = rights;
+    match work.run(rt, alloc, &volume, &mut rights) {
+        Ok(output) => match leave_volume(rt, volume, rights, leave) {
+            Ok(parts) => Ok(Done { parts, output }),
+            Err(fault) => Err(fault),
+        },
+        Err(error) => Err(Fault {
+            parts: volume.discard(rt),
+            stage: Stage::Work,
+            error,
+        }),
+    }
+}
+
+// Leaves a volume.
+fn leave_volume<V: SharedName, M: Meta + Send, B: SharedBlock, R: Wait>(
+    rt: &R,
+    volume: Volume<V, M, B>,
+    rights: Rights<V>,
+    leave: Leave,
+) -> Result<Parts<M, B>, Fault<M, B>>
+    ensures left { IfOk result (AreLeft M.seen M.may_leave B.address_of B.content_of leave V.Numbers.geometry rights.passes.items) }
+    ensures given_up { IfErr result (λ fault. AreGivenUp M.seen M.may_leave B.address_of B.content_of V.Numbers.geometry fault.parts) }
+    ensures stage { IfErr result (λ fault. fault.stage ≡ AtClose) }
+    ensures error { IfErr result (λ fault. IsNotClosed fault.error) }
+{
+    match leave {
+        Leave::Close => close_volume(rt, volume, rights),
+        Leave::Discard => Ok(volume.discard(rt)),
+    }
+}
+
+// Closes a volume. Where that is refused, nothing more is written.
+fn close_volume<V: SharedName, M: Meta + Send, B: SharedBlock, R: Wait>(
+    rt: &R,
+    volume: Volume<V, M, B>,
+    rights: Rights<V>,
+) -> Result<Parts<M, B>, Fault<M, B>>
+    ensures closed { IfOk result (AreClosed M.seen M.may_leave B.address_of B.content_of V.Numbers.geometry rights.passes.items) }
+    ensures given_up { IfErr result (λ fault. AreGivenUp M.seen M.may_leave B.address_of B.content_of V.Numbers.geometry fault.parts) }
+    ensures stage { IfErr result (λ fault. fault.stage ≡ AtClose) }
+    ensures error { IfErr result (λ fault. IsNotClosed fault.error) }
+{
+    let Rights { seats, passes } = rights;
+    match volume.close(rt, seats, passes) {
+        Ok(closed) => {
+            let Closed { parts, image: _ } = closed;
+            Ok(parts)
+        }
+        Err(fault) => {
+            let CloseFault {
+                volume,
+                seats: _,
+                passes: _,
+                error,
+            } = fault;
+            Err(Fault {
+                parts: volume.discard(rt),
+                stage: Stage::Close,
+                error,
+            })
+        }
+    }
+}

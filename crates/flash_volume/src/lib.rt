@@ -1,0 +1,27 @@
+//! The front door: all that a program over a flash volume names, and two calls that make or mount a volume, do the program's work on
+//! it, and hand its device back.
+//!
+//! A volume's tables are known to the proofs by names in its type, which are picked while the volume comes to be. Who writes a
+//! `Work` meets them as one type parameter of its method, and nowhere else.
+#![tactic(auto)]
+
+mod fault;
+mod ladder;
+mod leave;
+mod leaving;
+mod new;
+mod rights;
+mod work;
+
+pub use checkpoint::Stored;
+pub use cleaning::{Cleaned, Policy};
+pub use device::{Block, DeviceError, MemBlock, MemDevice, MemMeta, Meta, Parts};
+pub use file_cells::FilePass;
+pub use file_readers::{Reader, Seat, Status};
+pub use geometry::{Error, Geometry, Kind, Shape};
+pub use ladder::work_on;
+pub use leave::{Done, Fault, Leave, Stage};
+pub use new::work_on_new;
+pub use rights::{Rights, SharedBlock};
+pub use volume::{SharedName, Volume};
+pub use work::Work;

@@ -1,0 +1,54 @@
+//! A volume is made, worked on and left.
+ghost use Rattle.std.specs.Prelude.{◌≡◌, ◌≢◌, ◌⊎◌, ℕ, [], IfOk, IfErr};
+ghost use Rattle.device.specs.Parts.{HasSize, IsBlockRun};
+ghost use Rattle.flash_volume.specs.Worked.{AreGivenUp, EndedWith, IsNotClosed};
+ghost use Rattle.flash_volume.specs.declared.leave.Stage.TheVariants.{Format as AtFormat, Mount as AtMount, Work as AtWork, Close as AtClose};
+ghost use Rattle.geometry.specs.declared.error.Error.TheVariants.{NoMemory, Device};
+
+use crate::ladder::work_on;
+use crate::leave::{Done, Fault, Leave, Stage};
+use crate::rights::SharedBlock;
+use crate::work::Work;
+use device::{Meta, Parts};
+use geometry::Geometry;
+use mount_law::{format_law, mount_law};
+use std::alloc::Global;
+use std::sync::Wait;
+use std::thread::Threads;
+use volume_format::{FormatFault, format};
+
+/// Writes a volume without files to the parts of a device that has the size of the geometry, mounts it, does the work on it, and
+/// leaves it, as `work_on`: the work begins with no pass.
+///
+/// Each fault hands the parts back. At Format and at Mount it is NoMemory, or Device where the device failed; the later ones are
+/// those of `work_on`.
+pub fn work_on_new<M: Meta + Send, B: SharedBlock, R: Threads + Wait + Sync, W: Work<M, B> + Drop>(
+    rt: &R,
+    alloc: Global,
+    parts: Parts<M, B>,
+    geometry: Geometry,
+    leave: Leave,
+    work: W,
+) -> Result<Done<M, B, W::Output>, Fault<M, B>>
+    requires size { HasSize M.seen B.address_of B.content_of geometry parts }
+    ensures done { IfOk result (λ done. EndedWith M.seen M.may_leave B.address_of B.content_of (λ after. W.post work geometry [] done.output after) leave geometry done.parts) }
+    ensures again { IfOk result (λ done. (bytes : ℕ) × IsBlockRun B.address_of B.content_of bytes 1 done.parts.blocks.items) }
+    ensures early { IfErr result (λ fault. (fault.stage ≡ AtFormat) ⊎ (fault.stage ≡ AtMount) → (fault.error ≡ NoMemory) ⊎ (fault.error ≡ Device)) }
+    ensures not_closed { IfErr result (λ fault. fault.stage ≡ AtClose → IsNotClosed fault.error) }
+{
+    match format(alloc, parts, geometry) {
+        Ok(parts) => {
+            mount_law::<M, B>();
+            format_law::<M, B>();
+            work_on(rt, alloc, parts, leave, work)
+        }
+        Err(fault) => {
+            let FormatFault { parts, error } = fault;
+            Err(Fault {
+                parts,
+                stage: Stage::Format,
+                error,
+            })
+        }
+    }
+}

@@ -1,0 +1,36 @@
+//! What is done on a volume.
+use crate::rights::{Rights, SharedBlock};
+use device::Meta;
+use geometry::Error;
+use std::alloc::Global;
+use std::sync::Wait;
+use std::thread::Threads;
+use volume::{SharedName, Volume};
+
+/// Work on a volume, over any device.
+pub trait Work<M: Meta + Send, B: SharedBlock> {
+    ghost use Rattle.std.specs.Prelude.{List, IfOk};
+    ghost use Rattle.file_cells.specs.Pass.{Pass};
+    ghost use Rattle.geometry.specs.declared.geometry.Geometry.{Geometry};
+
+    /// What the work answers.
+    type Output: Drop;
+
+    // What the work promises: of itself, the volume's numbers, the passes that it begins with, what it answers, and the passes that
+    // it ends with. It promises nothing unless it says so.
+    ghost post: { Self → Geometry → List Pass → Self.Output → List Pass → Type 0 } = { λ _ _ _ _ _. Unit {0} };
+
+    /// Does the work, in this thread and those that it starts. It begins with the 64 seats, and a pass of each file in the order of
+    /// their numbers. The pass of a file that it makes goes to the rights, and that of a file which it deletes comes out of
+    /// there: where one is missing the volume can't be closed.
+    ///
+    /// An error ends it. Then the volume is given up, and what was not synced is lost.
+    fn run<V: SharedName, R: Threads + Wait + Sync>(
+        self,
+        rt: &R,
+        alloc: Global,
+        volume: &Volume<V, M, B>,
+        rights: &mut Rights<V>,
+    ) -> Result<Self::Output, Error>
+        ensures { IfOk result (λ output. post self V.Numbers.geometry rights.old.passes.items output rights.new.passes.items) };
+}

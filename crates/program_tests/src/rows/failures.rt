@@ -1,0 +1,115 @@
+//! Devices that fail, and volumes that are wounded.
+use super::Row;
+
+pub(super) const ROWS: [Row; 5] = [
+    // A main block that fails leaves the file as it was, in a write and in the nodes' writes of a checkpoint, and wounds nothing.
+    Row {
+        what: "a write that fails leaves nothing",
+        script: "format TINY 16 1 4 32\n\
+            create file\n\
+            fail block 1\n\
+            write 1 0 41\n\
+            read 1 0\n\
+            write 1 0 41\n\
+            sync\n",
+        lines: "file 1\n\
+            refused 2 Device\n\
+            read 1 0 end\n\
+            ok\n\
+            version 2 total 2 free 10\n\
+            file 1 length 1 41\n\
+            total 2\n",
+    },
+    Row {
+        what: "a node that fails wounds nothing",
+        script: "format TINY 16 1 4 32\n\
+            create file\n\
+            write 1 0 41\n\
+            fail block 1\n\
+            sync\n\
+            write 1 0 42\n\
+            sync\n",
+        lines: "file 1\n\
+            ok\n\
+            refused 2 Device\n\
+            ok\n\
+            version 2 total 2 free 10\n\
+            file 1 length 1 42\n\
+            total 2\n",
+    },
+    Row {
+        what: "a wounded volume is left without a checkpoint",
+        script: "format TINY 16 1 4 32\n\
+            create file\n\
+            write 1 0 41\n\
+            sync\n\
+            write 1 0 42\n\
+            fail meta 1\n\
+            sync\n\
+            sync\n",
+        lines: "file 1\n\
+            ok\n\
+            version 2 total 2 free 10\n\
+            ok\n\
+            refused 2 Device\n\
+            refused 8 Wounded\n\
+            closed without sync\n\
+            file 1 length 1 41\n\
+            total 2\n",
+    },
+    // A wounded volume refuses each change, and is looked at still.
+    Row {
+        what: "a wounded volume is not changed",
+        script: "format TINY 16 1 4 32\n\
+            create file\n\
+            write 1 0 41\n\
+            sync\n\
+            write 1 0 42\n\
+            fail meta 1\n\
+            sync\n\
+            cut 1 0\n\
+            create dir\n\
+            delete 1\n\
+            clean fg\n\
+            clean bg\n\
+            write 1 0 43\n\
+            sync\n\
+            read 1 0\n\
+            snap 1\n\
+            look 1\n\
+            status\n\
+            done 1\n",
+        lines: "file 1\n\
+            ok\n\
+            version 2 total 2 free 10\n\
+            ok\n\
+            refused 2 Device\n\
+            7 * refused 8 Wounded\n\
+            read 1 0 42\n\
+            reader 1\n\
+            look 1 42\n\
+            free 10 prefree 0 open 6 sealed 0\n\
+            ok\n\
+            closed without sync\n\
+            file 1 length 1 41\n\
+            total 2\n",
+    },
+    // Failures wait side by side, each counted from its line.
+    Row {
+        what: "two failures wait at one time",
+        script: "format TINY 16 1 4 32\n\
+            create file\n\
+            fail block 3\n\
+            fail block 1\n\
+            fill 1 0 1 41\n\
+            fill 1 0 3 42\n\
+            read 1 0\n\
+            remount\n",
+        lines: "file 1\n\
+            refused 2 Device\n\
+            refused 2 Device\n\
+            read 1 0 42\n\
+            mount version 1\n\
+            total 0\n",
+    },
+];
