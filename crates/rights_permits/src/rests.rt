@@ -8,30 +8,115 @@ use crate::permit::Permit;
 use crate::rest::Rest;
 use crate::token::Token;
 use rights_names::{BooksName, TurnName};
-use std::array;
 use std::sync::{Mutex, Wait};
 
-const ROW: usize = 8;
+const ROW: u32 = 8;
 
-type Row<B, J> = [Mutex<Rest<B, J>>; 8];
+const RESTS: u32 = 48;
 
-/// A rest, under a lock of its own, for each number from 1 to 48. They lie in six rows, since what is in them can't be dropped,
-/// and so each is named where they end. A lock is held for a moment only, and nobody waits for anything else meanwhile.
+type Place<B, J> = Mutex<Rest<B, J>>;
+
+/// Eight rests. Each is a field, and so are the rows: an array of them would be of a size that is not known, which all above
+/// would owe, and what is in them can't be dropped, so each is named where they end.
+struct Row<B: BooksName, J: TurnName> {
+    first: Place<B, J>,
+    second: Place<B, J>,
+    third: Place<B, J>,
+    fourth: Place<B, J>,
+    fifth: Place<B, J>,
+    sixth: Place<B, J>,
+    seventh: Place<B, J>,
+    eighth: Place<B, J>,
+}
+
+/// A rest, under a lock of its own, for each number from 1 to 48. A lock is held for a moment only, and nobody waits for anything
+/// else meanwhile.
 pub(crate) struct Rests<B: BooksName, J: TurnName> {
-    rows: [Row<B, J>; 6],
+    first: Row<B, J>,
+    second: Row<B, J>,
+    third: Row<B, J>,
+    fourth: Row<B, J>,
+    fifth: Row<B, J>,
+    sixth: Row<B, J>,
+}
+
+impl<B: BooksName, J: TurnName> Row<B, J> {
+    fn new() -> Row<B, J> {
+        Row {
+            first: Mutex::new(Rest::new()),
+            second: Mutex::new(Rest::new()),
+            third: Mutex::new(Rest::new()),
+            fourth: Mutex::new(Rest::new()),
+            fifth: Mutex::new(Rest::new()),
+            sixth: Mutex::new(Rest::new()),
+            seventh: Mutex::new(Rest::new()),
+            eighth: Mutex::new(Rest::new()),
+        }
+    }
+
+    fn at(&self, place: u32) -> &Place<B, J> {
+        match place {
+            0 => &self.first,
+            1 => &self.second,
+            2 => &self.third,
+            3 => &self.fourth,
+            4 => &self.fifth,
+            5 => &self.sixth,
+            6 => &self.seventh,
+            _ => &self.eighth,
+        }
+    }
+
+    fn end(self, sender: &Sends<B>, token: &mut Token<B, J>)
+        requires channel { IsRing J.turns J.key (sends_on sender.now) }
+        ensures { token.old ≤ token.new }
+    {
+        let Row {
+            first,
+            second,
+            third,
+            fourth,
+            fifth,
+            sixth,
+            seventh,
+            eighth,
+        } = self;
+        end_rest(first, sender, token);
+        end_rest(second, sender, token);
+        end_rest(third, sender, token);
+        end_rest(fourth, sender, token);
+        end_rest(fifth, sender, token);
+        end_rest(sixth, sender, token);
+        end_rest(seventh, sender, token);
+        end_rest(eighth, sender, token);
+    }
 }
 
 impl<B: BooksName, J: TurnName> Rests<B, J> {
     /// All are open, and nothing lies there.
     pub(crate) fn new() -> Rests<B, J> {
         Rests {
-            rows: array::from_fn(|_| array::from_fn(|_| Mutex::new(Rest::new()))),
+            first: Row::new(),
+            second: Row::new(),
+            third: Row::new(),
+            fourth: Row::new(),
+            fifth: Row::new(),
+            sixth: Row::new(),
         }
     }
 
-    fn of_number(&self, number: u32) -> Option<&Mutex<Rest<B, J>>> {
-        let place = number.wrapping_sub(1) as usize;
-        self.rows.get(place / ROW)?.get(place % ROW)
+    fn of_number(&self, number: u32) -> Option<&Place<B, J>> {
+        let place = number.wrapping_sub(1);
+        let row = match place / ROW {
+            0 => &self.first,
+            1 => &self.second,
+            2 => &self.third,
+            3 => &self.fourth,
+            4 => &self.fifth,
+            5 => &self.sixth,
+            _ => return None,
+        };
+        Some(row.at(place % ROW))
     }
 
     /// The permit that rests at a number.
@@ -72,8 +157,8 @@ impl<B: BooksName, J: TurnName> Rests<B, J> {
 
     /// Opens all, one after another.
     pub(crate) fn open<R: Wait>(&self, rt: &R) {
-        for row in &self.rows {
-            for place in row {
+        for number in 0..RESTS {
+            if let Some(place) = self.of_number(number + 1) {
                 let mut rest = place.lock(rt);
                 rest.open();
             }
@@ -86,30 +171,20 @@ impl<B: BooksName, J: TurnName> Rests<B, J> {
         ensures { token.old ≤ token.new }
     {
         let Rests {
-            rows: [first, second, third, fourth, fifth, sixth],
+            first,
+            second,
+            third,
+            fourth,
+            fifth,
+            sixth,
         } = self;
-        end_row(first, sender, token);
-        end_row(second, sender, token);
-        end_row(third, sender, token);
-        end_row(fourth, sender, token);
-        end_row(fifth, sender, token);
-        end_row(sixth, sender, token);
+        first.end(sender, token);
+        second.end(sender, token);
+        third.end(sender, token);
+        fourth.end(sender, token);
+        fifth.end(sender, token);
+        sixth.end(sender, token);
     }
-}
-
-fn end_row<B: BooksName, J: TurnName>(row: Row<B, J>, sender: &Sends<B>, token: &mut Token<B, J>)
-    requires channel { IsRing J.turns J.key (sends_on sender.now) }
-    ensures { token.old ≤ token.new }
-{
-    let [first, second, third, fourth, fifth, sixth, seventh, eighth] = row;
-    end_rest(first, sender, token);
-    end_rest(second, sender, token);
-    end_rest(third, sender, token);
-    end_rest(fourth, sender, token);
-    end_rest(fifth, sender, token);
-    end_rest(sixth, sender, token);
-    end_rest(seventh, sender, token);
-    end_rest(eighth, sender, token);
 }
 
 fn end_rest<B: BooksName, J: TurnName>(
