@@ -1,5 +1,6 @@
 //! The last checkpoint of a volume, which nobody shares any more.
-ghost use Rattle.std.specs.Prelude.{◌≡◌, ◌+◌, ◌≤◌, false, [], map, vec_len, vec_capacity, OnOk, IfOk, IfErr};
+ghost use Rattle.std.specs.Prelude.{◌≡◌, ◌⊎◌, ◌+◌, ◌≤◌, true, false, [], map, vec_len, vec_capacity, OnOk, IfOk, IfErr};
+ghost use Rattle.geometry.specs.declared.error.Error.TheVariants.{Device};
 ghost use Rattle.packs_format.specs.Holding.{HoldsTables};
 ghost use Rattle.device.specs.Disk.{Leaves};
 ghost use Rattle.checkpoint_files.specs.FileParts.{filed_of};
@@ -59,6 +60,11 @@ pub fn write_last<V: VolumeName, M: Meta, B: Block + Drop, R: Wait>(
     ensures lawful { IfOk result (λ last. IsLawful V.Numbers.geometry (image_view last.image)) }
     ensures back { IfErr result (λ refused. vec_len refused.0 ≡ V.Numbers.geometry.files) }
     ensures error { IfErr result (λ refused. IsNotWritten refused.1) }
+    // Only a device that failed in the pack write wounds.
+    ensures packs { IfErr result (λ refused. ((packs.new.packs ≡ packs.old.packs) × (packs.new.wounded ≡ packs.old.wounded))
+        ⊎ ((refused.1 ≡ Device) × (packs.new.wounded ≡ true))) }
+    ensures complete { IfErr result (λ _. packs.new.checkpoint ≡ packs.old.checkpoint) }
+    ensures slips { (packs.new.pass ≡ packs.old.pass) × (packs.new.kept ≡ packs.old.kept) }
 {
     let (version, mut buffer, room) = match prepare(alloc, &area.geometry(), packs) {
         Ok(prepared) => prepared,
@@ -134,6 +140,10 @@ fn store_image<V: VolumeName, M: Meta, B: Block + Drop, R: Wait>(
     ensures tables { IfOk result.1 (λ image. Leaves M.may_leave packs.new.packs.area.meta (HoldsTables V.Numbers.geometry (image_view image))) }
     ensures sound { OnOk result.1 (packs.new.wounded ≡ false) }
     ensures error { IfErr result.1 IsNotWritten }
+    ensures packs { IfErr result.1 (λ error. ((packs.new.packs ≡ packs.old.packs) × (packs.new.wounded ≡ packs.old.wounded))
+        ⊎ ((error ≡ Device) × (packs.new.wounded ≡ true))) }
+    ensures complete { IfErr result.1 (λ _. packs.new.checkpoint ≡ packs.old.checkpoint) }
+    ensures slips { (packs.new.pass ≡ packs.old.pass) × (packs.new.kept ≡ packs.old.kept) }
 {
     let (all, image) = take_image(rt, alloc, area, files, all, version);
     tell_written(files);

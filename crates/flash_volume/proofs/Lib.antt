@@ -1,2 +1,4 @@
+pub mod Following
 pub mod Results
+pub mod Same
 pub mod Working

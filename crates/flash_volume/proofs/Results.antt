@@ -1,8 +1,8 @@
 -- What follows of an answer, and of a fault by its stage.
-use Rattle.std.proofs.Common.{◌≡◌, ◌⊎◌, Result, Ok, Err, IfOk, IfErr, inl, inr, ◌∙◌, sym}
+use Rattle.std.proofs.Common.{◌≡◌, ◌≢◌, ◌⊎◌, refl, Result, Ok, Err, IfOk, IfErr, inl, inr, ◌∙◌, sym}
 use Rattle.flash_volume.specs.Worked.{IsNotClosed}
 use Rattle.flash_volume.specs.declared.leave.Stage.{Stage}
-use Rattle.flash_volume.specs.declared.leave.Stage.TheVariants.{Work, Close}
+use Rattle.flash_volume.specs.declared.leave.Stage.TheVariants.{Format, Mount, Work, Close}
 use Rattle.geometry.specs.declared.error.Error.{Error}
 
 -- what holds of a value, and what follows from it
@@ -24,3 +24,10 @@ err_both (Err error) P O Q step holds too = step error holds too
 pub why_not_closed : (stage : Stage) (error : Error) → (stage ≡ Work) ⊎ ((stage ≡ Close) × IsNotClosed error) → stage ≡ Close → IsNotClosed error
 why_not_closed stage error (inl at_work) at_close = absurd (let no = sym at_work ∙ at_close in cc)
 why_not_closed stage error (inr (at_close, why)) again = why
+
+-- a stage is that of the mount, or another
+pub at_mount : (stage : Stage) → (stage ≡ Mount) ⊎ (stage ≢ Mount)
+at_mount Format = inr (λ is. cc)
+at_mount Mount = inl refl
+at_mount Work = inr (λ is. cc)
+at_mount Close = inr (λ is. cc)

@@ -1,5 +1,5 @@
 -- What work on a volume comes to. What the parts of a device show, and what the work promises, are arguments.
-use Rattle.std.specs.Prelude.{◌≡◌, ◌⊎◌, ℕ, List, map}
+use Rattle.std.specs.Prelude.{◌≡◌, ◌⊎◌, ◌↔◌, ℕ, List, map}
 use Rattle.close_area.specs.Refused.{IsNotWritten}
 use Rattle.close_area.specs.Shown.{AreShown}
 use Rattle.checkpoint.specs.Standing.{HasVolume}
@@ -15,6 +15,7 @@ use Rattle.geometry.specs.declared.geometry.Geometry.{Geometry}
 use Rattle.image.specs.Files.{files}
 use Rattle.image.specs.Image.{Image}
 use Rattle.image_codec.specs.Blocks.{bytes_at}
+use Rattle.image_law.specs.Items.{Among}
 use Rattle.mount_law.specs.Lawful.{HoldsLawfulVolume}
 use Rattle.volume.specs.Leaving.{IsLeftOut}
 use Rattle.volume_format.specs.Mountable.{IsMountable}
@@ -22,6 +23,10 @@ use Rattle.volume_format.specs.Mountable.{IsMountable}
 -- why a volume is not closed: something of so many seats or of the passes was not handed in, or no checkpoint was written
 abbrev pub IsNotClosed : Error → Type 0
 IsNotClosed error = ((seats : ℕ) × IsLeftOut seats error) ⊎ IsNotWritten error
+
+-- the passes of the same files
+abbrev pub AreSamePasses : List Pass → List Pass → Type 0
+AreSamePasses passes others = (pass : Pass) → Among pass passes ↔ Among pass others
 
 module _ {M B : Type 0} (seen : M → List ℕ) (may_leave : M → List ℕ → Type 0) (address_of : B → ℕ) (content_of : B → List ℕ) where
   -- the parts of a volume that was closed: whatever crash comes, they hold a lawful image, whose files are those of the passes

@@ -8,6 +8,7 @@ ghost use Rattle.geometry.specs.declared.error.Error.TheVariants.{NoMemory};
 ghost use Rattle.geometry.specs.declared.geometry.Geometry.{Geometry};
 ghost use Rattle.image_codec.specs.Blocks.{bytes_at};
 ghost use Rattle.mount_reading.specs.Held.{AreSameParts, IsPartsRefusal};
+ghost use Rattle.packs_format.specs.Grammar.{HasSuper};
 ghost use Rattle.volume.specs.Picked.{HaveNames};
 
 use crate::leave::{Done, Fault, Leave, Stage};
@@ -43,7 +44,8 @@ pub fn work_on<M: Meta + Send, B: SharedBlock, R: Threads + Wait + Sync, W: Work
     ensures stage { IfErr result (λ fault. fault.stage ≢ AtFormat) }
     ensures refused { IfErr result (λ fault. fault.stage ≡ AtMount → IsPartsRefusal M.seen B.address_of B.content_of parts fault.error) }
     ensures same { IfErr result (λ fault. fault.stage ≡ AtMount → AreSameParts M.seen B.address_of B.content_of parts fault.parts) }
-    ensures given_up { IfErr result (λ fault. fault.stage ≢ AtMount → (geometry : Geometry) × AreGivenUp M.seen M.may_leave B.address_of B.content_of geometry fault.parts) }
+    ensures given_up { IfErr result (λ fault. fault.stage ≢ AtMount → (geometry : Geometry) × HasSuper geometry (M.seen parts.meta) × AreGivenUp M.seen M.may_leave B.address_of B.content_of geometry fault.parts) }
+    ensures after_fault { IfErr result (λ fault. (bytes : ℕ) × IsBlockRun B.address_of B.content_of bytes 1 fault.parts.blocks.items) }
     ensures not_closed { IfErr result (λ fault. fault.stage ≡ AtClose → IsNotClosed fault.error) }
 {
     match mount(alloc, parts) {
@@ -72,7 +74,7 @@ fn on_mounted<
     ensures stage { IfErr result (λ fault. fault.stage ≢ AtFormat) }
     ensures refused { IfErr result (λ fault. fault.stage ≡ AtMount → fault.error ≡ NoMemory) }
     ensures back { IfErr result (λ fault. fault.stage ≡ AtMount → fault.parts ≡ mounted.parts) }
-    ensures given_up { IfErr result (λ fault. fault.stage ≢ AtMount → (geometry : Geometry) × AreGivenUp M.seen M.may_leave B.address_of B.content_of geometry fault.parts) }
+    ensures given_up { IfErr result (λ fault. fault.stage ≢ AtMount → AreGivenUp M.seen M.may_leave B.address_of B.content_of mounted.geometry fault.parts) }
     ensures not_closed { IfErr result (λ fault. fault.stage ≡ AtClose → IsNotClosed fault.error) }
 {
     match mounted.name::<BooksOf<K>, WordsOf<K>, NumbersOf<K>>() {
@@ -101,7 +103,7 @@ fn on_opened<
     ensures stage { IfErr result (λ fault. fault.stage ≢ AtFormat) }
     ensures refused { IfErr result (λ fault. fault.stage ≡ AtMount → fault.error ≡ NoMemory) }
     ensures back { IfErr result (λ fault. fault.stage ≡ AtMount → fault.parts ≡ opened.named.mounted.parts) }
-    ensures given_up { IfErr result (λ fault. fault.stage ≢ AtMount → (geometry : Geometry) × AreGivenUp M.seen M.may_leave B.address_of B.content_of geometry fault.parts) }
+    ensures given_up { IfErr result (λ fault. fault.stage ≢ AtMount → AreGivenUp M.seen M.may_leave B.address_of B.content_of opened.named.mounted.geometry fault.parts) }
     ensures not_closed { IfErr result (λ fault. fault.stage ≡ AtClose → IsNotClosed fault.error) }
 {
     match opened.name::<P, T, R>(rt) {

@@ -7,6 +7,7 @@
 
 mod fault;
 mod ladder;
+mod law;
 mod leave;
 mod leaving;
 mod new;
@@ -20,6 +21,7 @@ pub use file_cells::FilePass;
 pub use file_readers::{Reader, Seat, Status};
 pub use geometry::{Error, Geometry, Kind, Shape};
 pub use ladder::work_on;
+pub use law::work_law;
 pub use leave::{Done, Fault, Leave, Stage};
 pub use new::work_on_new;
 pub use rights::{Rights, SharedBlock};

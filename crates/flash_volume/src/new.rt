@@ -34,6 +34,7 @@ pub fn work_on_new<M: Meta + Send, B: SharedBlock, R: Threads + Wait + Sync, W: 
     ensures done { IfOk result (λ done. EndedWith M.seen M.may_leave B.address_of B.content_of (λ after. W.post work geometry [] done.output after) leave geometry done.parts) }
     ensures again { IfOk result (λ done. (bytes : ℕ) × IsBlockRun B.address_of B.content_of bytes 1 done.parts.blocks.items) }
     ensures early { IfErr result (λ fault. (fault.stage ≡ AtFormat) ⊎ (fault.stage ≡ AtMount) → (fault.error ≡ NoMemory) ⊎ (fault.error ≡ Device)) }
+    ensures size_back { IfErr result (λ fault. HasSize M.seen B.address_of B.content_of geometry fault.parts) }
     ensures not_closed { IfErr result (λ fault. fault.stage ≡ AtClose → IsNotClosed fault.error) }
 {
     match format(alloc, parts, geometry) {

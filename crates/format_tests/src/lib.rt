@@ -1,4 +1,4 @@
-//! Tests of sizes and shapes, of the device in memory, of packs, of the byte formats and of the checker, by their public calls. They
+//! Tests of sizes and shapes, of the device in memory, of packs, of the byte formats, of the checker and of a new volume's bytes, by their public calls. They
 //! stand apart, so that to prove them does not take the proofs of those crates again.
 #![tactic(auto)]
 
@@ -12,6 +12,8 @@ mod crash_calls;
 mod error;
 #[cfg(test)]
 mod faulty;
+#[cfg(test)]
+mod format_calls;
 #[cfg(test)]
 mod index;
 #[cfg(test)]

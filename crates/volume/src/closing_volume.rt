@@ -46,6 +46,9 @@ impl<V: VolumeName, M: Meta, B: Block + Drop> Volume<V, M, B> {
         ensures files { IfOk result (λ closed. AreShown (files_of V.Numbers.geometry (image_view closed.image) (bytes_at B.content_of closed.parts.blocks.items)) passes.items) }
         ensures complete { IfOk result (λ closed. 64 ≤ vec_len seats) }
         ensures base { IfErr result (λ fault. fault.volume.base ≡ self.base) }
+        // What lies under the locks of its files and its packs is not told.
+        ensures area { IfErr result (λ fault. fault.volume.area ≡ self.area) }
+        ensures spare { IfErr result (λ fault. fault.volume.spare ≡ self.spare) }
         ensures seats { IfErr result (λ fault. fault.seats.items ≡ seats.items) }
         ensures passes { IfErr result (λ fault. fault.passes.items ≡ passes.items) }
         ensures error { IfErr result (λ fault. IsLeftOut (vec_len seats) fault.error ⊎ IsNotWritten fault.error) }

@@ -127,3 +127,38 @@ fn find_full(parts: &Parts<MemMeta, MemBlock>, byte: u8) -> (u32, u32) {
     }
     (count, address)
 }
+
+// How many blocks of the device are full of which byte after a row, and the address of the last of them.
+const WRITTEN: [(Row, &[(u8, (u32, u32))]); 10] = [
+    (Row::FiveCreates, &[]),
+    (Row::Depths, &[]),
+    (Row::TwoFiles, &[]),
+    // Each kind has its log, and nothing else is written.
+    (
+        Row::FirstAddresses,
+        &[(0x11, (1, 33)), (0x22, (1, 25)), (0x33, (1, 41))],
+    ),
+    // The logs have segments 0 to 5 and the reserve 6 to 9, so the next is segment 10.
+    (Row::NineWrites, &[(1, (1, 33)), (8, (1, 40)), (9, (1, 81))]),
+    // The first blocks of segments 3 and 4.
+    (Row::FreedInOrder, &[(0x33, (1, 25)), (0x44, (1, 33))]),
+    (Row::FullVolume, &[]),
+    (Row::RefusedWrites, &[]),
+    (Row::MovedNodes, &[]),
+    (Row::LeftOut, &[]),
+];
+
+#[test]
+fn each_row(rt: HostRuntime) -> Result<(), Fail> {
+    for (row, full) in WRITTEN {
+        let parts = with_row(&rt, rt.alloc(), row)?;
+        assert_eq!(rt; parts.blocks.len(), 128usize);
+        for (byte, found) in full {
+            assert_eq!(rt; find_full(&parts, *byte), *found, "{byte}");
+        }
+        if let Row::FirstAddresses = row {
+            assert_eq!(rt; find_full(&parts, 0).0, 125u32);
+        }
+    }
+    Ok(())
+}

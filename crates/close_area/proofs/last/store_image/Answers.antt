@@ -1,4 +1,4 @@
-use Rattle.std.proofs.Common.{◌≡◌, IfOk, List, ap, sym, subst, ◌∙◌, arith}
+use Rattle.std.proofs.Common.{◌≡◌, IfOk, List, inl, inr, ⊎_elim, ap, sym, subst, ◌∙◌, arith}
 use Rattle.packs_format.specs.Holding.{HoldsTables}
 use Rattle.device.specs.Disk.{Leaves}
 use Rattle.rights_books.specs.Accounts.{AreFiles}
@@ -27,3 +27,8 @@ pub returns-in-Ok-store-clause-tables : goal.returns-in-Ok-store-clause-tables
 returns-in-Ok-store-clause-tables g c =
     let written = c.into_image.ensures ∙ ap (λ t. t.image) c.in-Ok-store.ensures.taken in
     subst (λ image. Leaves g.M.Meta.may_leave c.store.new.self.packs.area.meta (HoldsTables g.V.Numbers.GeometryName.geometry (image_view image))) (sym written) c.in-Ok-store.ensures.held
+
+pub returns-in-Err-store-clause-packs : goal.returns-in-Err-store-clause-packs
+returns-in-Err-store-clause-packs g c =
+    let refused = c.in-Err-store.ensures in
+    ⊎_elim (λ none. inl (refused.memory none.0, none.1 ∙ sym c.requires.sound)) (λ failed. inr failed) refused.error

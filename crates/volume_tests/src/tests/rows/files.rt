@@ -1,6 +1,6 @@
 //! Numbers, lengths and bytes of files.
 use super::super::write;
-use super::{Row, byte_at, create_two, valid, with_row};
+use super::{byte_at, create_two, valid};
 use device::{Block, Meta};
 use file_cells::FilePass;
 use geometry::{Error, Kind};
@@ -101,25 +101,4 @@ pub(crate) fn write_two_files<V: VolumeName, M: Meta, B: Block + Drop, R: Wait +
     assert_eq!(rt; (one.length(), other.length()), (3u32, 3u32));
     assert_eq!(rt; valid(rt, volume)?, 6u32);
     Ok(Vec::from_array(alloc, [one, other])?)
-}
-
-#[test]
-fn number_of_a_deleted_file_is_given_again(rt: HostRuntime) -> Result<(), Fail> {
-    let parts = with_row(&rt, rt.alloc(), Row::FiveCreates)?;
-    assert_eq!(rt; parts.blocks.len(), 128usize);
-    Ok(())
-}
-
-#[test]
-fn blocks_stand_at_all_depths(rt: HostRuntime) -> Result<(), Fail> {
-    let parts = with_row(&rt, rt.alloc(), Row::Depths)?;
-    assert_eq!(rt; parts.blocks.len(), 128usize);
-    Ok(())
-}
-
-#[test]
-fn two_files_are_read_back(rt: HostRuntime) -> Result<(), Fail> {
-    let parts = with_row(&rt, rt.alloc(), Row::TwoFiles)?;
-    assert_eq!(rt; parts.blocks.len(), 128usize);
-    Ok(())
 }

@@ -1,7 +1,6 @@
 //! A volume is not left while a pass or a seat is missing.
 use super::super::Left;
 use super::super::ending::{abandon, put_back};
-use super::{Row, with_row};
 use device::{Block, Meta};
 use file_cells::FilePass;
 use file_readers::Seat;
@@ -73,11 +72,4 @@ fn refused<V: VolumeName, M: Meta, B: Block + Drop, R: Wait + Abort>(
         Ok(_parts) => panic!(rt; "not refused"),
         Err(fault) => fault,
     }
-}
-
-#[test]
-fn missing_pass_and_missing_seat_are_told(rt: HostRuntime) -> Result<(), Fail> {
-    let parts = with_row(&rt, rt.alloc(), Row::LeftOut)?;
-    assert_eq!(rt; parts.blocks.len(), 128usize);
-    Ok(())
 }

@@ -1,6 +1,6 @@
 //! Nodes that cleaning moves.
 use super::super::write;
-use super::{Row, byte_at, create_two, with_row};
+use super::{byte_at, create_two};
 use cleaning::Policy;
 use device::{Block, Meta};
 use file_cells::FilePass;
@@ -52,11 +52,4 @@ fn inode_addresses<V: VolumeName, M: Meta, B: Block + Drop, R: Wait + Abort>(
         [first, second, ..] => Ok((first.address, second.address)),
         _ => panic!(rt; "a table of fewer than two nodes"),
     }
-}
-
-#[test]
-fn moved_nodes_are_found_at_their_new_addresses(rt: HostRuntime) -> Result<(), Fail> {
-    let parts = with_row(&rt, rt.alloc(), Row::MovedNodes)?;
-    assert_eq!(rt; parts.blocks.len(), 128usize);
-    Ok(())
 }

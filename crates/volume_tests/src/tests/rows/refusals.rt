@@ -1,6 +1,6 @@
 //! Writes that are refused, and what they leave.
 use super::super::write;
-use super::{Row, byte_at, with_row};
+use super::byte_at;
 use device::{Block, Meta};
 use file_cells::FilePass;
 use geometry::{Error, Kind};
@@ -39,11 +39,4 @@ fn write_bytes<V: VolumeName, M: Meta, B: Block + Drop, R: Wait + Abort>(
 ) -> Result<(), Error> {
     let bytes = vec![in alloc; 1u8; count].expect(rt, "memory");
     volume.write(rt, pass, 0, bytes.as_slice(), 0)
-}
-
-#[test]
-fn refused_write_leaves_the_file(rt: HostRuntime) -> Result<(), Fail> {
-    let parts = with_row(&rt, rt.alloc(), Row::RefusedWrites)?;
-    assert_eq!(rt; parts.blocks.len(), 128usize);
-    Ok(())
 }

@@ -1,6 +1,6 @@
 //! Where blocks go, and what is left when they are written.
 use super::super::write;
-use super::{Row, byte_at, counts, find_full, valid, with_row};
+use super::{byte_at, counts, valid};
 use device::{Block, Meta};
 use file_cells::FilePass;
 use geometry::{Error, Kind};
@@ -95,43 +95,4 @@ pub(crate) fn write_until_full<V: VolumeName, M: Meta, B: Block + Drop, R: Wait 
     assert_eq!(rt; counts(volume.status(rt)), (4u32, 6u32, 5u32, 1u32));
     assert_eq!(rt; valid(rt, volume)?, 1u32);
     Ok(Vec::from_array(alloc, [pass])?)
-}
-
-#[test]
-fn first_block_of_each_kind_goes_to_its_log(rt: HostRuntime) -> Result<(), Fail> {
-    let parts = with_row(&rt, rt.alloc(), Row::FirstAddresses)?;
-    assert_eq!(rt; find_full(&parts, 0x11), (1u32, 33u32));
-    assert_eq!(rt; find_full(&parts, 0x22), (1u32, 25u32));
-    assert_eq!(rt; find_full(&parts, 0x33), (1u32, 41u32));
-    // Nothing else is written.
-    assert_eq!(rt; find_full(&parts, 0).0, 125u32);
-    Ok(())
-}
-
-#[test]
-fn nine_writes_of_a_block_retire_a_segment(rt: HostRuntime) -> Result<(), Fail> {
-    let parts = with_row(&rt, rt.alloc(), Row::NineWrites)?;
-    assert_eq!(rt; find_full(&parts, 1), (1u32, 33u32));
-    assert_eq!(rt; find_full(&parts, 8), (1u32, 40u32));
-    // The logs have segments 0 to 5 and the reserve 6 to 9, so the next is segment 10.
-    assert_eq!(rt; find_full(&parts, 9), (1u32, 81u32));
-    Ok(())
-}
-
-#[test]
-fn retired_segments_are_free_in_order_once_a_later_version_is_complete(
-    rt: HostRuntime,
-) -> Result<(), Fail> {
-    let parts = with_row(&rt, rt.alloc(), Row::FreedInOrder)?;
-    // The first blocks of segments 3 and 4.
-    assert_eq!(rt; find_full(&parts, 0x33), (1u32, 25u32));
-    assert_eq!(rt; find_full(&parts, 0x44), (1u32, 33u32));
-    Ok(())
-}
-
-#[test]
-fn full_volume_is_threaded(rt: HostRuntime) -> Result<(), Fail> {
-    let parts = with_row(&rt, rt.alloc(), Row::FullVolume)?;
-    assert_eq!(rt; parts.blocks.len(), 128usize);
-    Ok(())
 }
