@@ -2,9 +2,11 @@
 -- was just formatted holds no file, so work on it begins with no pass.
 use Rattle.std.proofs.Common.{◌≡◌, ◌∙◌, ℕ, ◌-◌, List, [], ◌∷◌, ap, subst, refl, get_or, map}
 use Rattle.device.specs.declared.parts.Parts.{Parts}
+use Rattle.device.specs.Parts.{IsBlockRun}
 use Rattle.file_cells.specs.Pass.{Pass}
-use Rattle.flash_volume.specs.Worked.{EndedWith, WorkedFrom, WorkedOn}
+use Rattle.flash_volume.specs.Worked.{AreLeft, EndedWith, WorkedFrom, WorkedOn}
 use Rattle.flash_volume.specs.declared.leave.Leave.{Leave}
+use Rattle.flash_volume.specs.declared.leave.Leave.TheVariants.{Close, Discard}
 use Rattle.geometry.specs.File.{File}
 use Rattle.geometry.specs.declared.geometry.Geometry.{Geometry}
 use Rattle.image.specs.Files.{files}
@@ -40,3 +42,10 @@ module _ {M B : Type 0} (seen : M → List ℕ) (may_leave : M → List ℕ → 
       let none = no_pass on.worked.before (on.worked.began ∙ no_file) in
       subst (λ (numbers : Geometry). EndedWith seen may_leave address_of content_of (promise numbers []) leave numbers left) same
       (subst (λ (before : List Pass). EndedWith seen may_leave address_of content_of (promise on.geometry before) leave on.geometry left) none on.worked.ended)
+
+-- however a volume was left, its parts can be mounted again
+module _ {M B : Type 0} (seen : M → List ℕ) (may_leave : M → List ℕ → Type 0) (address_of : B → ℕ) (content_of : B → List ℕ) where
+  pub left_run : (leave : Leave) (geometry : Geometry) (passes : List Pass) (left : Parts M B) → AreLeft seen may_leave address_of content_of leave geometry passes left
+      → (bytes : ℕ) × IsBlockRun address_of content_of bytes 1 left.blocks.items
+  left_run Close geometry passes left closed = (_, closed.mountable.size.run)
+  left_run Discard geometry passes left given_up = (_, given_up.size.run)

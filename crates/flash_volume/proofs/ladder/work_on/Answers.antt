@@ -4,7 +4,7 @@ use Rattle.device.specs.Parts.{IsBlockRun}
 use Rattle.device.specs.declared.parts.Parts.{Parts}
 use Rattle.flash_volume.proofs.Same.{same_run}
 use Rattle.flash_volume.proofs.Results.{at_mount, err_both, err_then, ok_then}
-use Rattle.flash_volume.proofs.Working.{worked_on}
+use Rattle.flash_volume.proofs.Working.{left_run, worked_on}
 use Rattle.flash_volume.proofs.ladder.work_on.Goals as goal
 
 pub returns-in-Ok-clause-done : goal.returns-in-Ok-clause-done
@@ -16,6 +16,12 @@ returns-in-Ok-clause-done g c =
     mounted.geometry mounted.image mounted.parts.blocks.items c.args.parts c.args.leave done.parts
     (record { size = found.size; held = record { front = found.front; tables = found.image.tables; nodes = found.image.nodes }; lawful = found.lawful })
     found.parts.contents worked)
+    c.on_mounted.ensures.done
+
+pub returns-in-Ok-clause-again : goal.returns-in-Ok-clause-again
+returns-in-Ok-clause-again g c =
+    ok_then c.on_mounted.result _ _
+    (λ done worked. left_run g.M.Meta.seen g.M.Meta.may_leave g.B.Block.address_of g.B.Block.content_of c.args.leave c.in-Ok.mounted.geometry worked.ended.after done.parts worked.ended.left_so)
     c.on_mounted.ensures.done
 
 pub returns-in-Ok-clause-after_fault : goal.returns-in-Ok-clause-after_fault
