@@ -22,13 +22,6 @@ fn told_after(alloc: Global, changes: Changes) -> Result<(u32, u32, u32), Error>
 }
 
 #[test]
-fn an_empty_volume_is_read(rt: HostRuntime) -> Result<(), Fail> {
-    let file = empty_file(rt.alloc())?;
-    assert_eq!(rt; told(rt.alloc(), &file), Ok((1, 0, 26)));
-    Ok(())
-}
-
-#[test]
 fn superblocks_are_read_and_written(rt: HostRuntime) -> Result<(), Fail> {
     let geometry = Geometry::new(Shape::TINY, 32, 1, 4, 64)?;
     let mut bytes = [0xffu8; 64];
@@ -39,33 +32,30 @@ fn superblocks_are_read_and_written(rt: HostRuntime) -> Result<(), Fail> {
     let kernel = Geometry::new(Shape::KERNEL, 4096, 16, 1024, 65536)?;
     write_super(&kernel, &mut bytes);
     assert_eq!(rt; read_super(&bytes), Ok(kernel));
-    Ok(())
-}
-
-#[test]
-fn no_other_bytes_are_a_superblock(rt: HostRuntime) -> Result<(), Fail> {
-    // The name, the format, the shape, the segments, and how many numbers for nodes there are.
-    for place in [0usize, 8, 12, 16, 31] {
+    // The name, the format, the shape, the segments, and how many numbers for nodes there are; and the maps, which are none of it.
+    for (place, wanted) in [
+        (0usize, Err(Error::BadGeometry)),
+        (8, Err(Error::BadGeometry)),
+        (12, Err(Error::BadGeometry)),
+        (16, Err(Error::BadGeometry)),
+        (31, Err(Error::BadGeometry)),
+        (32, Ok(geometry)),
+        (47, Ok(geometry)),
+        (48, Ok(geometry)),
+        (63, Ok(geometry)),
+    ] {
         let mut file = empty_file(rt.alloc())?;
         change(file.as_mut_slice(), &[(place, 7)]);
-        assert_eq!(rt; read_super(&file), Err(Error::BadGeometry), "{place}");
+        assert_eq!(rt; read_super(&file), wanted, "{place}");
     }
     Ok(())
 }
 
 #[test]
-fn maps_are_no_part_of_the_numbers(rt: HostRuntime) -> Result<(), Fail> {
-    let geometry = Geometry::new(Shape::TINY, 32, 1, 4, 64)?;
-    for place in [32usize, 47, 48, 63] {
-        let mut file = empty_file(rt.alloc())?;
-        change(file.as_mut_slice(), &[(place, 7)]);
-        assert_eq!(rt; read_super(&file), Ok(geometry), "{place}");
-    }
-    Ok(())
-}
-
-#[test]
-fn an_image_of_format_one_is_read(rt: HostRuntime) -> Result<(), Fail> {
+fn files_are_read(rt: HostRuntime) -> Result<(), Fail> {
+    let file = empty_file(rt.alloc())?;
+    assert_eq!(rt; told(rt.alloc(), &file), Ok((1, 0, 26)));
+    // A file of format 1, and then its other pack.
     let mut file = file_of_format_one(rt.alloc())?;
     assert_eq!(rt; told(rt.alloc(), &file), Ok((3, 2, 26)));
     change(file.as_mut_slice(), &[(6_132, 9)]);
@@ -73,77 +63,55 @@ fn an_image_of_format_one_is_read(rt: HostRuntime) -> Result<(), Fail> {
     Ok(())
 }
 
-#[test]
-fn a_map_of_no_form_is_a_fault(rt: HostRuntime) -> Result<(), Fail> {
-    // The format of the pack that counts, bits beside a format of 0 and a byte behind the bits.
-    let damages: [Changes; 3] = [&[(32, 1)], &[(32, 0)], &[(47, 1)]];
-    for changes in damages {
-        assert_eq!(rt; told_after(rt.alloc(), changes), Err(Error::BadImage(1)));
-    }
+// What the base file tells after some changes: the version, the total and the free segments, or what is wrong.
+const CHANGED: [(Changes, Result<(u32, u32, u32), Error>); 22] = [
+    (&[], Ok((2, 3, 26))),
+    (&[(72, 0x20)], Err(Error::BadImage(1))),
+    (&[(72, 0x01)], Err(Error::BadImage(2))),
+    (&[(6_688, 0x02)], Err(Error::BadImage(3))),
+    (&[(6_668, 0x05)], Err(Error::BadImage(4))),
+    (
+        &[
+            (3_188, 1),
+            (3_192, 0x0a),
+            (6_752, 5),
+            (6_756, 1),
+            (6_760, 1),
+        ],
+        Err(Error::BadImage(5)),
+    ),
+    (&[(6_660, 0x21)], Err(Error::BadImage(6))),
+    (&[(696, 0x02)], Err(Error::BadImage(7))),
+    (&[(696, 0x07)], Err(Error::BadImage(8))),
+    (&[(1_308, 0x01)], Err(Error::BadImage(9))),
+    (&[(684, 0x01)], Err(Error::BadImage(10))),
+    // A log without a segment has no offset.
+    (
+        &[(72, 0xff), (73, 0xff), (74, 0xff), (75, 0xff), (76, 1)],
+        Err(Error::BadImage(1)),
+    ),
+    // An entry has both numbers or neither.
+    (&[(3_192, 0x0a)], Err(Error::BadImage(1))),
+    // No block has this address.
+    (&[(125, 0x40)], Err(Error::BadImage(1))),
+    // The format of the map of the pack that counts, bits beside a format of 0, and a byte behind the bits.
+    (&[(32, 1)], Err(Error::BadImage(1))),
+    (&[(32, 0)], Err(Error::BadImage(1))),
+    (&[(47, 1)], Err(Error::BadImage(1))),
     // The map of the other pack is not looked at.
-    assert_eq!(rt; told_after(rt.alloc(), &[(48, 1)]), Ok((2, 3, 26)));
-    Ok(())
-}
+    (&[(48, 1)], Ok((2, 3, 26))),
+    // The other pack counts where one is torn, or has a version of the other slot.
+    (&[(3_096, 0)], Ok((1, 0, 26))),
+    (&[(64, 3), (3_096, 3)], Ok((1, 0, 26))),
+    (&[(3_096, 0), (6_132, 0)], Err(Error::NoPack)),
+    (&[(6_132, 9)], Ok((2, 3, 26))),
+];
 
 #[test]
-fn the_base_is_read(rt: HostRuntime) -> Result<(), Fail> {
-    assert_eq!(rt; told_after(rt.alloc(), &[]), Ok((2, 3, 26)));
-    Ok(())
-}
-
-#[test]
-fn each_damage_has_its_fault(rt: HostRuntime) -> Result<(), Fail> {
-    let damages: [(Changes, u8); 13] = [
-        (&[(72, 0x20)], 1),
-        (&[(72, 0x01)], 2),
-        (&[(6_688, 0x02)], 3),
-        (&[(6_668, 0x05)], 4),
-        (
-            &[
-                (3_188, 1),
-                (3_192, 0x0a),
-                (6_752, 5),
-                (6_756, 1),
-                (6_760, 1),
-            ],
-            5,
-        ),
-        (&[(6_660, 0x21)], 6),
-        (&[(696, 0x02)], 7),
-        (&[(696, 0x07)], 8),
-        (&[(1_308, 0x01)], 9),
-        (&[(684, 0x01)], 10),
-        // A log without a segment has no offset.
-        (
-            &[(72, 0xff), (73, 0xff), (74, 0xff), (75, 0xff), (76, 1)],
-            1,
-        ),
-        // An entry has both numbers or neither.
-        (&[(3_192, 0x0a)], 1),
-        // No block has this address.
-        (&[(125, 0x40)], 1),
-    ];
-    for (changes, fault) in damages {
-        assert_eq!(rt;
-            told_after(rt.alloc(), changes),
-            Err(Error::BadImage(fault))
-        );
+fn each_change_is_told(rt: HostRuntime) -> Result<(), Fail> {
+    for (changes, wanted) in CHANGED {
+        assert_eq!(rt; told_after(rt.alloc(), changes), wanted);
     }
-    Ok(())
-}
-
-#[test]
-fn the_other_pack_counts_where_one_is_torn(rt: HostRuntime) -> Result<(), Fail> {
-    assert_eq!(rt; told_after(rt.alloc(), &[(3_096, 0)]), Ok((1, 0, 26)));
-    assert_eq!(rt;
-        told_after(rt.alloc(), &[(64, 3), (3_096, 3)]),
-        Ok((1, 0, 26))
-    );
-    assert_eq!(rt;
-        told_after(rt.alloc(), &[(3_096, 0), (6_132, 0)]),
-        Err(Error::NoPack)
-    );
-    assert_eq!(rt; told_after(rt.alloc(), &[(6_132, 9)]), Ok((2, 3, 26)));
     Ok(())
 }
 
