@@ -1,6 +1,6 @@
 //! Scripts, each with the lines that it prints.
 mod checkpoints;
-mod cleaning;
+mod cleans;
 mod failures;
 mod files;
 mod holes;
@@ -50,7 +50,7 @@ fn each_script_prints_its_lines(rt: HostRuntime) -> Result<(), Fail> {
     let tables: [&[Row]; 6] = [
         &files::ROWS,
         &readers::ROWS,
-        &cleaning::ROWS,
+        &cleans::ROWS,
         &checkpoints::ROWS,
         &holes::ROWS,
         &failures::ROWS,
