@@ -1,7 +1,7 @@
 //! How long the steps of the ghost accounts take.
 //!
-//! There are five pairs of calls, each of which leaves all as it was: `pin and unpin` (a segment's word), `mark and clear`
-//! (the books), `enter and leave` (the turnstile's channel), `enter and leave by rests`, and `take and put` (the pool of free segments). With no argument each
+//! There are four pairs of calls, each of which leaves all as it was: `pin and unpin` (a segment's word), `mark and clear`
+//! (the books), `enter and leave` (the turnstile), and `take and put` (the pool of free segments). With no argument each
 //! pair is done ten times, and counted. With `--measure` each is done a million times on one thread, and a million times on
 //! each of two threads that share the tables, and the nanoseconds a pair are told, beside those of a bare addition and
 //! subtraction. The time of a run has the making of its tables and threads in it.
@@ -27,7 +27,6 @@ use std::sync::Wait;
 use std::thread::Threads;
 use std::time::{Duration, Instant};
 use test_support::is_measure;
-use turns::Way;
 
 const SHOWN: u32 = 10;
 
@@ -39,15 +38,13 @@ enum Pair {
     PinAndUnpin,
     MarkAndClear,
     EnterAndLeave,
-    EnterAndLeaveByRests,
     TakeAndPut,
 }
 
-const PAIRS: [Pair; 5] = [
+const PAIRS: [Pair; 4] = [
     Pair::PinAndUnpin,
     Pair::MarkAndClear,
     Pair::EnterAndLeave,
-    Pair::EnterAndLeaveByRests,
     Pair::TakeAndPut,
 ];
 
@@ -57,7 +54,6 @@ impl Pair {
             Pair::PinAndUnpin => "pin and unpin",
             Pair::MarkAndClear => "mark and clear",
             Pair::EnterAndLeave => "enter and leave",
-            Pair::EnterAndLeaveByRests => "enter and leave by rests",
             Pair::TakeAndPut => "take and put",
         }
     }
@@ -70,8 +66,7 @@ impl Pair {
         match self {
             Pair::PinAndUnpin => pins::on_one(alloc, pairs),
             Pair::MarkAndClear => marks::on_one(alloc, pairs),
-            Pair::EnterAndLeave => turns::on_one(rt, alloc, Way::Channel, pairs),
-            Pair::EnterAndLeaveByRests => turns::on_one(rt, alloc, Way::Rests, pairs),
+            Pair::EnterAndLeave => turns::on_one(rt, alloc, pairs),
             Pair::TakeAndPut => slips::on_one(rt, alloc, pairs),
         }
     }
@@ -89,8 +84,7 @@ impl Pair {
         match self {
             Pair::PinAndUnpin => pins::on_two(rt, alloc, pairs),
             Pair::MarkAndClear => marks::on_two(rt, alloc, pairs),
-            Pair::EnterAndLeave => turns::on_two(rt, alloc, Way::Channel, pairs),
-            Pair::EnterAndLeaveByRests => turns::on_two(rt, alloc, Way::Rests, pairs),
+            Pair::EnterAndLeave => turns::on_two(rt, alloc, pairs),
             Pair::TakeAndPut => slips::on_two(rt, alloc, pairs),
         }
     }
