@@ -1,7 +1,7 @@
 //! How long the steps of the ghost accounts take.
 //!
-//! There are four pairs of calls, each of which leaves all as it was: `pin and unpin` (a segment's word), `mark and clear`
-//! (the books), `enter and leave` (the turnstile), and `take and put` (the pool of free segments). With no argument each
+//! There are five pairs of calls, each of which leaves all as it was: `pin and unpin` (a segment's word), `mark and clear`
+//! (the books), `enter and leave` (the turnstile's channel), `enter and leave by rests`, and `take and put` (the pool of free segments). With no argument each
 //! pair is done ten times, and counted. With `--measure` each is done a million times on one thread, and a million times on
 //! each of two threads that share the tables, and the nanoseconds a pair are told, beside those of a bare addition and
 //! subtraction. The time of a run has the making of its tables and threads in it.
@@ -27,6 +27,7 @@ use std::sync::Wait;
 use std::thread::Threads;
 use std::time::{Duration, Instant};
 use test_support::is_measure;
+use turns::Way;
 
 const SHOWN: u32 = 10;
 
@@ -38,13 +39,15 @@ enum Pair {
     PinAndUnpin,
     MarkAndClear,
     EnterAndLeave,
+    EnterAndLeaveByRests,
     TakeAndPut,
 }
 
-const PAIRS: [Pair; 4] = [
+const PAIRS: [Pair; 5] = [
     Pair::PinAndUnpin,
     Pair::MarkAndClear,
     Pair::EnterAndLeave,
+    Pair::EnterAndLeaveByRests,
     Pair::TakeAndPut,
 ];
 
@@ -54,6 +57,7 @@ impl Pair {
             Pair::PinAndUnpin => "pin and unpin",
             Pair::MarkAndClear => "mark and clear",
             Pair::EnterAndLeave => "enter and leave",
+            Pair::EnterAndLeaveByRests => "enter and leave by rests",
             Pair::TakeAndPut => "take and put",
         }
     }
@@ -66,7 +70,8 @@ impl Pair {
         match self {
             Pair::PinAndUnpin => pins::on_one(alloc, pairs),
             Pair::MarkAndClear => marks::on_one(alloc, pairs),
-            Pair::EnterAndLeave => turns::on_one(rt, alloc, pairs),
+            Pair::EnterAndLeave => turns::on_one(rt, alloc, Way::Channel, pairs),
+            Pair::EnterAndLeaveByRests => turns::on_one(rt, alloc, Way::Rests, pairs),
             Pair::TakeAndPut => slips::on_one(rt, alloc, pairs),
         }
     }
@@ -84,7 +89,8 @@ impl Pair {
         match self {
             Pair::PinAndUnpin => pins::on_two(rt, alloc, pairs),
             Pair::MarkAndClear => marks::on_two(rt, alloc, pairs),
-            Pair::EnterAndLeave => turns::on_two(rt, alloc, pairs),
+            Pair::EnterAndLeave => turns::on_two(rt, alloc, Way::Channel, pairs),
+            Pair::EnterAndLeaveByRests => turns::on_two(rt, alloc, Way::Rests, pairs),
             Pair::TakeAndPut => slips::on_two(rt, alloc, pairs),
         }
     }

@@ -7,7 +7,7 @@ fn each_pair_is_done_ten_times(rt: HostRuntime) -> Result<(), Fail> {
     let text = shown(&rt, rt.alloc())?;
     let told = text.as_str();
     assert!(rt;
-        told == "pin and unpin 10\nmark and clear 10\nenter and leave 10\ntake and put 10\n",
+        told == "pin and unpin 10\nmark and clear 10\nenter and leave 10\nenter and leave by rests 10\ntake and put 10\n",
         "{told}"
     );
     Ok(())

@@ -1,5 +1,5 @@
-//! A call enters the turnstile and leaves it: a permit comes out of a channel under one lock, and goes into it under
-//! another.
+//! A call enters the turnstile and leaves it: a permit comes out of a channel under one lock, and goes into it under another; or
+//! it lies at a rest of the thread's own, whose lock is taken twice.
 ghost use Rattle.std.specs.Prelude.{◌≡◌, IfOk, IsOkUnless};
 ghost use Rattle.geometry.specs.declared.error.Error.TheVariants.{NoMemory};
 ghost use Rattle.rights_permits.specs.Turns.{all_permits};
@@ -20,18 +20,36 @@ const LAYOUT: Layout = Layout {
     files: 1,
 };
 
-// Enters and leaves, and tells how often.
+/// The way of a permit.
+#[derive(Clone, Copy)]
+pub enum Way {
+    Channel,
+    Rests,
+}
+
+impl Way {
+    // The number that a thread enters by. No rest has the number 0.
+    fn number(self, thread: u32) -> u32 {
+        match self {
+            Way::Channel => 0,
+            Way::Rests => thread,
+        }
+    }
+}
+
+// Enters and leaves by a number, and tells how often.
 fn enter_and_leave<B: BooksName, J: TurnName, R: Wait>(
     rt: &R,
     turnstile: &Turnstile<B, J>,
+    number: u32,
     pairs: u32,
 ) -> u32
     ensures { result ≡ pairs }
 {
     let mut done = 0;
     for _ in 0..pairs {
-        let permit = turnstile.enter(rt);
-        turnstile.leave(rt, permit);
+        let permit = turnstile.enter_by(rt, number);
+        turnstile.leave_by(rt, number, permit);
         done += 1;
     }
     done
@@ -43,6 +61,7 @@ fn alone<B: BooksName, J: TurnName, R: Wait>(
     books: Books,
     permits: Permits,
     opened: OpenedTurnstile<B>,
+    way: Way,
     pairs: u32,
 ) -> u32
     requires books { books ≡ B.books }
@@ -53,7 +72,7 @@ fn alone<B: BooksName, J: TurnName, R: Wait>(
 {
     let (turnstile, all) = opened.named::<J>(books, permits);
     turnstile.scatter(rt, all);
-    let done = enter_and_leave(rt, &turnstile, pairs);
+    let done = enter_and_leave(rt, &turnstile, way.number(1), pairs);
     let all = turnstile.gather(rt);
     turnstile.end(all);
     done
@@ -65,6 +84,7 @@ fn shared<B: BooksName + Send + Sync, J: TurnName + Send + Sync, R: Threads + Wa
     books: Books,
     permits: Permits,
     opened: OpenedTurnstile<B>,
+    way: Way,
     pairs: u32,
 ) -> (u32, u32)
     requires books { books ≡ B.books }
@@ -76,14 +96,15 @@ fn shared<B: BooksName + Send + Sync, J: TurnName + Send + Sync, R: Threads + Wa
     let (turnstile, all) = opened.named::<J>(books, permits);
     turnstile.scatter(rt, all);
     let gate = &turnstile;
+    let (one, other) = (way.number(1), way.number(2));
     let done = thread::join(
         rt,
         move || -> u32
             ensures { result ≡ pairs }
-        { enter_and_leave(rt, gate, pairs) },
+        { enter_and_leave(rt, gate, one, pairs) },
         move || -> u32
             ensures { result ≡ pairs }
-        { enter_and_leave(rt, gate, pairs) },
+        { enter_and_leave(rt, gate, other, pairs) },
     );
     let all = turnstile.gather(rt);
     turnstile.end(all);
@@ -96,6 +117,7 @@ fn alone_with<B: BooksName, R: Wait>(
     alloc: Global,
     books: Books,
     permits: Permits,
+    way: Way,
     pairs: u32,
 ) -> Result<u32, Error>
     requires books { books ≡ B.books }
@@ -104,7 +126,7 @@ fn alone_with<B: BooksName, R: Wait>(
     ensures memory { IsOkUnless result NoMemory }
 {
     let opened = OpenedTurnstile::<B>::new(alloc)?;
-    Ok(alone::<B, Brand, R>(rt, books, permits, opened, pairs))
+    Ok(alone::<B, Brand, R>(rt, books, permits, opened, way, pairs))
 }
 
 // The pairs on each of two threads, with the permits of these books.
@@ -113,6 +135,7 @@ fn shared_with<B: BooksName + Send + Sync, R: Threads + Wait + Sync>(
     alloc: Global,
     books: Books,
     permits: Permits,
+    way: Way,
     pairs: u32,
 ) -> Result<(u32, u32), Error>
     requires books { books ≡ B.books }
@@ -121,23 +144,24 @@ fn shared_with<B: BooksName + Send + Sync, R: Threads + Wait + Sync>(
     ensures memory { IsOkUnless result NoMemory }
 {
     let opened = OpenedTurnstile::<B>::new(alloc)?;
-    Ok(shared::<B, Brand, R>(rt, books, permits, opened, pairs))
+    Ok(shared::<B, Brand, R>(rt, books, permits, opened, way, pairs))
 }
 
 /// So many pairs on one thread, and how many they were. It fails only where memory is out.
-pub fn on_one<R: Wait>(rt: &R, alloc: Global, pairs: u32) -> Result<u32, Error>
+pub fn on_one<R: Wait>(rt: &R, alloc: Global, way: Way, pairs: u32) -> Result<u32, Error>
     ensures count { IfOk result (λ done. done ≡ pairs) }
     ensures memory { IsOkUnless result NoMemory }
 {
     let (books, dealer) = Books::open(alloc, &LAYOUT)?;
     let (permits, _dealer) = books.deal_permits(dealer);
-    alone_with::<Brand, R>(rt, alloc, books, permits, pairs)
+    alone_with::<Brand, R>(rt, alloc, books, permits, way, pairs)
 }
 
 /// So many pairs on each of two threads, and how many they were on each. It fails only where memory is out.
 pub fn on_two<R: Threads + Wait + Sync>(
     rt: &R,
     alloc: Global,
+    way: Way,
     pairs: u32,
 ) -> Result<(u32, u32), Error>
     ensures counts { IfOk result (λ done. (done.0 ≡ pairs) × (done.1 ≡ pairs)) }
@@ -145,5 +169,5 @@ pub fn on_two<R: Threads + Wait + Sync>(
 {
     let (books, dealer) = Books::open(alloc, &LAYOUT)?;
     let (permits, _dealer) = books.deal_permits(dealer);
-    shared_with::<Brand, R>(rt, alloc, books, permits, pairs)
+    shared_with::<Brand, R>(rt, alloc, books, permits, way, pairs)
 }

@@ -8,7 +8,7 @@ use rights_claims::{Holder, Remembered};
 use std::marker::Model;
 
 /// A segment's account, `{ book; segment; marks }` to contracts: it lies in the segment's lock, and has the segment's
-/// marked blocks (Linux `filesystems/f2fs`, segment information table). It has no bytes.
+/// marked blocks (Linux `filesystems/f2fs`, segment information table). It takes eight bytes.
 #[derive(Drop)]
 pub struct SegmentAccount {
     pub(crate) holder: Holder<Claim>,
@@ -25,7 +25,7 @@ impl Model for SegmentAccount {
     ghost invariant = { λ a. a.holder.claims ≡ segment_claims (segment_view a.holder) };
 }
 
-/// One of the 64 permits, `{ book; tickets; tokens }` to contracts, with what its call has in hand. It has no bytes.
+/// One of the 64 permits, `{ book; tickets; tokens }` to contracts, with what its call has in hand. It takes eight bytes.
 #[derive(Drop)]
 pub struct Permit {
     pub(crate) holder: Holder<Claim>,
@@ -43,7 +43,7 @@ impl Model for Permit {
 }
 
 /// A file's account, `{ book; inode; tickets; tokens; content }` to contracts: it lies in the file's lock, and has what is
-/// lodged in the file and, while its pass is out, what the pass shows. It has no bytes.
+/// lodged in the file and, while its pass is out, what the pass shows. It takes eight bytes.
 #[derive(Drop)]
 pub struct FileAccount {
     pub(crate) holder: Holder<Claim>,
@@ -61,7 +61,7 @@ impl Model for FileAccount {
 }
 
 /// A shard's account, `{ book; shard; taken }` to contracts: it lies in the shard's lock, and has the shard's taken numbers
-/// (Linux `filesystems/f2fs`, node address table). It has no bytes.
+/// (Linux `filesystems/f2fs`, node address table). It takes eight bytes.
 #[derive(Drop)]
 pub struct ShardAccount {
     pub(crate) holder: Holder<Claim>,
@@ -78,7 +78,7 @@ impl Model for ShardAccount {
     ghost invariant = { λ a. a.holder.claims ≡ shard_claims (shard_view a.holder) };
 }
 
-/// The one right to change a file, `{ book; inode; content }` to contracts. It has no bytes.
+/// The one right to change a file, `{ book; inode; content }` to contracts. It takes eight bytes.
 #[derive(Drop)]
 pub struct PassAccount {
     pub(crate) holder: Holder<Claim>,
@@ -96,7 +96,7 @@ impl Model for PassAccount {
 }
 
 /// All permits in one, with nothing in hand, and what was learned of the accounts since, `{ book; copies }` to contracts.
-/// It has no bytes.
+/// It takes eight bytes.
 #[derive(Drop)]
 pub struct Audit {
     pub(crate) holder: Holder<Claim>,
@@ -195,7 +195,7 @@ impl Model for Permits {
     ghost invariant = { λ a. (a.count ≤ 64) × (a.holder.claims ≡ hands_claims a.count) };
 }
 
-/// The claims of an empty volume that no account was made of yet, `{ book; claims }` to contracts. It has no bytes.
+/// The claims of an empty volume that no account was made of yet, `{ book; claims }` to contracts. It takes eight bytes.
 #[derive(Drop)]
 pub struct Dealer {
     pub(crate) holder: Holder<Claim>,

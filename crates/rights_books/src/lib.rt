@@ -2,7 +2,7 @@
 //! shows.
 //!
 //! Each lock of a volume has an account of the books, and each call has a permit, with what it has in hand. Accounts and
-//! permits have no bytes. A step changes two of them in one atomic step, under a law over all of them together:
+//! permits take eight bytes each. A step changes two of them in one atomic step, under a law over all of them together:
 //!
 //! - each marked block has one ticket, which is in one hand, in one file, or in a shard beside its node's number;
 //! - each taken node number has one token, which is in one hand or in one file, and token and shard agree on the address

@@ -4,6 +4,10 @@
 //! blocks, and tokens of node numbers. A permit that lies in the channel has nothing in hand. So who has gathered all 64
 //! knows that nothing is in flight, and may begin an audit of the books.
 //!
+//! A permit may also rest between two calls on one file: 48 numbers have a rest, each under a lock of its own, so that calls on
+//! different files share no word of the channel. Who gathers closes the rests and takes what lies there. Sixteen permits never
+//! rest, so there is always one that is in the channel or comes back to it, and nobody waits for one that only rests.
+//!
 //! The turnstile owns the books. A permit must be given back, and so must all of them.
 #![tactic(auto)]
 
@@ -11,6 +15,8 @@ mod all;
 mod law;
 mod opened;
 mod permit;
+mod rest;
+mod rests;
 mod token;
 mod turnstile;
 

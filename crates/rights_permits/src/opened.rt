@@ -5,7 +5,7 @@ ghost use Rattle.rights_permits.specs.Turns.{all_permits, at_home};
 
 use crate::all::AllPermits;
 use crate::law::{Receives, Sends, TurnPass};
-use crate::token::{AtRest, Token};
+use crate::token::{IdleToken, Token};
 use crate::turnstile::Turnstile;
 use crossbeam_channel::bounded_with;
 use geometry::Error;
@@ -77,8 +77,8 @@ impl<B: BooksName> OpenedTurnstile<B> {
             books,
             sender,
             receiver,
-            AtRest { token },
-            AtRest { token: received },
+            IdleToken { token },
+            IdleToken { token: received },
         );
         (turnstile, all)
     }

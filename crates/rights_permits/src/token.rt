@@ -1,5 +1,5 @@
 //! How many permits are out of the channel, and who has them.
-ghost use Rattle.std.specs.Prelude.{◌≡◌, ◌<◌, ◌+◌, ◌-◌, MatchOption, MatchResult};
+ghost use Rattle.std.specs.Prelude.{◌≡◌, ◌<◌, ◌≤◌, ◌+◌, ◌-◌, MatchOption, MatchResult};
 ghost use Rattle.crossbeam_channel.specs.Ends.{sends_on, receives_on};
 ghost use Rattle.rights_permits.specs.Turns.{all_permits, IsRing, IsTurnAt, count_of};
 
@@ -87,7 +87,7 @@ impl<B: BooksName, J: TurnName> Token<B, J> {
     // The end of the channel, which takes its sending end: so no call on a shared turnstile can lose a token.
     pub(crate) fn end(self, sender: Sends<B>)
         requires channel { IsRing J.turns J.key (sends_on sender) }
-        requires all { self ≡ all_permits }
+        requires all { all_permits ≤ self }
     {
         let Token { pass: _, turns: _ } = self;
         drop(sender);
@@ -95,7 +95,7 @@ impl<B: BooksName, J: TurnName> Token<B, J> {
 }
 
 /// A token that has no permit out, as it lies under a lock.
-pub struct AtRest<B: BooksName, J: TurnName> {
+pub struct IdleToken<B: BooksName, J: TurnName> {
     pub(crate) token: Token<B, J>,
-    pub(crate) ghost rest: { token ≡ 0 },
+    pub(crate) ghost none: { token ≡ 0 },
 }

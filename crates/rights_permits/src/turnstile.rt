@@ -6,7 +6,8 @@ ghost use Rattle.rights_permits.specs.Turns.{all_permits, at_home, IsRing};
 use crate::all::{AllPermits, Auditing};
 use crate::law::{Receives, Sends};
 use crate::permit::{Card, Permit};
-use crate::token::{AtRest, Token};
+use crate::rests::Rests;
+use crate::token::{IdleToken, Token};
 use rights_books::{Books, Permits};
 use rights_names::{BooksName, TurnName};
 use std::sync::{Mutex, Wait};
@@ -14,13 +15,14 @@ use std::sync::{Mutex, Wait};
 const PERMITS: u32 = 64;
 
 /// The books, and the permits for the calls that change the volume. All threads share it by `&`. No call takes memory.
-/// It has one end, with all permits in hand.
+/// It has one end, with all permits in hand. The rests lie behind all else, since threads write there all the time.
 pub struct Turnstile<B: BooksName, J: TurnName> {
     books: Books,
     sender: Sends<B>,
     receiver: Receives<B>,
-    sending: Mutex<AtRest<B, J>>,
-    receiving: Mutex<AtRest<B, J>>,
+    sending: Mutex<IdleToken<B, J>>,
+    receiving: Mutex<IdleToken<B, J>>,
+    rests: Rests<B, J>,
     ghost books_are: { books ≡ B.books },
     ghost sends: { IsRing J.turns J.key (sends_on sender) },
     ghost receives: { IsRing J.turns J.key (receives_on receiver) },
@@ -31,8 +33,8 @@ impl<B: BooksName, J: TurnName> Turnstile<B, J> {
         books: Books,
         sender: Sends<B>,
         receiver: Receives<B>,
-        sending: AtRest<B, J>,
-        receiving: AtRest<B, J>,
+        sending: IdleToken<B, J>,
+        receiving: IdleToken<B, J>,
     ) -> Turnstile<B, J>
         requires books { books ≡ B.books }
         requires sends { IsRing J.turns J.key (sends_on sender) }
@@ -44,6 +46,7 @@ impl<B: BooksName, J: TurnName> Turnstile<B, J> {
             receiver,
             sending: Mutex::new(sending),
             receiving: Mutex::new(receiving),
+            rests: Rests::new(),
         }
     }
 
@@ -58,8 +61,8 @@ impl<B: BooksName, J: TurnName> Turnstile<B, J> {
     pub fn enter<R: Wait>(&self, rt: &R) -> Permit<B, J>
         ensures hand { result.hand ≡ at_home B.books.book }
     {
-        let mut rest = self.receiving.lock(rt);
-        self.take_one(rt, &mut *rest)
+        let mut idle = self.receiving.lock(rt);
+        self.take_one(rt, &mut *idle)
     }
 
     /// Gives a permit back, which has nothing in hand.
@@ -67,16 +70,38 @@ impl<B: BooksName, J: TurnName> Turnstile<B, J> {
         requires tickets { permit.hand.tickets ≡ [] }
         requires tokens { permit.hand.tokens ≡ [] }
     {
-        let mut rest = self.sending.lock(rt);
-        self.put_one(rt, &mut *rest, permit);
+        let mut idle = self.sending.lock(rt);
+        self.put_one(rt, &mut *idle, permit);
+    }
+
+    /// Takes a permit for a call on the file of this number, with nothing in hand: the one that rests there, and else it waits
+    /// for one as `enter` does. The numbers from 1 to 48 have a rest.
+    pub fn enter_by<R: Wait>(&self, rt: &R, number: u32) -> Permit<B, J>
+        ensures hand { result.hand ≡ at_home B.books.book }
+    {
+        match self.rests.take(rt, number) {
+            Some(permit) => permit,
+            None => self.enter(rt),
+        }
+    }
+
+    /// Gives a permit back, which has nothing in hand, after a call on the file of this number. It rests there for the next call
+    /// on the file, and where it can't it goes back as by `leave`. Another number may be given than to `enter_by`.
+    pub fn leave_by<R: Wait>(&self, rt: &R, number: u32, permit: Permit<B, J>)
+        requires tickets { permit.hand.tickets ≡ [] }
+        requires tokens { permit.hand.tokens ≡ [] }
+    {
+        if let Some(back) = self.rests.put(rt, number, permit) {
+            self.leave(rt, back);
+        }
     }
 
     /// Takes all permits, with nothing in hand, and waits for them.
     pub fn gather<R: Wait>(&self, rt: &R) -> AllPermits<B, J>
         ensures hand { result.hand ≡ at_home B.books.book }
     {
-        let mut rest = self.receiving.lock(rt);
-        self.take_all(rt, &mut *rest)
+        let mut idle = self.receiving.lock(rt);
+        self.take_all(rt, &mut *idle)
     }
 
     /// Gives all permits back, which have nothing in hand.
@@ -84,8 +109,10 @@ impl<B: BooksName, J: TurnName> Turnstile<B, J> {
         requires tickets { all.hand.tickets ≡ [] }
         requires tokens { all.hand.tokens ≡ [] }
     {
-        let mut rest = self.sending.lock(rt);
-        self.put_all(rt, &mut *rest, all);
+        // While all are in hand nobody else has gathered, so no rest is opened that another has closed.
+        self.rests.open(rt);
+        let mut idle = self.sending.lock(rt);
+        self.put_all(rt, &mut *idle, all);
     }
 
     /// Begins an audit of the books, with all permits, which have nothing in hand. It has learned nothing yet.
@@ -117,12 +144,14 @@ impl<B: BooksName, J: TurnName> Turnstile<B, J> {
             receiver: _,
             sending,
             receiving,
+            rests,
         } = self;
-        let AtRest { token: sent } = sending.into_inner();
-        let AtRest { token: received } = receiving.into_inner();
+        let IdleToken { token: sent } = sending.into_inner();
+        let IdleToken { token: received } = receiving.into_inner();
         let mut token = all.into_token();
         token.join(&sender, sent);
         token.join(&sender, received);
+        rests.end(&sender, &mut token);
         token.end(sender);
     }
 
@@ -152,21 +181,42 @@ impl<B: BooksName, J: TurnName> Turnstile<B, J> {
         unreachable!()
     }
 
-    fn take_one<R: Wait>(&self, rt: &R, rest: &mut AtRest<B, J>) -> Permit<B, J>
+    fn take_one<R: Wait>(&self, rt: &R, idle: &mut IdleToken<B, J>) -> Permit<B, J>
         ensures { result.hand ≡ at_home B.books.book }
     {
-        let card = self.receive(rt, &mut rest.token);
-        let token = rest.token.split(&self.sender);
+        let card = self.receive(rt, &mut idle.token);
+        let token = idle.token.split(&self.sender);
         Permit::of_parts(card.into_hand(), token)
     }
 
-    fn put_one<R: Wait>(&self, rt: &R, rest: &mut AtRest<B, J>, permit: Permit<B, J>)
+    fn put_one<R: Wait>(&self, rt: &R, idle: &mut IdleToken<B, J>, permit: Permit<B, J>)
         requires tickets { permit.hand.tickets ≡ [] }
         requires tokens { permit.hand.tokens ≡ [] }
     {
         let (card, token) = permit.into_parts();
-        rest.token.join(&self.sender, token);
-        self.send(rt, &mut rest.token, card);
+        idle.token.join(&self.sender, token);
+        self.send(rt, &mut idle.token, card);
+    }
+
+    // A permit for who gathers: the one that rests at a number, where nothing rests from then on, or one that comes out of the
+    // channel. All that is not at the rests of higher numbers, or in a call there, is in the channel or comes to it.
+    fn collect<R: Wait>(&self, rt: &R, token: &mut Token<B, J>, number: u32) -> Card<B>
+        ensures { token.new ≡ token.old + 1 }
+    {
+        match self.rests.close(rt, number) {
+            Some(permit) => self.take_in(token, permit),
+            None => self.receive(rt, token),
+        }
+    }
+
+    fn take_in(&self, token: &mut Token<B, J>, permit: Permit<B, J>) -> Card<B>
+        requires tickets { permit.hand.tickets ≡ [] }
+        requires tokens { permit.hand.tokens ≡ [] }
+        ensures { token.new ≡ token.old + 1 }
+    {
+        let (card, one) = permit.into_parts();
+        token.join(&self.sender, one);
+        card
     }
 
     fn receive_all<R: Wait>(&self, rt: &R, token: &mut Token<B, J>) -> Permits
@@ -174,10 +224,11 @@ impl<B: BooksName, J: TurnName> Turnstile<B, J> {
         ensures all { token.new ≡ all_permits }
         ensures permits { result ≡ record { book = B.books.book; count = all_permits } }
     {
+        // The first comes out of the channel. So nobody else has all, who would open the rests again.
         let first = self.receive(rt, token);
         let mut permits = self.books.pool(first.into_hand());
-        for _ in 1..PERMITS {
-            let card = self.receive(rt, token);
+        for number in 1..PERMITS {
+            let card = self.collect(rt, token, number);
             permits = self.books.add(permits, card.into_hand());
         }
         permits
@@ -196,20 +247,20 @@ impl<B: BooksName, J: TurnName> Turnstile<B, J> {
         }
     }
 
-    fn take_all<R: Wait>(&self, rt: &R, rest: &mut AtRest<B, J>) -> AllPermits<B, J>
+    fn take_all<R: Wait>(&self, rt: &R, idle: &mut IdleToken<B, J>) -> AllPermits<B, J>
         ensures { result.hand ≡ at_home B.books.book }
     {
-        let permits = self.receive_all(rt, &mut rest.token);
-        let token = rest.token.split(&self.sender);
+        let permits = self.receive_all(rt, &mut idle.token);
+        let token = idle.token.split(&self.sender);
         AllPermits::of_parts(&self.books, permits, token)
     }
 
-    fn put_all<R: Wait>(&self, rt: &R, rest: &mut AtRest<B, J>, all: AllPermits<B, J>)
+    fn put_all<R: Wait>(&self, rt: &R, idle: &mut IdleToken<B, J>, all: AllPermits<B, J>)
         requires tickets { all.hand.tickets ≡ [] }
         requires tokens { all.hand.tokens ≡ [] }
     {
         let (permits, token) = all.into_parts(&self.books);
-        rest.token.join(&self.sender, token);
-        self.send_all(rt, &mut rest.token, permits);
+        idle.token.join(&self.sender, token);
+        self.send_all(rt, &mut idle.token, permits);
     }
 }

@@ -1,5 +1,5 @@
 //! Calls enter and leave while another gathers all permits and audits the books. What is asserted holds under every
-//! schedule.
+//! schedule. A permit that is lost shows as a gather that never ends.
 ghost use Rattle.std.specs.Prelude.{◌≡◌, ◌/◌};
 ghost use Rattle.rights_permits.specs.Turns.{all_permits};
 
@@ -9,7 +9,7 @@ use rights_names::{BooksName, Named, TurnName, VolumeName};
 use rights_permits::{OpenedTurnstile, Turnstile};
 use std::alloc::Global;
 use std::marker::{Brand, PhantomData};
-use std::sync::{Mutex, Wait};
+use std::sync::{Barrier, Mutex, Wait};
 use std::test::*;
 use std::thread;
 use std::thread::Threads;
@@ -23,6 +23,21 @@ const LAYOUT: Layout = Layout {
 const TURNS: u32 = 300;
 
 const AUDITS: u32 = 20;
+
+const RESTS: u32 = 48;
+
+/// What the threads of a test do. The first gathers, where one does.
+#[derive(Clone, Copy, Drop)]
+enum Play {
+    /// Calls through the channel beside an auditor.
+    Channel,
+    /// Calls by rests, each thread at its own, beside an auditor.
+    Rests,
+    /// A permit is left at a rest while another gathers.
+    Beside,
+    /// All rests serve while sixteen others have what never rests.
+    Alone,
+}
 
 // The first segment's account, as it lies in a lock.
 #[derive(Drop)]
@@ -61,6 +76,19 @@ fn change<N: VolumeName, R: Wait>(
     turnstile.leave(rt, permit);
 }
 
+// The same by the rest of a number.
+fn change_by<N: VolumeName, R: Wait>(
+    rt: &R,
+    turnstile: &Turnstile<N::Books, N::Turns>,
+    first: &Mutex<First<N::Books>>,
+    number: u32,
+) {
+    let mut permit = turnstile.enter_by(rt, number);
+    let mut segment = first.lock(rt);
+    segment.mark_and_clear(turnstile.books(), &mut permit.hand);
+    turnstile.leave_by(rt, number, permit);
+}
+
 // With all permits in hand, one is lent, and then the books are audited.
 fn audit<N: VolumeName, R: Wait>(
     rt: &R,
@@ -77,32 +105,134 @@ fn audit<N: VolumeName, R: Wait>(
     turnstile.scatter(rt, turnstile.end_audit(auditing));
 }
 
-// Three workers, or one, and who audits.
+fn audits<N: VolumeName, R: Wait>(
+    rt: &R,
+    turnstile: &Turnstile<N::Books, N::Turns>,
+    first: &Mutex<First<N::Books>>,
+) -> u32 {
+    let mut count = 0;
+    for _ in 0..AUDITS {
+        audit::<N, R>(rt, turnstile, first);
+        count += 1;
+    }
+    count
+}
+
+// Calls through the channel, at the number 0, and else by the rest of the number.
+fn changes<N: VolumeName, R: Wait>(
+    rt: &R,
+    turnstile: &Turnstile<N::Books, N::Turns>,
+    first: &Mutex<First<N::Books>>,
+    number: u32,
+) -> u32 {
+    let mut count = 0;
+    for _ in 0..TURNS {
+        if number == 0 {
+            change::<N, R>(rt, turnstile, first);
+        } else {
+            change_by::<N, R>(rt, turnstile, first, number);
+        }
+        count += 1;
+    }
+    count
+}
+
+// Gathers as soon as the other has a permit of the first number.
+fn gathers<B: BooksName, J: TurnName, R: Wait>(
+    rt: &R,
+    turnstile: &Turnstile<B, J>,
+    together: &Barrier,
+) -> u32 {
+    let mut count = 0;
+    for _ in 0..TURNS {
+        together.wait(rt);
+        let all = turnstile.gather(rt);
+        turnstile.scatter(rt, all);
+        together.wait(rt);
+        count += 1;
+    }
+    count
+}
+
+// Leaves at the first number as soon as the other gathers.
+fn leaves<B: BooksName, J: TurnName, R: Wait>(
+    rt: &R,
+    turnstile: &Turnstile<B, J>,
+    together: &Barrier,
+) -> u32 {
+    let mut count = 0;
+    for _ in 0..TURNS {
+        let permit = turnstile.enter_by(rt, 1);
+        together.wait(rt);
+        turnstile.leave_by(rt, 1, permit);
+        together.wait(rt);
+        count += 1;
+    }
+    count
+}
+
+// A call by the rest of each number that has one.
+fn at_each_rest<B: BooksName, J: TurnName, R: Wait>(rt: &R, turnstile: &Turnstile<B, J>) -> u32 {
+    let mut count = 0;
+    for number in 0..RESTS {
+        let permit = turnstile.enter_by(rt, number + 1);
+        turnstile.leave_by(rt, number + 1, permit);
+        count += 1;
+    }
+    count
+}
+
+// The same again while the others have all permits of the channel.
+fn serves<B: BooksName, J: TurnName, R: Wait>(
+    rt: &R,
+    turnstile: &Turnstile<B, J>,
+    together: &Barrier,
+) -> u32 {
+    at_each_rest(rt, turnstile);
+    together.wait(rt);
+    let count = at_each_rest(rt, turnstile);
+    together.wait(rt);
+    count
+}
+
+// Has a permit of the channel meanwhile.
+fn holds<B: BooksName, J: TurnName, R: Wait>(
+    rt: &R,
+    turnstile: &Turnstile<B, J>,
+    together: &Barrier,
+) -> u32 {
+    let permit = turnstile.enter(rt);
+    together.wait(rt);
+    together.wait(rt);
+    turnstile.leave(rt, permit);
+    1
+}
+
+// What one thread of a play does, and how often.
 fn work<N: VolumeName, R: Wait>(
     rt: &R,
     turnstile: &Turnstile<N::Books, N::Turns>,
     first: &Mutex<First<N::Books>>,
-    audits: bool,
+    together: &Barrier,
+    play: Play,
+    thread: u32,
 ) -> u32 {
-    let mut count = 0;
-    if audits {
-        for _ in 0..AUDITS {
-            audit::<N, R>(rt, turnstile, first);
-            count += 1;
-        }
-    } else {
-        for _ in 0..TURNS {
-            change::<N, R>(rt, turnstile, first);
-            count += 1;
-        }
+    match play {
+        Play::Channel | Play::Rests if thread == 0 => audits::<N, R>(rt, turnstile, first),
+        Play::Channel => changes::<N, R>(rt, turnstile, first, 0),
+        Play::Rests => changes::<N, R>(rt, turnstile, first, thread),
+        Play::Beside if thread == 0 => gathers(rt, turnstile, together),
+        Play::Beside => leaves(rt, turnstile, together),
+        Play::Alone if thread == 0 => serves(rt, turnstile, together),
+        Play::Alone => holds(rt, turnstile, together),
     }
-    count
 }
 
 fn with_turnstile<B: BooksName + Send + Sync, J: TurnName + Send + Sync, R: Threads + Wait + Sync>(
     rt: &R,
     alloc: Global,
-    workers: usize,
+    play: Play,
+    threads: usize,
     books: Books,
     permits: Permits,
     first: First<B>,
@@ -115,12 +245,20 @@ fn with_turnstile<B: BooksName + Send + Sync, J: TurnName + Send + Sync, R: Thre
 {
     let (turnstile, all) = opened.named::<J>(books, permits);
     let first = Mutex::new(first);
+    let together = Barrier::new(threads);
     turnstile.scatter(rt, all);
     let counts = thread::map_indices(
         rt,
         alloc,
-        workers,
-        &|i| work::<Named<B, Brand, Brand, J, Brand>, R>(rt, &turnstile, &first, i == 0),
+        threads,
+        &|i| work::<Named<B, Brand, Brand, J, Brand>, R>(
+            rt,
+            &turnstile,
+            &first,
+            &together,
+            play,
+            (i % 64) as u32,
+        ),
     );
     let all = turnstile.gather(rt);
     turnstile.end(all);
@@ -130,7 +268,8 @@ fn with_turnstile<B: BooksName + Send + Sync, J: TurnName + Send + Sync, R: Thre
 fn with_books<B: BooksName + Send + Sync, R: Threads + Wait + Sync>(
     rt: &R,
     alloc: Global,
-    workers: usize,
+    play: Play,
+    threads: usize,
     books: Books,
     permits: Permits,
     account: SegmentAccount,
@@ -145,31 +284,55 @@ fn with_books<B: BooksName + Send + Sync, R: Threads + Wait + Sync>(
         account,
         books: PhantomData,
     };
-    with_turnstile::<B, Brand, R>(rt, alloc, workers, books, permits, first, opened)
+    with_turnstile::<B, Brand, R>(rt, alloc, play, threads, books, permits, first, opened)
 }
 
 // How often each of so many threads had its turn.
 fn counted<R: Threads + Wait + Sync>(
     rt: &R,
     alloc: Global,
-    workers: usize,
+    play: Play,
+    threads: usize,
 ) -> Result<Vec<u32>, Error> {
     let (books, dealer) = Books::open(alloc, &LAYOUT)?;
     let (permits, dealer) = books.deal_permits(dealer);
     let (account, _) = books.deal_segment(dealer);
-    with_books::<Brand, R>(rt, alloc, workers, books, permits, account)
+    with_books::<Brand, R>(rt, alloc, play, threads, books, permits, account)
 }
 
 #[test]
 fn three_workers_and_an_auditor(rt: HostRuntime) -> Result<(), Fail> {
-    let counts = counted(&rt, rt.alloc(), 4)?;
+    let counts = counted(&rt, rt.alloc(), Play::Channel, 4)?;
     assert_eq!(rt; counts.as_slice(), [AUDITS, TURNS, TURNS, TURNS].as_slice());
     Ok(())
 }
 
 #[test]
 fn a_worker_and_an_auditor(rt: HostRuntime) -> Result<(), Fail> {
-    let counts = counted(&rt, rt.alloc(), 2)?;
+    let counts = counted(&rt, rt.alloc(), Play::Channel, 2)?;
     assert_eq!(rt; counts.as_slice(), [AUDITS, TURNS].as_slice());
+    Ok(())
+}
+
+#[test]
+fn workers_with_rests_and_an_auditor(rt: HostRuntime) -> Result<(), Fail> {
+    let counts = counted(&rt, rt.alloc(), Play::Rests, 3)?;
+    assert_eq!(rt; counts.as_slice(), [AUDITS, TURNS, TURNS].as_slice());
+    Ok(())
+}
+
+#[test]
+fn a_permit_left_beside_a_gather_is_found(rt: HostRuntime) -> Result<(), Fail> {
+    let counts = counted(&rt, rt.alloc(), Play::Beside, 2)?;
+    assert_eq!(rt; counts.as_slice(), [TURNS, TURNS].as_slice());
+    Ok(())
+}
+
+#[test]
+fn rests_serve_while_the_channel_is_empty(rt: HostRuntime) -> Result<(), Fail> {
+    let counts = counted(&rt, rt.alloc(), Play::Alone, 17)?;
+    let mut expected = [1; 17];
+    expected[0] = RESTS;
+    assert_eq!(rt; counts.as_slice(), expected.as_slice());
     Ok(())
 }

@@ -76,9 +76,10 @@ impl<V: VolumeName, M: Meta, B: Block + Drop> Volume<V, M, B> {
         if index >= shape.largest_length() {
             return Err(Error::TooFar);
         }
-        let mut permit = self.area.turnstile().enter(rt);
+        let number = pass.number();
+        let mut permit = self.area.turnstile().enter_by(rt, number);
         let done = self.write_by(rt, &mut permit.hand, pass, index, bytes, now);
-        self.area.turnstile().leave(rt, permit);
+        self.area.turnstile().leave_by(rt, number, permit);
         done
     }
 
@@ -115,9 +116,10 @@ impl<V: VolumeName, M: Meta, B: Block + Drop> Volume<V, M, B> {
         ensures err { OnErr result (pass.new ≡ pass.old) }
         ensures error { IfErr result (λ error. error ≡ Wounded) }
     {
-        let mut permit = self.area.turnstile().enter(rt);
+        let number = pass.number();
+        let mut permit = self.area.turnstile().enter_by(rt, number);
         let done = self.cut_by(rt, &mut permit.hand, pass, length);
-        self.area.turnstile().leave(rt, permit);
+        self.area.turnstile().leave_by(rt, number, permit);
         done
     }
 
