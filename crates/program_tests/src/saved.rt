@@ -83,6 +83,32 @@ fn a_close_writes_one_version_more(rt: HostRuntime) -> Result<(), Fail> {
     Ok(())
 }
 
+// Of 128 main blocks the first data block has address 33, whether its first write was refused or not.
+#[test]
+fn a_block_whose_write_was_refused_is_written_again(rt: HostRuntime) -> Result<(), Fail> {
+    let alloc = rt.alloc();
+    let text = "format TINY 16 1 4 32\ncreate file\nfail block 1\nwrite 1 0 41\nwrite 1 0 42\n";
+    let (out, saved) = saved_by(&rt, alloc, text);
+    let lines = b"format ok\nfile 1\nrefused 2 Device\nok\nfile 1 length 1 42\ntotal 2\n";
+    assert_eq!(rt; out.as_slice(), lines.as_slice());
+    let (plain, written) = saved_by(
+        &rt,
+        alloc,
+        "format TINY 16 1 4 32\ncreate file\nwrite 1 0 42\n",
+    );
+    assert!(rt;
+        plain
+            .as_slice()
+            .ends_with(b"\nok\nfile 1 length 1 42\ntotal 2\n")
+    );
+    assert!(rt; saved.as_slice() == written.as_slice());
+    let first = saved.len().saturating_sub(128 * 64) + 32 * 64;
+    assert_eq!(rt; saved.as_slice().get(first), Some(&0x42u8));
+    assert_eq!(rt; saved.as_slice().get(first + 63), Some(&0x42u8));
+    assert_eq!(rt; saved.as_slice().get(first + 64), Some(&0u8));
+    Ok(())
+}
+
 // The file of a script that writes one block, whose last pack has most of its parts in the slot of the one before.
 fn one_block<R: Threads + Wait + Abort + Sync>(rt: &R, alloc: Global) -> Vec<u8> {
     let (_, saved) = saved_by(

@@ -1,7 +1,7 @@
 //! Devices that fail, and volumes that are wounded.
 use super::Row;
 
-pub(super) const ROWS: [Row; 5] = [
+pub(super) const ROWS: [Row; 6] = [
     // A main block that fails leaves the file as it was, in a write and in the nodes' writes of a checkpoint, and wounds nothing.
     Row {
         what: "a write that fails leaves nothing",
@@ -93,6 +93,36 @@ pub(super) const ROWS: [Row; 5] = [
             closed without sync\n\
             file 1 length 1 41\n\
             total 2\n",
+    },
+    // The segment that a refused write opened stays open, and the same write goes there next.
+    Row {
+        what: "a refused write leaves its segment open",
+        script: "format TINY 16 1 4 32\n\
+            create file\n\
+            fail block 9\n\
+            fill 1 0 8 11\n\
+            snap 1\n\
+            status\n\
+            fill 1 0 8 22\n\
+            status\n\
+            look 1\n\
+            read 1 0\n\
+            fill 1 0 8 22\n\
+            status\n\
+            look 1\n",
+        lines: "file 1\n\
+            ok\n\
+            reader 1\n\
+            free 10 prefree 0 open 5 sealed 1\n\
+            refused 2 Device\n\
+            free 9 prefree 0 open 6 sealed 1\n\
+            look 1 11 11 11 11 11 11 11 11\n\
+            read 1 0 11\n\
+            ok\n\
+            free 9 prefree 1 open 5 sealed 1\n\
+            look 1 11 11 11 11 11 11 11 11\n\
+            file 1 length 8 22 22 22 22 22 22 22 22\n\
+            total 10\n",
     },
     // Failures wait side by side, each counted from its line.
     Row {
