@@ -19,3 +19,9 @@ version_is {D} seen shape image packs shown fits counts one written =
     All-head (λ (entry : Packs D × ℕ). body_of (reading_of entry.0.geometry) seen entry.0 ≡ pack_body shape image) (packs, packs.version) []
     (subst (All (λ (entry : Packs D × ℕ). body_of (reading_of entry.0.geometry) seen entry.0 ≡ pack_body shape image)) one written) in
     counts ∙ (ap version_of spelled ∙ body_version shape image fits)
+
+-- and that of what the image was taken from
+pub version_taken : {D : Type 0} (seen : D → List ℕ) (shape : Shape) (image : Image) (packs : Packs D) (shown : List (Packs D × ℕ)) (version : ℕ) → image.version < 2 ^ 32 → image.version ≡ version
+    → packs.version ≡ version_of (body_of (reading_of packs.geometry) seen packs) → shown ≡ (packs, packs.version) ∷ []
+    → All (λ entry. body_of (reading_of entry.0.geometry) seen entry.0 ≡ pack_body shape image) shown → packs.version ≡ version
+version_taken seen shape image packs shown version fits same counts one written = version_is seen shape image packs shown fits counts one written ∙ same

@@ -10,6 +10,7 @@ use Rattle.geometry.specs.declared.owner.Owner.TheVariants.{Data}
 use Rattle.geometry.specs.declared.path.Path.{Path}
 use Rattle.geometry.specs.declared.path.Path.TheVariants.{Inode, Direct, Indirect, Double}
 use Rattle.geometry.specs.Path.{inode_entries, node_entries, largest_length, path}
+use Rattle.sums.specs.Weights.{weigh}
 use Rattle.tickets.specs.Placed.{Placed}
 use Rattle.tree.specs.declared.branch.Branch.{Branch}
 use Rattle.tree.specs.Tree.{entry_at}
@@ -39,6 +40,13 @@ placed t none = go t.mark.address none
 owned_at : (nid at : ℕ) (x : Option Placed) → ticket_weight (of_tickets unplaced) x ≡ 0 → ((t : Placed) → x ≡ Some t → Some t.mark.owner ≡ Some (Data nid at)) → IsOwned nid at x
 owned_at nid at None none named = tt
 owned_at nid at (Some t) none named = (let e = named t refl in cc, placed t none)
+
+-- what an entry of a node names is owned by it, where its tickets have addresses and name it
+owned_in : (nid s : ℕ) (xs : List (Option Placed)) → weigh (ticket_weight (of_tickets unplaced)) xs ≡ 0
+    → ((t : Placed) → s < length xs → entry_at xs s ≡ Some t → Some t.mark.owner ≡ Some (Data nid s)) → IsOwned nid s (entry_at xs s)
+owned_in nid s xs light named =
+    let lighter = weigh_at (ticket_weight (of_tickets unplaced)) xs s None refl in
+    owned_at nid s (entry_at xs s) (omega arith) (λ t there. named t (within xs s t there) there)
 
 -- numbers in digits
 module _ (e : ℕ) (p : 0 < e) where
@@ -89,13 +97,11 @@ module _ {B L : Type 0} (f : FileState B L) (is : IsFile f) (named : AreNamed f)
         go : (x : Option (Branch Placed)) → entry_at f.direct.slots.items p ≡ x → weight_direct w x ≡ 0 → shaped_direct (node_entries f.shape) x → OwnedBelow IsOwned f.token.number p x
         go None at light shaped = tt
         go (Some b) at light shaped = λ s.
+            owned_in b.token.number s b.entries.slots.items (omega arith) λ t sits there.
             let d = inode_entries f.shape in
             let e = node_entries f.shape in
-            let xs = b.entries.slots.items in
             let low = within f.direct.slots.items p b at in
-            let lighter = weigh_at (ticket_weight w) xs s None refl in
-            owned_at b.token.number s (entry_at xs s) (omega arith) λ t there.
-            let inside : s < e = omega (arith, within xs s t there, shaped.0) in
+            let inside : s < e = omega (arith, sits, shaped.0) in
             let two : p < 2 = omega (arith, is.direct.0) in
             let m = mul-le (p + 1) e 2 e (omega arith) (omega arith) in
             let i = d + (p * e + s) in
@@ -115,13 +121,11 @@ module _ {B L : Type 0} (f : FileState B L) (is : IsFile f) (named : AreNamed f)
             → length b.entries.slots.items ≡ node_entries f.shape → weight_direct w y ≡ 0 → shaped_direct (node_entries f.shape) y → OwnedBelow IsOwned b.token.number a y
         inner b at a None at2 wide light shaped = tt
         inner b at a (Some c) at2 wide light shaped = λ s.
+            owned_in c.token.number s c.entries.slots.items (omega arith) λ t sits there.
             let d = inode_entries f.shape in
             let e = node_entries f.shape in
             let p = entries_positive f.shape in
-            let xs = c.entries.slots.items in
-            let lighter = weigh_at (ticket_weight w) xs s None refl in
-            owned_at c.token.number s (entry_at xs s) (omega arith) λ t there.
-            let inside : s < e = omega (arith, within xs s t there, shaped.0) in
+            let inside : s < e = omega (arith, sits, shaped.0) in
             let under : a < e = omega (arith, within b.entries.slots.items a c at2) in
             let two : q < 2 = omega (arith, within f.indirect.slots.items q b at, is.indirect.0) in
             let less = small e p a s under inside in
@@ -153,13 +157,11 @@ module _ {B L : Type 0} (f : FileState B L) (is : IsFile f) (named : AreNamed f)
             → length b.entries.slots.items ≡ node_entries f.shape → weight_direct w y ≡ 0 → shaped_direct (node_entries f.shape) y → OwnedBelow IsOwned b.token.number k y
         deepest x at a b at2 wide k None at3 wide2 light shaped = tt
         deepest x at a b at2 wide k (Some c) at3 wide2 light shaped = λ s.
+            owned_in c.token.number s c.entries.slots.items (omega arith) λ t sits there.
             let d = inode_entries f.shape in
             let e = node_entries f.shape in
             let p = entries_positive f.shape in
-            let xs = c.entries.slots.items in
-            let lighter = weigh_at (ticket_weight w) xs s None refl in
-            owned_at c.token.number s (entry_at xs s) (omega arith) λ t there.
-            let inside : s < e = omega (arith, within xs s t there, shaped.0) in
+            let inside : s < e = omega (arith, sits, shaped.0) in
             let under : k < e = omega (arith, within b.entries.slots.items k c at3) in
             let over : a < e = omega (arith, within x.entries.slots.items a b at2) in
             let one : z ≡ 0 = omega (arith, within f.double.slots.items z x at, is.double.0) in

@@ -8,7 +8,7 @@ use Rattle.image.specs.View.{image_view}
 use Rattle.checkpoint.specs.Holding.{AreWhole}
 use Rattle.packs_format.specs.Holding.{HoldsTables}
 use Rattle.checkpoint.proofs.Counting.{between_counts, whole_counts}
-use Rattle.checkpoint.proofs.Versions.{version_is}
+use Rattle.checkpoint.proofs.Versions.{version_taken}
 use Rattle.checkpoint.specs.Standing.{HasVolume}
 use Rattle.packs_format.proofs.SuperLemmas.{super_stays}
 use Rattle.checkpoint.proofs.cell.PacksCell.store.Goals as goal
@@ -19,10 +19,8 @@ invariant_of-self g c =
     let new = c.write.new.self in
     let stored = c.in-Ok.stored in
     let done = c.in-Ok.ensures in
-    let image = image_view stored.taken.image in
-    let same : image.version ≡ c.args.taken.image.version = ap (λ t. t.image.version) done.taken in
-    let fits : image.version < 2 ^ 32 = omega arith in
-    let version = version_is g.M.Meta.seen stored.geometry.shape image new.area stored.pack.shown.items fits done.whole.settled.version done.area stored.written in
+    let same : (image_view stored.taken.image).version ≡ c.args.taken.image.version = ap (λ t. t.image.version) done.taken in
+    let version = version_taken g.M.Meta.seen stored.geometry.shape (image_view stored.taken.image) new.area stored.pack.shown.items c.args.taken.image.version (omega arith) same done.whole.settled.version done.area stored.written in
     record {
       size = done.same.long ∙ old.size;
       numbers = done.geometry ∙ old.numbers;
@@ -30,7 +28,7 @@ invariant_of-self g c =
       whole = λ sound. done.whole;
       front = super_stays g.V.Numbers.GeometryName.geometry _ _ old.front done.same.long done.same.front;
       counts = whole_counts g.M.Meta.seen g.M.Meta.may_leave g.V.Numbers.GeometryName.geometry new done.whole (done.geometry ∙ old.numbers) (super_stays g.V.Numbers.GeometryName.geometry _ _ old.front done.same.long done.same.front);
-      complete = λ sound. c.advance.ensures.1 ∙ (ap (λ n. n + 1) (old.complete sound) ∙ sym (version ∙ (same ∙ c.requires.next)));
+      complete = λ sound. c.advance.ensures.1 ∙ (ap (λ n. n + 1) (old.complete sound) ∙ sym (version ∙ c.requires.next));
       slips = old.slips;
       room = old.room;
     }
@@ -84,12 +82,10 @@ returns-in-Ok-clause-written g c =
     let new = c.write.new.self in
     let stored = c.in-Ok.stored in
     let done = c.in-Ok.ensures in
-    let image = image_view stored.taken.image in
-    let same : image.version ≡ c.args.taken.image.version = ap (λ t. t.image.version) done.taken in
-    let fits : image.version < 2 ^ 32 = omega arith in
-    let version = version_is g.M.Meta.seen stored.geometry.shape image new.area stored.pack.shown.items fits done.whole.settled.version done.area stored.written in (
+    let same : (image_view stored.taken.image).version ≡ c.args.taken.image.version = ap (λ t. t.image.version) done.taken in
+    let version = version_taken g.M.Meta.seen stored.geometry.shape (image_view stored.taken.image) new.area stored.pack.shown.items c.args.taken.image.version (omega arith) same done.whole.settled.version done.area stored.written in (
       new.area,
-      done.area ∙ ap (λ v. (new.area, v) ∷ []) (version ∙ same),
+      done.area ∙ ap (λ v. (new.area, v) ∷ []) version,
       done.whole.size ∙ (done.geometry ∙ c.args.self.now.numbers),
       subst (λ (x : Geometry). Leaves g.M.Meta.may_leave new.area.meta (HoldsTables x (image_view c.args.taken.image))) c.args.self.now.numbers done.held,
     )
