@@ -1,8 +1,11 @@
 //! A volume under all its names.
-ghost use Rattle.std.specs.Prelude.{◌≡◌, ◌≤◌, map, vec_len, IfOk, IfErr};
+ghost use Rattle.std.specs.Prelude.{◌≡◌, ◌≤◌, [], map, length, vec_len, vec_capacity, IfOk, IfErr};
+ghost use Rattle.checkpoint.specs.Holding.{AreWhole};
+ghost use Rattle.geometry.specs.Area.{block_count, meta_bytes};
 ghost use Rattle.geometry.specs.declared.error.Error.TheVariants.{NoMemory};
 ghost use Rattle.image.specs.Files.{files as image_files};
 ghost use Rattle.image_codec.specs.Blocks.{bytes_at};
+ghost use Rattle.packs_format.specs.Grammar.{HasSuper};
 ghost use Rattle.volume.specs.Picked.{HaveNames};
 
 use crate::files::lock_loaded_files;
@@ -10,15 +13,19 @@ use crate::frames::MountFrames;
 use crate::mounted::{Mounted, MountedQueues, NamedMount};
 use crate::mounted_area::lock_area;
 use crate::{MountTables, free_memory};
-use checkpoint::PacksCell;
+use area_emptying::SpareRows;
+use checkpoint::{ImagePacks, PacksCell};
 use device::{Block, Meta};
 use file_cells::FilePass;
 use file_readers::Seat;
 use mount_files::{LoadedVolume, load_volume};
 use mount_reading::{OpenFault, OpenedDevice};
-use rights_names::{BooksName, GeometryName, Named, PoolName, TurnName, WordsName};
+use pool::PoolPass;
+use rights_books::FileAccount;
+use rights_names::{BooksName, GeometryName, Named, PoolName, TurnName, VolumeName, WordsName};
 use std::sync::Wait;
 use volume::{Base, SpareCell, Volume};
+use words::{CheckpointSeat, FreeSlip};
 
 impl<L: BooksName, W: WordsName, N: GeometryName, M: Meta, B: Block + Drop> MountedQueues<
     L,
@@ -122,16 +129,50 @@ impl<L: BooksName, W: WordsName, N: GeometryName, M: Meta, B: Block + Drop> Moun
         );
         stock.end();
         area.turnstile().scatter(rt, all);
-        let packs = PacksCell::of(packs, checkpoint, pass, kept);
-        let spare = SpareCell {
-            rows: spare.with_blocks(blocks),
-            accounts: spare_accounts,
-        };
+        let packs = lock_packs(packs, checkpoint, pass, kept);
+        let spare = keep_rows(spare, spare_accounts, blocks);
         let base = Base {
             version: image.version,
             total: image.total,
         };
         let volume = Volume::of(alloc, area, cells, packs, spare, base);
         Ok((volume, seats, passes))
+    }
+}
+
+// The packs of a volume whose pool took all slips, with room to keep those that it will not take.
+fn lock_packs<V: VolumeName, M: Meta>(
+    packs: ImagePacks<M>,
+    checkpoint: CheckpointSeat,
+    pass: PoolPass<V::Words, V::Pool>,
+    kept: Vec<FreeSlip>,
+) -> PacksCell<V, M>
+    requires size { length (M.seen packs.area.meta) ≡ meta_bytes V.Numbers.geometry }
+    requires numbers { packs.geometry ≡ V.Numbers.geometry }
+    requires words { checkpoint.table ≡ V.Words.words }
+    requires whole { AreWhole M.seen M.may_leave packs }
+    requires front { HasSuper V.Numbers.geometry (M.seen packs.area.meta) }
+    requires complete { checkpoint.version ≡ packs.area.version }
+    requires none { kept.items ≡ [] }
+    requires room { V.Numbers.geometry.segments ≤ vec_capacity kept }
+{
+    PacksCell::of(packs, checkpoint, pass, kept)
+}
+
+// The rows in which a close gives all back, with the one that the blocks of the device came in.
+fn keep_rows<V: VolumeName, B: Block + Drop>(
+    rows: SpareRows<B>,
+    accounts: Vec<FileAccount>,
+    blocks: Vec<B>,
+) -> SpareCell<V, B>
+    requires room { V.Numbers.geometry.segments ≤ vec_capacity rows.segments }
+    requires none { vec_len blocks ≡ 0 }
+    requires fit { block_count V.Numbers.geometry ≤ vec_capacity blocks }
+    requires no_accounts { vec_len accounts ≡ 0 }
+    requires accounts_fit { V.Numbers.geometry.files ≤ vec_capacity accounts }
+{
+    SpareCell {
+        rows: rows.with_blocks(blocks),
+        accounts,
     }
 }

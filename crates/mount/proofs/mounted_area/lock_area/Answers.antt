@@ -3,7 +3,8 @@ use Rattle.geometry.specs.declared.geometry.Geometry.{Geometry}
 use Rattle.image.specs.View.{image_view}
 use Rattle.pool.specs.declared.law.Account.{Account}
 use Rattle.mount.specs.Logs.{EachStands}
-use Rattle.mount.proofs.Slips.{loaded_slips, few_free, loaded_logs}
+use Rattle.area.specs.Opening.{SegmentsFall}
+use Rattle.mount.proofs.Slips.{loaded_slips, few_free, loaded_fall, loaded_logs}
 use Rattle.mount.proofs.Pooled.{has_put}
 use Rattle.mount.proofs.mounted_area.lock_area.Goals as goal
 
@@ -19,6 +20,13 @@ put_slips-requires-clause-room g c =
     let slots = c.requires.pool in
     let same = ap (λ (x : Geometry). x.segments) c.requires.geometry in
     omega arith
+
+pub lock_segments-segments-requires-clause-states : goal.lock_segments-segments-requires-clause-states
+lock_segments-segments-requires-clause-states g c =
+    let book = g.V.Books.BooksName.books.book in
+    let table = g.V.Words.WordsName.words in
+    subst (λ (x : Geometry). SegmentsFall x book table x.segments c.args.loaded.states.items) c.requires.geometry
+    (loaded_fall c.args.geometry (image_view c.args.image.now) book table _ _ _ c.requires.segments)
 
 pub lock_loaded_logs-logs-requires-clause-slips : goal.lock_loaded_logs-logs-requires-clause-slips
 lock_loaded_logs-logs-requires-clause-slips g c =
