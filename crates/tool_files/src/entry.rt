@@ -13,12 +13,12 @@ pub struct Entry {
     pub bytes: u64,
 }
 
-/// Whether a file may have this name: 1 to 255 bytes, with no slash, no line end and no zero byte, and neither `.` nor `..`, so
-/// that it is a name in a folder of the operating system too.
+/// Whether a file may have this name: 1 to 255 bytes, with no slash and no control character (a line end among them), and neither
+/// `.` nor `..`, so that it is a name in a folder of the operating system too, and a terminal shows it as it is.
 pub fn is_name(name: &str) -> bool {
     if name.is_empty() || name.len() > LONGEST_NAME || name == "." || name == ".." {
         return false;
     }
     name.bytes()
-        .all(|byte| byte != b'/' && byte != b'\n' && byte != b'\r' && byte != 0)
+        .all(|byte| byte != b'/' && byte >= b' ' && byte != 127)
 }

@@ -14,9 +14,9 @@ mod tidy;
 mod walk;
 mod work;
 
+pub use cleaning::Policy;
 pub use entry::{Entry, is_name};
-pub use folder::{decode, encode};
+pub use folder::{FOLDER, decode, encode};
 pub use refusal::Refusal;
 pub use tidy::{Clean, Tidied};
-pub use walk::FOLDER;
 pub use work::{Get, GetNumber, List, Listing, MakeFolder, NumberedFile, Put, Remove, Rename};

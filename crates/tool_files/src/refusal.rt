@@ -8,7 +8,7 @@ pub enum Refusal {
     #[error("the volume has no folder of names")]
     NoFolder,
     /// The name is none: see `is_name`.
-    #[error("a name has 1 to 255 bytes, is not . or .., and has no slash, no line end and no zero byte")]
+    #[error("a name has 1 to 255 bytes, is not . or .., and has no slash, line end or other control character")]
     BadName,
     /// The folder has no such name, or there is no file of such a number.
     #[error("there is no such file")]

@@ -1,7 +1,7 @@
 //! The files of the passes, and the folder among them.
 use crate::content::{read_all, write_all};
 use crate::entry::Entry;
-use crate::folder::{decode, encode};
+use crate::folder::{FOLDER, decode, encode};
 use device::{Block, Meta};
 use file_cells::FilePass;
 use geometry::Error;
@@ -10,8 +10,8 @@ use std::alloc::Global;
 use std::sync::Wait;
 use volume::Volume;
 
-/// The number of the folder: of the file that is made first on a volume.
-pub const FOLDER: u32 = 1;
+
+
 
 /// Where the pass of the file of a number is.
 pub(crate) fn place_of<V: VolumeName>(passes: &[FilePass<V>], number: u32) -> Option<usize> {

@@ -1,5 +1,6 @@
 //! The folder of a new volume.
-use crate::walk::{FOLDER, write_folder};
+use crate::folder::FOLDER;
+use crate::walk::write_folder;
 use device::{Block, Meta};
 use flash_volume::{Rights, Work};
 use geometry::{Error, Kind};
