@@ -123,7 +123,13 @@ fn u32_at(bytes: &[u8], at: usize) -> u32
 {
     let mut front = [0u8; 4];
     front.copy_from_slice(&bytes[at..at + 4]);
-    u32::from_le_bytes(front)
+    u32_of(front)
+}
+
+fn u32_of(bytes: [u8; 4]) -> u32
+    ensures { to_le_bytes w32 result ≡ bytes }
+{
+    u32::from_le_bytes(bytes)
 }
 
 // The number of the eight bytes from a place on, the lowest first.
@@ -133,5 +139,18 @@ fn u64_at(bytes: &[u8], at: usize) -> u64
 {
     let mut front = [0u8; 8];
     front.copy_from_slice(&bytes[at..at + 8]);
-    u64::from_le_bytes(front)
+    u64_of(front)
 }
+
+fn u64_of(bytes: [u8; 8]) -> u64
+    ensures { to_le_bytes w64 result ≡ bytes }
+{
+    u64::from_le_bytes(bytes)
+}
+
+/// No bytes begin with two folders. So what is decoded is what was encoded, whatever names there are.
+///
+/// It runs nothing: its contract is the law.
+pub fn folder_law()
+    ensures { (rows others : List Row) (bytes : List ℕ) → BeginsWith rows bytes → BeginsWith others bytes → rows ≡ others }
+{}

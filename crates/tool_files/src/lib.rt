@@ -16,7 +16,7 @@ mod work;
 
 pub use cleaning::Policy;
 pub use entry::{Entry, is_name};
-pub use folder::{FOLDER, decode, encode};
+pub use folder::{FOLDER, decode, encode, folder_law};
 pub use refusal::Refusal;
 pub use tidy::{Clean, Tidied};
 pub use work::{Get, GetNumber, List, Listing, MakeFolder, NumberedFile, Put, Remove, Rename};
