@@ -143,7 +143,7 @@ fn map<R: AllocGlobal + Files<File = File>, O: Write>(
     let (geometry, image) = read_image(rt, path)?;
     match svg {
         Some(svg) => {
-            let file = File::create_new(rt, svg)?;
+            let file = File::create_new(rt, svg).map_err(Fault::of_new_file)?;
             let mut file = BufWriter::new(rt.alloc(), file)?;
             draw_svg(&geometry, &image, &mut file)?;
             file.flush()?;

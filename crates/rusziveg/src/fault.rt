@@ -43,10 +43,8 @@ pub enum Fault {
 impl From<FileFault> for Fault {
     fn from(fault: FileFault) -> Fault {
         match fault {
-            FileFault::Io(error) => match error.kind() {
-                io::ErrorKind::AlreadyExists => Fault::InTheWay,
-                _ => Fault::Image(error),
-            },
+            FileFault::Io(error) if error.kind() == io::ErrorKind::AlreadyExists => Fault::InTheWay,
+            FileFault::Io(error) => Fault::Image(error),
             FileFault::Busy => Fault::Busy,
             FileFault::NoFile => Fault::NotAFile,
             FileFault::Refused(error) => Fault::Volume(error),
@@ -91,6 +89,14 @@ impl<T: Drop> From<AllocFailed<T>> for Fault {
 }
 
 impl Fault {
+    /// Why a file of the user's was not made.
+    pub fn of_new_file(error: io::Error) -> Fault {
+        match error.kind() {
+            io::ErrorKind::AlreadyExists => Fault::InTheWay,
+            _ => Fault::Stream(error),
+        }
+    }
+
     /// Says on `errors` what is wrong and what can be done, and answers the exit status.
     pub fn tell<E: Write>(&self, errors: &mut E) -> u8 {
         let _ = write!(errors, "rusziveg: ");

@@ -77,7 +77,7 @@ fn write_new<R: AllocGlobal + Files<File = File>>(
     bytes: &[u8],
 ) -> Result<(), Fault> {
     let path = format!(in rt.alloc(); "{folder}/{name}")?;
-    let mut file = File::create_new(rt, path.as_str())?;
+    let mut file = File::create_new(rt, path.as_str()).map_err(Fault::of_new_file)?;
     file.write_all(bytes)?;
     Ok(())
 }

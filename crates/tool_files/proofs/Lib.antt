@@ -1,3 +1,4 @@
 mod Cases
+mod Contents
 mod Fields
 mod Spelling
