@@ -1,4 +1,5 @@
 mod Cases
 mod Contents
 mod Fields
+mod Places
 mod Spelling

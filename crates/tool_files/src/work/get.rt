@@ -1,7 +1,7 @@
 //! The bytes of a file.
 use crate::content::read_all;
 use crate::refusal::Refusal;
-use crate::walk::{place_of, read_folder, row_of};
+use crate::walk::{place_of, read_folder, row_at};
 use device::{Block, Meta};
 use flash_volume::{Rights, Work};
 use geometry::Error;
@@ -30,7 +30,7 @@ impl<'a, M: Meta, B: Block + Drop> Work<M, B> for Get<'a> {
         let Some(entries) = read_folder(rt, alloc, volume, passes)? else {
             return Ok(Err(Refusal::NoFolder));
         };
-        let Some(row) = row_of(entries.as_slice(), self.name) else {
+        let Some(row) = row_at(entries.as_slice(), self.name) else {
             return Ok(Err(Refusal::NoSuchFile));
         };
         let entry = &entries.as_slice()[row];

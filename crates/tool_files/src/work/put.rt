@@ -2,7 +2,7 @@
 use crate::content::write_all;
 use crate::entry::{Entry, is_name};
 use crate::refusal::Refusal;
-use crate::walk::{place_of, read_folder, row_of, write_folder};
+use crate::walk::{place_of, read_folder, row_at, write_folder};
 use device::{Block, Meta};
 use file_cells::FilePass;
 use flash_volume::{Rights, Work};
@@ -40,7 +40,7 @@ impl<'a, M: Meta, B: Block + Drop> Work<M, B> for Put<'a> {
         let Some(mut entries) = read_folder(rt, alloc, volume, rights.passes.as_slice())? else {
             return Ok(Err(Refusal::NoFolder));
         };
-        let row = row_of(entries.as_slice(), self.name);
+        let row = row_at(entries.as_slice(), self.name);
         let held = held_place(entries.as_slice(), row, rights.passes.as_slice());
         let number = match held {
             Some(place) => {

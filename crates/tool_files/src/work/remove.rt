@@ -1,6 +1,6 @@
 //! A file goes.
 use crate::refusal::Refusal;
-use crate::walk::{place_of, read_folder, row_of, write_folder};
+use crate::walk::{place_of, read_folder, row_at, write_folder};
 use device::{Block, Meta};
 use flash_volume::{Rights, Work};
 use geometry::Error;
@@ -30,7 +30,7 @@ impl<'a, M: Meta, B: Block + Drop> Work<M, B> for Remove<'a> {
         let Some(mut entries) = read_folder(rt, alloc, volume, rights.passes.as_slice())? else {
             return Ok(Err(Refusal::NoFolder));
         };
-        let Some(row) = row_of(entries.as_slice(), self.name) else {
+        let Some(row) = row_at(entries.as_slice(), self.name) else {
             return Ok(Err(Refusal::NoSuchFile));
         };
         let entry = entries.remove(row);

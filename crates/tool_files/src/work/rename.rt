@@ -1,7 +1,7 @@
 //! A file gets another name.
 use crate::entry::is_name;
 use crate::refusal::Refusal;
-use crate::walk::{read_folder, row_of, write_folder};
+use crate::walk::{read_folder, row_at, write_folder};
 use device::{Block, Meta};
 use flash_volume::{Rights, Work};
 use geometry::Error;
@@ -35,10 +35,10 @@ impl<'a, M: Meta, B: Block + Drop> Work<M, B> for Rename<'a> {
         let Some(mut entries) = read_folder(rt, alloc, volume, rights.passes.as_slice())? else {
             return Ok(Err(Refusal::NoFolder));
         };
-        let Some(row) = row_of(entries.as_slice(), self.name) else {
+        let Some(row) = row_at(entries.as_slice(), self.name) else {
             return Ok(Err(Refusal::NoSuchFile));
         };
-        if row_of(entries.as_slice(), self.to).is_some() {
+        if row_at(entries.as_slice(), self.to).is_some() {
             return Ok(Err(Refusal::NameTaken));
         }
         let name = String::from_str(alloc, self.to)?;
