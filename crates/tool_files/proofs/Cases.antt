@@ -1,5 +1,9 @@
--- What holds of a value in one of two cases, once the case is known.
-use Rattle.std.proofs.Common.{◌≡◌, Option, Some, None, IfSome, IfNone, subst}
+-- What holds of a value in one of two cases, once the case is known, or in one case by another fact.
+use Rattle.std.proofs.Common.{◌≡◌, Option, Some, None, Result, Ok, Err, IfNone, OnOk, subst}
 
 pub none_of : {X : Type 0} (P : Type 0) (o : Option X) → o ≡ None → IfNone o P → P
 none_of P o is holds = subst (λ x. IfNone x P) is holds
+
+pub on_ok : {T E : Type 0} (r : Result T E) (P Q : Type 0) → (P → Q) → OnOk r P → OnOk r Q
+on_ok (Ok x) P Q so holds = so holds
+on_ok (Err e) P Q so holds = tt

@@ -1,5 +1,7 @@
 mod Cases
 mod Contents
 mod Fields
+mod Got
 mod Places
 mod Spelling
+mod Updates

@@ -53,13 +53,20 @@ pub record HasFile (size : ℕ) (passes : List Pass) (name bytes : List ℕ) : T
   pub there : file_at row.number passes ≡ Some file
   pub content : bytes ≡ take row.bytes (all_bytes size file)
 
--- The file of this number has the bytes and the name, and all others are as they were.
+-- the file of this number has the bytes, and all others are as they were
+pub record WasWritten (size : ℕ) (bytes : List ℕ) (number : ℕ) (before after : List Pass) : Type 0 where
+  pub file : File
+  pub there : file_at number after ≡ Some file
+  pub content : HasBytes size bytes file
+  pub others : (n : ℕ) → n ≢ number → file_at n after ≡ file_at n before
+
+-- the folder names the file of this number so, that file has the bytes, and all other rows and files are as they were
 pub record WasPut (size : ℕ) (name bytes : List ℕ) (number : ℕ) (before after : List Pass) : Type 0 where
   pub rows : List Row
   pub had_folder : HasFolder size before rows
-  pub others_named : List Row
-  pub has_folder : HasFolder size after others_named
-  pub renewed : Renews (record { name = name; number = number; bytes = length bytes }) rows others_named
+  pub renewed : List Row
+  pub has_folder : HasFolder size after renewed
+  pub renews : Renews (record { name = name; number = number; bytes = length bytes }) rows renewed
   pub file : File
   pub there : file_at number after ≡ Some file
   pub content : HasBytes size bytes file

@@ -7,6 +7,7 @@
 mod content;
 mod entry;
 mod folder;
+mod law;
 mod refusal;
 #[cfg(test)]
 mod tests;
@@ -17,6 +18,7 @@ mod work;
 pub use cleaning::Policy;
 pub use entry::{Entry, is_name};
 pub use folder::{FOLDER, decode, encode, folder_law};
+pub use law::put_get_law;
 pub use refusal::Refusal;
 pub use tidy::{Clean, Tidied};
 pub use work::{Get, GetNumber, List, Listing, MakeFolder, NumberedFile, Put, Remove, Rename};

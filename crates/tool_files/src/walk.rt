@@ -1,6 +1,7 @@
 //! The files of the passes, and the folder among them.
 ghost use Rattle.std.specs.Prelude.{◌≡◌, ◌≢◌, ◌<◌, ◌⊎◌, ℕ, List, None, All, length, map, IfOk, IfErr, IfSome, IfNone, OnOk};
 ghost use Rattle.geometry.specs.Shape.{block_bytes};
+ghost use Rattle.geometry.specs.declared.error.Error.TheVariants.{Device, NoMemory};
 ghost use Rattle.tool_files.specs.Folder.{Row, IsRow};
 ghost use Rattle.tool_files.specs.Names.{file_at, HasFolder, HasNoRow, IsPlace, IsRowPlace};
 ghost use Rattle.tool_files.specs.Rows.{row_of};

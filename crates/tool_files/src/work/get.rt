@@ -17,7 +17,15 @@ pub struct Get<'a> {
 }
 
 impl<'a, M: Meta, B: Block + Drop> Work<M, B> for Get<'a> {
+    ghost use Rattle.std.specs.Prelude.{◌≡◌, IfOk};
+    ghost use Rattle.geometry.specs.Shape.{block_bytes};
+    ghost use Rattle.tool_files.specs.Names.{HasFile};
+
     type Output = Result<Vec<u8>, Refusal>;
+
+    // The bytes are those of the file of the name, and no file is changed.
+    ghost post = { λ get geometry before output after. (after ≡ before)
+        × IfOk output (λ bytes. HasFile (block_bytes geometry.shape) before get.name.now bytes.items) };
 
     fn run<V: VolumeName, R: Wait>(
         self,
@@ -52,7 +60,17 @@ pub struct GetNumber {
 }
 
 impl<M: Meta, B: Block + Drop> Work<M, B> for GetNumber {
+    ghost use Rattle.std.specs.Prelude.{◌≡◌, Some, IfOk};
+    ghost use Rattle.geometry.specs.File.{File};
+    ghost use Rattle.geometry.specs.Shape.{block_bytes};
+    ghost use Rattle.tool_files.specs.Content.{all_bytes};
+    ghost use Rattle.tool_files.specs.Names.{file_at};
+
     type Output = Result<Vec<u8>, Refusal>;
+
+    // The bytes are all those of the file of the number, and no file is changed.
+    ghost post = { λ get geometry before output after. (after ≡ before)
+        × IfOk output (λ bytes. (file : File) × (file_at get.number before ≡ Some file) × (bytes.items ≡ all_bytes (block_bytes geometry.shape) file)) };
 
     fn run<V: VolumeName, R: Wait>(
         self,

@@ -28,7 +28,12 @@ pub struct Listing {
 pub struct List;
 
 impl<M: Meta, B: Block + Drop> Work<M, B> for List {
+    ghost use Rattle.std.specs.Prelude.{◌≡◌};
+
     type Output = Listing;
+
+    // No file is changed.
+    ghost post = { λ list geometry before listing after. after ≡ before };
 
     fn run<V: VolumeName, R: Wait>(
         self,

@@ -1,4 +1,10 @@
 //! A file gets its bytes.
+ghost use Rattle.std.specs.Prelude.{◌≡◌, ◌≢◌, ◌<◌, ◌⊎◌, ℕ, List, All, Some, None, length, map, IsUtf8, IfOk, IfSome, IfNone, OnOk};
+ghost use Rattle.geometry.specs.Shape.{block_bytes};
+ghost use Rattle.tool_files.specs.Folder.{IsRow};
+ghost use Rattle.tool_files.specs.Names.{file_at, HasNoRow, IsRowPlace, Renews, WasWritten};
+ghost use Rattle.tool_files.specs.Rows.{row_of};
+
 use crate::content::write_all;
 use crate::entry::{Entry, is_name};
 use crate::refusal::Refusal;
@@ -25,7 +31,16 @@ pub struct Put<'a> {
 }
 
 impl<'a, M: Meta, B: Block + Drop> Work<M, B> for Put<'a> {
+    ghost use Rattle.std.specs.Prelude.{◌≡◌, MatchResult};
+    ghost use Rattle.geometry.specs.Shape.{block_bytes};
+    ghost use Rattle.tool_files.specs.Names.{WasPut};
+
     type Output = Result<u32, Refusal>;
+
+    // The file of the name has the bytes, and nothing else changes; or nothing does.
+    ghost post = { λ put geometry before output after. MatchResult output
+        (λ number. WasPut (block_bytes geometry.shape) put.name.now put.bytes.now number before after)
+        (λ refusal. after ≡ before) };
 
     fn run<V: VolumeName, R: Wait>(
         self,
@@ -41,78 +56,89 @@ impl<'a, M: Meta, B: Block + Drop> Work<M, B> for Put<'a> {
             return Ok(Err(Refusal::NoFolder));
         };
         let row = row_at(entries.as_slice(), self.name);
-        let held = held_place(entries.as_slice(), row, rights.passes.as_slice());
-        let number = match held {
-            Some(place) => {
-                let pass = &mut rights.passes.as_mut_slice()[place];
-                write_all(rt, alloc, volume, pass, self.bytes, self.now)?;
-                pass.number()
-            }
-            None => self.make(rt, alloc, volume, &mut rights.passes)?,
+        let held = match row {
+            Some(row) => entries[row].number,
+            None => 0,
         };
-        self.name_it(alloc, &mut entries, row, number)?;
+        let passes = &mut rights.passes;
+        let number = write_file(rt, alloc, volume, passes, held, self.bytes, self.now)?;
+        let bytes = self.bytes.len() as u64;
+        renew(alloc, &mut entries, row, self.name, number, bytes)?;
         let passes = rights.passes.as_mut_slice();
         write_folder(rt, alloc, volume, passes, entries.as_slice(), self.now)?;
         Ok(Ok(number))
     }
 }
 
-impl<'a> Put<'a> {
-    // A new file has the bytes.
-    fn make<V: VolumeName, M: Meta, B: Block + Drop, R: Wait>(
-        &self,
-        rt: &R,
-        alloc: Global,
-        volume: &Volume<V, M, B>,
-        passes: &mut Vec<FilePass<V>>,
-    ) -> Result<u32, Error> {
-        let mut pass = volume.create(rt, Kind::File)?;
-        let number = pass.number();
-        if place_of(passes.as_slice(), number).is_some() {
-            // Nothing ties a new number to the passes, so it is compared; no pass has it.
-            return Err(Error::NoFile);
+// The file of a number has the bytes, or a new one where there is none. Answers its number.
+fn write_file<V: VolumeName, M: Meta, B: Block + Drop, R: Wait>(
+    rt: &R,
+    alloc: Global,
+    volume: &Volume<V, M, B>,
+    passes: &mut Vec<FilePass<V>>,
+    number: u32,
+    bytes: &[u8],
+    now: u64,
+) -> Result<u32, Error>
+    ensures written { IfOk result (λ there. WasWritten (block_bytes V.Numbers.geometry.shape) bytes.now there passes.old.items passes.new.items) }
+    ensures number { IfOk result (λ there. (there ≡ number) ⊎ ((0 < there) × (file_at there passes.old.items ≡ None))) }
+{
+    match place_of(passes.as_slice(), number) {
+        Some(place) => {
+            let pass = &mut passes.as_mut_slice()[place];
+            write_all(rt, alloc, volume, pass, bytes, now)?;
+            Ok(number)
         }
-        write_all(rt, alloc, volume, &mut pass, self.bytes, self.now)?;
-        passes.push(pass)?;
-        Ok(number)
-    }
-
-    // The row of the name tells this file and the length of the bytes.
-    fn name_it(
-        &self,
-        alloc: Global,
-        entries: &mut Vec<Entry>,
-        row: Option<usize>,
-        number: u32,
-    ) -> Result<(), Error> {
-        let bytes = self.bytes.len() as u64;
-        match row {
-            Some(place) => {
-                let entry = &mut entries.as_mut_slice()[place];
-                entry.number = number;
-                entry.bytes = bytes;
-            }
-            None => {
-                let name = String::from_str(alloc, self.name)?;
-                entries.push(Entry {
-                    name,
-                    number,
-                    bytes,
-                })?;
-            }
-        }
-        Ok(())
+        None => write_new(rt, alloc, volume, passes, bytes, now),
     }
 }
 
-// Where the pass of the file of a row is.
-fn held_place<V: VolumeName>(
-    entries: &[Entry],
-    row: Option<usize>,
-    passes: &[FilePass<V>],
-) -> Option<usize> {
-    match row {
-        Some(row) => place_of(passes, entries[row].number),
-        None => None,
+// A new file has the bytes. Answers its number.
+fn write_new<V: VolumeName, M: Meta, B: Block + Drop, R: Wait>(
+    rt: &R,
+    alloc: Global,
+    volume: &Volume<V, M, B>,
+    passes: &mut Vec<FilePass<V>>,
+    bytes: &[u8],
+    now: u64,
+) -> Result<u32, Error>
+    ensures written { IfOk result (λ number. WasWritten (block_bytes V.Numbers.geometry.shape) bytes.now number passes.old.items passes.new.items) }
+    ensures new { IfOk result (λ number. (0 < number) × (file_at number passes.old.items ≡ None)) }
+{
+    let mut pass = volume.create(rt, Kind::File)?;
+    let number = pass.number();
+    if place_of(passes.as_slice(), number).is_some() {
+        // Nothing ties a new number to the passes, so it is compared; no pass has it.
+        return Err(Error::NoFile);
     }
+    write_all(rt, alloc, volume, &mut pass, bytes, now)?;
+    passes.push(pass)?;
+    Ok(number)
+}
+
+// The row of a name tells this file and how many bytes it has; where there is none it is put behind all.
+fn renew(
+    alloc: Global,
+    entries: &mut Vec<Entry>,
+    row: Option<usize>,
+    name: &str,
+    number: u32,
+    bytes: u64,
+) -> Result<(), Error>
+    requires within { IfSome row (λ place. place < length entries.old.items) }
+    requires some { IfSome row (λ place. IsRowPlace name.now (map row_of entries.old.items) place) }
+    requires none { IfNone row (HasNoRow name.now (map row_of entries.old.items)) }
+    ensures renewed { OnOk result (Renews (record { name = name.now; number = number; bytes = bytes }) (map row_of entries.old.items) (map row_of entries.new.items)) }
+    ensures rows { OnOk result (1 < number → All IsRow (map row_of entries.old.items) → All IsRow (map row_of entries.new.items)) }
+{
+    let entry = Entry {
+        name: String::from_str(alloc, name)?,
+        number,
+        bytes,
+    };
+    match row {
+        Some(place) => entries.as_mut_slice()[place] = entry,
+        None => entries.push(entry)?,
+    }
+    Ok(())
 }
