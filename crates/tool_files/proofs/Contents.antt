@@ -1,5 +1,5 @@
 -- What a write and a cut do to the bytes of a file's first blocks.
-use Rattle.std.proofs.Common.{◌≡◌, ◌≢◌, ◌∙◌, ◌+◌, ◌-◌, ◌++◌, ◌<◌, ◌≤◌, ℕ, zero, suc, List, [], Some, None, min, max, cond, nat_lt, unwrap_or, replicate, length, ap, ap₂, sym, subst, refl, eq-eqb, ne_eqb, add-one, inl, inr, ◌⊎◌, arith}
+use Rattle.std.proofs.Common.{◌≡◌, ◌≢◌, ◌∙◌, ◌+◌, ◌-◌, ◌++◌, ◌<◌, ◌≤◌, ℕ, zero, suc, List, [], Some, None, min, max, cond, nat_lt, unwrap_or, replicate, length, ap, ap₂, sym, subst, refl, eq-eqb, ne_eqb, add-one, lit<, inl, inr, ◌⊎◌, arith}
 use borrow.Author.Tests.{lt-ltb}
 use Rattle.std.proofs.lemmas.Bool.{cases_lt}
 use Rattle.std.proofs.lemmas.Cmp.{nat_cmp_total}
@@ -8,7 +8,14 @@ use Rattle.std.specs.Cmp.{unsigned_tied}
 use Rattle.std.specs.FinMap.{FinMap, get, insert, get-insert, get-retain_keys, nat_cmp-IsAntisymmetric}
 use Rattle.std.specs.Ordering.{nat_cmp}
 use Rattle.geometry.specs.File.{File, Block, bytes_at, written, cut_to}
+use Rattle.geometry.specs.Shape.{block_bytes}
+use Rattle.geometry.specs.declared.shape.Shape.{Shape}
+use Rattle.geometry.specs.declared.shape.Shape.TheVariants.{Tiny, Kernel}
 use Rattle.tool_files.specs.Content.{front_bytes, all_bytes, HasBytes}
+
+pub block_some : (shape : Shape) → 0 < block_bytes shape
+block_some Tiny = lit< tt
+block_some Kernel = lit< tt
 
 got : (m : FinMap nat_cmp Block) (k : ℕ) (v : Block) → get (insert m k v) k ≡ Some v
 got m k v = get-insert nat_cmp_total m k v k ∙ ap (λ b. cond b (Some v) (get m k)) (unsigned_tied k k ∙ eq-eqb k k refl)

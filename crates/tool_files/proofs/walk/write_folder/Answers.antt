@@ -18,8 +18,7 @@ returns-in_ok-bytes-in-Some-clause-folder g c =
     let pass = c.index-passes-place.result in
     let new = c.write_all.new.pass in
     let here : IsPlace 1 passes place = c.in-Some.ensures.some in
-    let is : pass ≡ get_or passes place pass = search rules in
-    let number : new.number ≡ 1 = c.write_all.ensures.number ∙ ap (λ p. p.number) is ∙ number_at_place 1 passes place pass here in
+    let number : new.number ≡ 1 = c.write_all.ensures.number ∙ number_at_place 1 passes place pass here in
     let few : length entries < 2 ^ 64 = search rules in
     on_ok c.write_all.result (HasBytes size c.as_slice.result.now new.file) _
         (λ has. record {
@@ -40,5 +39,4 @@ returns-in_ok-bytes-in-Some-clause-others g c =
     let place = c.in-Some.place in
     let pass = c.index-passes-place.result in
     let here : IsPlace 1 passes place = c.in-Some.ensures.some in
-    let is : pass ≡ get_or passes place pass = search rules in
-    λ n other. set_other 1 passes place c.write_all.new.pass here (c.write_all.ensures.number ∙ ap (λ p. p.number) is ∙ number_at_place 1 passes place pass here) n other
+    λ n other. set_other 1 passes place c.write_all.new.pass here (c.write_all.ensures.number ∙ number_at_place 1 passes place pass here) n other
