@@ -65,7 +65,7 @@ fn make<R: AllocGlobal + Wait + Files<File = File>, O: Write>(
     let geometry = Geometry::new(shape, segments, per_section, files, nodes)?;
     let parts = create_image(rt, rt.alloc(), image, &geometry)?;
     work_on_new(rt, rt.alloc(), parts, geometry, Leave::Close, MakeFolder)?;
-    let bytes = u64::from(geometry.blocks()) * u64::from(shape.block_bytes());
+    let bytes = u64::from(geometry.blocks()).saturating_mul(u64::from(shape.block_bytes()));
     writeln!(out, "made {image}: {segments} segments, {bytes} bytes, at most {files} files")?;
     Ok(())
 }

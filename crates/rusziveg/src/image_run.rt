@@ -32,7 +32,10 @@ pub fn put_making_room<R: AllocGlobal + Wait>(
 ) -> Result<(FileParts, Result<u32, Refusal>), Fault> {
     match work_on(rt, rt.alloc(), parts, Leave::Close, put) {
         Ok(done) => Ok((done.parts, done.output)),
-        Err(fault) if fault.stage == Stage::Work && fault.error == Error::NoSpace => {
+        Err(fault) => {
+            if fault.stage != Stage::Work || fault.error != Error::NoSpace {
+                return Err(Fault::from(fault));
+            }
             let clean = Clean {
                 policy: Policy::Foreground,
                 most: MOST_SECTIONS,
@@ -42,7 +45,6 @@ pub fn put_making_room<R: AllocGlobal + Wait>(
             let done = work_on(rt, rt.alloc(), cleaned.parts, Leave::Close, put)?;
             Ok((done.parts, done.output))
         }
-        Err(fault) => Err(Fault::from(fault)),
     }
 }
 

@@ -15,9 +15,10 @@ mod words;
 use commands::obey;
 use fault::Fault;
 use screen::Screen;
-use std::env;
 use std::io::{BufWriter, IsTerminal, Write};
 use std::process::ExitCode;
+use std::rt::Runtime;
+use std::{env, io};
 use words::{Words, read_words};
 
 // The bytes of output that are put together at most.
@@ -30,9 +31,9 @@ fn main(rt: HostRuntime) -> ExitCode {
         progress: errors.is_terminal(),
         colours: out.is_terminal() && !refuses_colours(env::var(&rt, "NO_COLOR")),
     };
-    let all = match env::args(&rt).map(|args| args.collect::<Vec<String>>(rt.alloc())) {
-        Ok(Ok(all)) => all,
-        _ => return ExitCode::from(Fault::NoWords.tell(&mut errors)),
+    let all = match all_words(&rt) {
+        Ok(all) => all,
+        Err(fault) => return ExitCode::from(fault.tell(&mut errors)),
     };
     let words = match read_words(rt.alloc(), all.as_slice()) {
         Ok(words) => words,
@@ -45,14 +46,29 @@ fn main(rt: HostRuntime) -> ExitCode {
         Ok(out) => out,
         Err(error) => return ExitCode::from(Fault::Stream(error).tell(&mut errors)),
     };
-    let done = match obey(&rt, screen, &words, &mut out, &mut errors) {
-        Ok(status) => out.flush().map(|()| status).map_err(Fault::Stream),
-        Err(fault) => Err(fault),
-    };
-    ExitCode::from(match done {
+    let status = match obey(&rt, screen, &words, &mut out, &mut errors) {
         Ok(status) => status,
-        Err(fault) => fault.tell(&mut errors),
-    })
+        Err(fault) => return ExitCode::from(fault.tell(&mut errors)),
+    };
+    match out.flush() {
+        Ok(()) => ExitCode::from(status),
+        Err(error) => ExitCode::from(Fault::Stream(error).tell(&mut errors)),
+    }
+}
+
+// The words of the call, the program's own name first.
+fn all_words<R: Runtime + AllocGlobal>(rt: &R) -> Result<Vec<String>, Fault> {
+    let mut words = Vec::new(rt.alloc());
+    match env::args(rt) {
+        Ok(all) => {
+            for word in all {
+                words.push(word)?;
+            }
+        }
+        Err(error) if error.kind() == io::ErrorKind::InvalidData => return Err(Fault::NoWords),
+        Err(error) => return Err(Fault::Stream(error)),
+    }
+    Ok(words)
 }
 
 // Whether the environment asks for no colours: where NO_COLOR has any text (no-color.org).

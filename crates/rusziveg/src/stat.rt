@@ -75,9 +75,9 @@ fn facts_of(geometry: &Geometry, image: &Image) -> Facts {
         free_segments: image.free(geometry),
         blocks: geometry.blocks(),
         valid_blocks: image.total,
-        files: files as u32,
+        files: u32::try_from(files).unwrap_or(u32::MAX),
         most_files: geometry.files,
-        nodes: nodes as u32,
+        nodes: u32::try_from(nodes).unwrap_or(u32::MAX),
         most_nodes: geometry.nodes,
     }
 }

@@ -76,8 +76,8 @@ fn opacity_of(look: Look, time: u64, oldest: u64, youngest: u64) -> u64 {
     if look != Look::Sealed || span == 0 {
         return 9;
     }
-    let age = youngest.saturating_sub(time).min(span);
-    9 - (u128::from(age) * 6 / u128::from(span)) as u64
+    let age = youngest.saturating_sub(time);
+    9u64.saturating_sub(age / (span / 6 + 1)).max(3)
 }
 
 fn draw_legend<O: Write>(top: u32, out: &mut O) -> Result<(), Fault> {

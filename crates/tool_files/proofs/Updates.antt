@@ -1,10 +1,10 @@
 -- What is found by a number or a name after a pass or a row was set, pushed or removed.
-use Rattle.std.proofs.Common.{◌≡◌, ◌≢◌, ◌∙◌, ◌⊎◌, ◌++◌, ◌<◌, ℕ, zero, suc, List, [], ◌∷◌, Option, Some, None, cond, ◌==◌, length, set, remove, ap, sym, refl, inl, inr, ne_eqb, eq-eqb, arith}
+use Rattle.std.proofs.Common.{◌≡◌, ◌≢◌, ◌∙◌, ◌⊎◌, ◌++◌, ◌<◌, ℕ, zero, suc, List, [], ◌∷◌, Option, Some, None, cond, ◌==◌, length, set, remove, get_or, map, ap, sym, refl, inl, inr, ne_eqb, eq-eqb, arith}
 use Rattle.std.proofs.lemmas.Bool.{cases_eq}
 use Rattle.file_cells.specs.Pass.{Pass}
 use Rattle.geometry.specs.File.{File}
 use Rattle.tool_files.specs.Folder.{Row}
-use Rattle.tool_files.specs.Names.{file_at, HasNoRow, IsPlace, IsRowPlace, Renews}
+use Rattle.tool_files.specs.Names.{file_at, HasNoRow, IsPlace, IsRowOf, IsRowPlace, Removes, Renames, Renews}
 
 pub set_file : (number : ℕ) (passes : List Pass) (place : ℕ) (pass : Pass) → IsPlace number passes place → pass.number ≡ number
     → file_at number (set passes place pass) ≡ Some pass.file
@@ -52,3 +52,25 @@ renews_set row (r ∷ rows) (suc place) here = inr (here.0, (set rows place row,
 pub renews_push : (row : Row) (rows : List Row) → HasNoRow row.name rows → Renews row rows (rows ++ row ∷ [])
 renews_push row [] none = refl
 renews_push row (r ∷ rows) none = inr (none.0, (rows ++ row ∷ [], refl, renews_push row rows none.1))
+
+pub removes_at : (name : List ℕ) (rows : List Row) (place : ℕ) → IsRowPlace name rows place → Removes name rows (remove rows place)
+removes_at name [] place here = absurd here
+removes_at name (r ∷ rows) zero here = inl (here, refl)
+removes_at name (r ∷ rows) (suc place) here = inr (here.0, (remove rows place, refl, removes_at name rows place here.1))
+
+pub renames_at : (name to : List ℕ) (rows : List Row) (place : ℕ) (other : Row) → IsRowPlace name rows place
+    → Renames name to rows (set rows place (record (get_or rows place other) { name = to }))
+renames_at name to [] place other here = absurd here
+renames_at name to (r ∷ rows) zero other here = inl (here, refl)
+renames_at name to (r ∷ rows) (suc place) other here =
+    inr (here.0, (set rows place (record (get_or rows place other) { name = to }), refl, renames_at name to rows place other here.1))
+
+pub row_of_place : (name : List ℕ) (rows : List Row) (place : ℕ) (other : Row) → IsRowPlace name rows place → IsRowOf name rows (get_or rows place other)
+row_of_place name [] place other here = absurd here
+row_of_place name (r ∷ rows) zero other here = inl (here, refl)
+row_of_place name (r ∷ rows) (suc place) other here = inr (here.0, row_of_place name rows place other here.1)
+
+pub map-remove : {X Y : Type 0} (f : X → Y) (xs : List X) (i : ℕ) → map f (remove xs i) ≡ remove (map f xs) i
+map-remove f [] i = refl
+map-remove f (x ∷ xs) zero = refl
+map-remove f (x ∷ xs) (suc i) = ap (λ ys. f x ∷ ys) (map-remove f xs i)

@@ -37,6 +37,18 @@ Renews row [] after = after ≡ row ∷ []
 Renews row (other ∷ rows) after =
     ((other.name ≡ row.name) × (after ≡ row ∷ rows)) ⊎ ((other.name ≢ row.name) × ((rest : List Row) × (after ≡ other ∷ rest) × Renews row rows rest))
 
+-- the first row of the name goes
+abbrev pub Removes : List ℕ → List Row → List Row → Type 0
+Removes name [] after = ⊥
+Removes name (row ∷ rows) after =
+    ((row.name ≡ name) × (after ≡ rows)) ⊎ ((row.name ≢ name) × ((rest : List Row) × (after ≡ row ∷ rest) × Removes name rows rest))
+
+-- the first row of the name gets another
+abbrev pub Renames : List ℕ → List ℕ → List Row → List Row → Type 0
+Renames name to [] after = ⊥
+Renames name to (row ∷ rows) after =
+    ((row.name ≡ name) × (after ≡ record row { name = to } ∷ rows)) ⊎ ((row.name ≢ name) × ((rest : List Row) × (after ≡ row ∷ rest) × Renames name to rows rest))
+
 -- the folder among the passes, where a block has so many bytes, has these rows
 pub record HasFolder (size : ℕ) (passes : List Pass) (rows : List Row) : Type 0 where
   pub folder : File
@@ -71,3 +83,23 @@ pub record WasPut (size : ℕ) (name bytes : List ℕ) (number : ℕ) (before af
   pub there : file_at number after ≡ Some file
   pub content : HasBytes size bytes file
   pub others : (n : ℕ) → n ≢ 1 → n ≢ number → file_at n after ≡ file_at n before
+
+-- the name is gone from the folder, and all files but that of its row are as they were
+pub record WasRemoved (size : ℕ) (name : List ℕ) (before after : List Pass) : Type 0 where
+  pub rows : List Row
+  pub had_folder : HasFolder size before rows
+  pub row : Row
+  pub named : IsRowOf name rows row
+  pub left : List Row
+  pub has_folder : HasFolder size after left
+  pub removes : Removes name rows left
+  pub others : (n : ℕ) → n ≢ 1 → n ≢ row.number → file_at n after ≡ file_at n before
+
+-- the folder has another name for the file, and all files are as they were
+pub record WasRenamed (size : ℕ) (name to : List ℕ) (before after : List Pass) : Type 0 where
+  pub rows : List Row
+  pub had_folder : HasFolder size before rows
+  pub renamed : List Row
+  pub has_folder : HasFolder size after renamed
+  pub renames : Renames name to rows renamed
+  pub others : (n : ℕ) → n ≢ 1 → file_at n after ≡ file_at n before

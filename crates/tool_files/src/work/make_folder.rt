@@ -14,7 +14,14 @@ use volume::Volume;
 pub struct MakeFolder;
 
 impl<M: Meta, B: Block + Drop> Work<M, B> for MakeFolder {
+    ghost use Rattle.std.specs.Prelude.{[]};
+    ghost use Rattle.geometry.specs.Shape.{block_bytes};
+    ghost use Rattle.tool_files.specs.Names.{HasFolder};
+
     type Output = ();
+
+    // There is a folder without rows.
+    ghost post = { λ made geometry before output after. HasFolder (block_bytes geometry.shape) after [] };
 
     fn run<V: VolumeName, R: Wait>(
         self,

@@ -1,7 +1,11 @@
 //! A file goes.
+ghost use Rattle.std.specs.Prelude.{◌≡◌, ◌≢◌, ℕ, OnOk};
+ghost use Rattle.tool_files.specs.Names.{file_at};
+
 use crate::refusal::Refusal;
 use crate::walk::{place_of, read_folder, row_at, write_folder};
 use device::{Block, Meta};
+use file_cells::FilePass;
 use flash_volume::{Rights, Work};
 use geometry::Error;
 use rights_names::VolumeName;
@@ -18,7 +22,16 @@ pub struct Remove<'a> {
 }
 
 impl<'a, M: Meta, B: Block + Drop> Work<M, B> for Remove<'a> {
+    ghost use Rattle.std.specs.Prelude.{◌≡◌, MatchResult};
+    ghost use Rattle.geometry.specs.Shape.{block_bytes};
+    ghost use Rattle.tool_files.specs.Names.{WasRemoved};
+
     type Output = Result<(), Refusal>;
+
+    // The name is gone, and no file of another row changes; or nothing does.
+    ghost post = { λ remove geometry before output after. MatchResult output
+        (λ _. WasRemoved (block_bytes geometry.shape) remove.name.now before after)
+        (λ refusal. after ≡ before) };
 
     fn run<V: VolumeName, R: Wait>(
         self,
@@ -34,14 +47,30 @@ impl<'a, M: Meta, B: Block + Drop> Work<M, B> for Remove<'a> {
             return Ok(Err(Refusal::NoSuchFile));
         };
         let entry = entries.remove(row);
-        if let Some(place) = place_of(rights.passes.as_slice(), entry.number) {
-            let pass = rights.passes.remove(place);
-            if let Err((_pass, error)) = volume.delete(rt, pass) {
-                return Err(error);
-            }
-        }
+        delete_file(rt, volume, &mut rights.passes, entry.number)?;
         let passes = rights.passes.as_mut_slice();
         write_folder(rt, alloc, volume, passes, entries.as_slice(), self.now)?;
         Ok(Ok(()))
+    }
+}
+
+// Deletes the file of a number, where there is one.
+fn delete_file<V: VolumeName, M: Meta, B: Block + Drop, R: Wait>(
+    rt: &R,
+    volume: &Volume<V, M, B>,
+    passes: &mut Vec<FilePass<V>>,
+    number: u32,
+) -> Result<(), Error>
+    ensures others { OnOk result ((n : ℕ) → n ≢ number → file_at n passes.new.items ≡ file_at n passes.old.items) }
+{
+    match place_of(passes.as_slice(), number) {
+        Some(place) => {
+            let pass = passes.remove(place);
+            match volume.delete(rt, pass) {
+                Ok(()) => Ok(()),
+                Err((_pass, error)) => Err(error),
+            }
+        }
+        None => Ok(()),
     }
 }

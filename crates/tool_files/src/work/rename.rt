@@ -20,7 +20,16 @@ pub struct Rename<'a> {
 }
 
 impl<'a, M: Meta, B: Block + Drop> Work<M, B> for Rename<'a> {
+    ghost use Rattle.std.specs.Prelude.{◌≡◌, MatchResult};
+    ghost use Rattle.geometry.specs.Shape.{block_bytes};
+    ghost use Rattle.tool_files.specs.Names.{WasRenamed};
+
     type Output = Result<(), Refusal>;
+
+    // The file has the new name, and no file changes but the folder; or nothing does.
+    ghost post = { λ rename geometry before output after. MatchResult output
+        (λ _. WasRenamed (block_bytes geometry.shape) rename.name.now rename.to.now before after)
+        (λ refusal. after ≡ before) };
 
     fn run<V: VolumeName, R: Wait>(
         self,
