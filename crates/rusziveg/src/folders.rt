@@ -1,9 +1,12 @@
 //! Many files at once, from and to a folder of the system.
+ghost use Rattle.std.specs.Prelude.{ℕ, IfOk};
+ghost use Rattle.device.specs.Parts.{IsBlockRun};
+
 use crate::fault::Fault;
 use crate::image_run::{now, put_making_room};
 use crate::screen::Screen;
-use file_device::{FileParts, open_image};
-use flash_volume::{Leave, work_on};
+use file_device::{FileBlock, FileParts, open_image};
+use flash_volume::{Block, Leave, work_on};
 use std::alloc::Global;
 use std::fs;
 use std::fs::{File, Files};
@@ -106,7 +109,10 @@ fn import_one<R: Runtime + AllocGlobal + Wait + Files<File = File>>(
     parts: FileParts,
     folder: &str,
     name: &str,
-) -> Result<FileParts, Fault> {
+) -> Result<FileParts, Fault>
+    requires run { (bytes : ℕ) × IsBlockRun ⟦<FileBlock<File> as Block>⟧.address_of ⟦<FileBlock<File> as Block>⟧.content_of bytes 1 parts.blocks.items }
+    ensures run { IfOk result (λ left. (bytes : ℕ) × IsBlockRun ⟦<FileBlock<File> as Block>⟧.address_of ⟦<FileBlock<File> as Block>⟧.content_of bytes 1 left.blocks.items) }
+{
     let path = format!(in rt.alloc(); "{folder}/{name}")?;
     let mut bytes = Vec::new(rt.alloc());
     File::open(rt, path.as_str())?.read_to_end(&mut bytes)?;

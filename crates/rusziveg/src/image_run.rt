@@ -1,7 +1,10 @@
 //! Work on the volume of an image file.
+ghost use Rattle.std.specs.Prelude.{ℕ, IfOk};
+ghost use Rattle.device.specs.Parts.{IsBlockRun};
+
 use crate::fault::Fault;
 use file_device::{FileBlock, FileMeta, FileParts, open_image};
-use flash_volume::{Error, Leave, Stage, Work, work_on};
+use flash_volume::{Block, Error, Geometry, Leave, Stage, Work, work_on};
 use image::Image;
 use packs_format::ReadImage;
 use std::fs;
@@ -29,7 +32,10 @@ pub fn put_making_room<R: AllocGlobal + Wait>(
     rt: &R,
     parts: FileParts,
     put: Put<'_>,
-) -> Result<(FileParts, Result<u32, Refusal>), Fault> {
+) -> Result<(FileParts, Result<u32, Refusal>), Fault>
+    requires run { (bytes : ℕ) × IsBlockRun ⟦<FileBlock<File> as Block>⟧.address_of ⟦<FileBlock<File> as Block>⟧.content_of bytes 1 parts.blocks.items }
+    ensures run { IfOk result (λ done. (bytes : ℕ) × IsBlockRun ⟦<FileBlock<File> as Block>⟧.address_of ⟦<FileBlock<File> as Block>⟧.content_of bytes 1 done.0.blocks.items) }
+{
     match work_on(rt, rt.alloc(), parts, Leave::Close, put) {
         Ok(done) => Ok((done.parts, done.output)),
         Err(fault) => {
@@ -52,7 +58,7 @@ pub fn put_making_room<R: AllocGlobal + Wait>(
 pub fn read_image<R: AllocGlobal + Files<File = File>>(
     rt: &R,
     path: &str,
-) -> Result<(flash_volume::Geometry, Image), Fault> {
+) -> Result<(Geometry, Image), Fault> {
     if !fs::metadata(rt, path).map_err(Fault::Image)?.is_file() {
         return Err(Fault::NotAFile);
     }

@@ -5,3 +5,4 @@ mod Got
 mod Places
 mod Spelling
 mod Updates
+mod Works

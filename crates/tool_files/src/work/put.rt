@@ -1,5 +1,6 @@
 //! A file gets its bytes.
-ghost use Rattle.std.specs.Prelude.{◌≡◌, ◌≢◌, ◌<◌, ◌⊎◌, ℕ, List, All, Some, None, length, map, IsUtf8, IfOk, IfSome, IfNone, OnOk};
+ghost use Rattle.std.specs.Prelude.{◌≡◌, ◌<◌, All, Some, length, map, IfOk, IfSome, IfNone, OnOk};
+ghost use Rattle.geometry.specs.File.{File};
 ghost use Rattle.geometry.specs.Shape.{block_bytes};
 ghost use Rattle.tool_files.specs.Folder.{IsRow};
 ghost use Rattle.tool_files.specs.Names.{file_at, HasNoRow, IsRowPlace, Renews, WasWritten};
@@ -56,17 +57,40 @@ impl<'a, M: Meta, B: Block + Drop> Work<M, B> for Put<'a> {
             return Ok(Err(Refusal::NoFolder));
         };
         let row = row_at(entries.as_slice(), self.name);
-        let held = match row {
-            Some(row) => entries[row].number,
-            None => 0,
-        };
+        let held = entries.as_slice();
         let passes = &mut rights.passes;
-        let number = write_file(rt, alloc, volume, passes, held, self.bytes, self.now)?;
+        let number = write_row(rt, alloc, volume, passes, held, row, self.bytes, self.now)?;
         let bytes = self.bytes.len() as u64;
         renew(alloc, &mut entries, row, self.name, number, bytes)?;
         let passes = rights.passes.as_mut_slice();
         write_folder(rt, alloc, volume, passes, entries.as_slice(), self.now)?;
         Ok(Ok(number))
+    }
+}
+
+// The file of a row has the bytes, or a new one where there is none. Answers its number.
+fn write_row<V: VolumeName, M: Meta, B: Block + Drop, R: Wait>(
+    rt: &R,
+    alloc: Global,
+    volume: &Volume<V, M, B>,
+    passes: &mut Vec<FilePass<V>>,
+    entries: &[Entry],
+    row: Option<usize>,
+    bytes: &[u8],
+    now: u64,
+) -> Result<u32, Error>
+    requires within { IfSome row (λ place. place < length entries.now) }
+    requires rows { All IsRow (map row_of entries.now) }
+    requires folder { (folder : File) × (file_at 1 passes.old.items ≡ Some folder) }
+    ensures written { IfOk result (λ number. WasWritten (block_bytes V.Numbers.geometry.shape) bytes.now number passes.old.items passes.new.items) }
+    ensures past { IfOk result (λ number. 1 < number) }
+{
+    match row {
+        Some(place) => {
+            let number = entries[place].number;
+            write_file(rt, alloc, volume, passes, number, bytes, now)
+        }
+        None => write_new(rt, alloc, volume, passes, bytes, now),
     }
 }
 
@@ -80,8 +104,10 @@ fn write_file<V: VolumeName, M: Meta, B: Block + Drop, R: Wait>(
     bytes: &[u8],
     now: u64,
 ) -> Result<u32, Error>
+    requires past { 1 < number }
+    requires folder { (folder : File) × (file_at 1 passes.old.items ≡ Some folder) }
     ensures written { IfOk result (λ there. WasWritten (block_bytes V.Numbers.geometry.shape) bytes.now there passes.old.items passes.new.items) }
-    ensures number { IfOk result (λ there. (there ≡ number) ⊎ ((0 < there) × (file_at there passes.old.items ≡ None))) }
+    ensures past { IfOk result (λ there. 1 < there) }
 {
     match place_of(passes.as_slice(), number) {
         Some(place) => {
@@ -102,8 +128,9 @@ fn write_new<V: VolumeName, M: Meta, B: Block + Drop, R: Wait>(
     bytes: &[u8],
     now: u64,
 ) -> Result<u32, Error>
+    requires folder { (folder : File) × (file_at 1 passes.old.items ≡ Some folder) }
     ensures written { IfOk result (λ number. WasWritten (block_bytes V.Numbers.geometry.shape) bytes.now number passes.old.items passes.new.items) }
-    ensures new { IfOk result (λ number. (0 < number) × (file_at number passes.old.items ≡ None)) }
+    ensures past { IfOk result (λ number. 1 < number) }
 {
     let mut pass = volume.create(rt, Kind::File)?;
     let number = pass.number();
