@@ -1,8 +1,3 @@
 mod Cases
-mod Contents
 mod Fields
-mod Got
-mod Places
 mod Spelling
-mod Updates
-mod Works
