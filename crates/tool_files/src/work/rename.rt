@@ -1,0 +1,59 @@
+//! A file gets another name.
+use crate::entry::is_name;
+use crate::refusal::Refusal;
+use crate::walk::{read_folder, row_at, write_folder};
+use device::{Block, Meta};
+use flash_volume::{Rights, Work};
+use geometry::Error;
+use rights_names::VolumeName;
+use std::alloc::Global;
+use std::sync::Wait;
+use volume::Volume;
+
+/// A file gets another name, which no file has.
+#[derive(Clone, Copy, Drop)]
+pub struct Rename<'a> {
+    pub name: &'a str,
+    pub to: &'a str,
+    /// The time of the writes, in seconds.
+    pub now: u64,
+}
+
+impl<'a, M: Meta, B: Block + Drop> Work<M, B> for Rename<'a> {
+    ghost use Rattle.std.specs.Prelude.{◌≡◌, MatchResult};
+    ghost use Rattle.geometry.specs.Shape.{block_bytes};
+    ghost use Rattle.tool_files.specs.Names.{WasRenamed};
+
+    type Output = Result<(), Refusal>;
+
+    // The file has the new name, and no file changes but the folder; or nothing does.
+    ghost post = { λ rename geometry before output after. MatchResult output
+        (λ _. WasRenamed (block_bytes geometry.shape) rename.name.now rename.to.now before after)
+        (λ refusal. after ≡ before) };
+
+    fn run<V: VolumeName, R: Wait>(
+        self,
+        rt: &R,
+        alloc: Global,
+        volume: &Volume<V, M, B>,
+        rights: &mut Rights<V>,
+    ) -> Result<Result<(), Refusal>, Error> {
+        if !is_name(self.to) {
+            return Ok(Err(Refusal::BadName));
+        }
+        let Some(mut entries) = read_folder(rt, alloc, volume, rights.passes.as_slice())? else {
+            return Ok(Err(Refusal::NoFolder));
+        };
+        let Some(row) = row_at(entries.as_slice(), self.name) else {
+            return Ok(Err(Refusal::NoSuchFile));
+        };
+        if row_at(entries.as_slice(), self.to).is_some() {
+            return Ok(Err(Refusal::NameTaken));
+        }
+        let name = String::from_str(alloc, self.to)?;
+        entries.as_mut_slice()[row].name = name;
+        let passes = rights.passes.as_mut_slice();
+        write_folder(rt, alloc, volume, passes, entries.as_slice(), self.now)?;
+        Ok(Ok(()))
+    }
+}
