@@ -1,5 +1,5 @@
 -- What holds of a value in one of two cases, once the case is known, or in one case by another fact.
-use Rattle.std.proofs.Common.{◌≡◌, Option, Some, None, Result, Ok, Err, IfOk, IfSome, IfNone, OnOk, subst}
+use Rattle.std.proofs.Common.{◌≡◌, Option, Some, None, Result, Ok, Err, IfOk, IfSome, IfNone, OnOk, subst, sym}
 
 pub none_of : {X : Type 0} (P : Type 0) (o : Option X) → o ≡ None → IfNone o P → P
 none_of P o is holds = subst (λ x. IfNone x P) is holds
@@ -17,3 +17,10 @@ pub if_not_found : {X E : Type 0} (r : Result (Option X) E) (P Q : Type 0) → (
 if_not_found (Ok (Some x)) P Q so holds = tt
 if_not_found (Ok None) P Q so holds = so holds
 if_not_found (Err e) P Q so holds = tt
+
+pub some_of : {X : Type 0} (P : X → Type 0) (o : Option X) (x : X) → o ≡ Some x → IfSome o P → P x
+some_of P o x is holds = subst (λ y. IfSome y P) is holds
+
+-- what holds of one list holds of one that is the same
+pub into : {X : Type 0} (P : X → Type 0) (other one : X) → other ≡ one → P one → P other
+into P other one is holds = subst P (sym is) holds

@@ -1,5 +1,6 @@
 mod Cases
 mod Contents
+mod Entries
 mod Fields
 mod Got
 mod Places

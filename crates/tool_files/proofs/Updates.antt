@@ -4,7 +4,8 @@ use Rattle.std.proofs.lemmas.Bool.{cases_eq}
 use Rattle.file_cells.specs.Pass.{Pass}
 use Rattle.geometry.specs.File.{File}
 use Rattle.tool_files.specs.Folder.{Row}
-use Rattle.tool_files.specs.Names.{file_at, HasNoRow, IsPlace, IsRowOf, IsRowPlace, Removes, Renames, Renews}
+use Rattle.tool_files.specs.Content.{HasBytes}
+use Rattle.tool_files.specs.Names.{file_at, HasNoRow, IsPlace, IsRowOf, IsRowPlace, Removes, Renames, Renews, WasWritten}
 
 pub set_file : (number : ℕ) (passes : List Pass) (place : ℕ) (pass : Pass) → IsPlace number passes place → pass.number ≡ number
     → file_at number (set passes place pass) ≡ Some pass.file
@@ -71,6 +72,17 @@ row_of_place name (r ∷ rows) zero other here = inl (here, refl)
 row_of_place name (r ∷ rows) (suc place) other here = inr (here.0, row_of_place name rows place other here.1)
 
 pub map-remove : {X Y : Type 0} (f : X → Y) (xs : List X) (i : ℕ) → map f (remove xs i) ≡ remove (map f xs) i
-map-remove f [] i = refl
+map-remove f [] zero = refl
+map-remove f [] (suc i) = refl
 map-remove f (x ∷ xs) zero = refl
 map-remove f (x ∷ xs) (suc i) = ap (λ ys. f x ∷ ys) (map-remove f xs i)
+
+-- a file was written in its place
+pub written_at : (size : ℕ) (bytes : List ℕ) (number : ℕ) (before after : List Pass) (place : ℕ) (new : Pass) → after ≡ set before place new → IsPlace number before place
+    → new.number ≡ number → HasBytes size bytes new.file → WasWritten size bytes number before after
+written_at size bytes number before after place new is here same has = record {
+  file = new.file;
+  there = ap (file_at number) is ∙ set_file number before place new here same;
+  content = has;
+  others = λ n other. ap (file_at n) is ∙ set_other number before place new here same n other;
+}

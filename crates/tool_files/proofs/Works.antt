@@ -40,3 +40,15 @@ was_removed size name before between after rows left row had named removes delet
   removes = removes;
   others = λ n not_folder other. others n not_folder ∙ deleted n other;
 }
+
+pub was_renamed : (size : ℕ) (name to : List ℕ) (before after : List Pass) (rows renamed : List Row)
+    → HasFolder size before rows → Renames name to rows renamed → HasFolder size after renamed → ((n : ℕ) → n ≢ 1 → file_at n after ≡ file_at n before)
+    → WasRenamed size name to before after
+was_renamed size name to before after rows renamed had renames has others = record {
+  rows = rows;
+  had_folder = had;
+  renamed = renamed;
+  has_folder = has;
+  renames = renames;
+  others = others;
+}

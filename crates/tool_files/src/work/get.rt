@@ -46,9 +46,7 @@ impl<'a, M: Meta, B: Block + Drop> Work<M, B> for Get<'a> {
             return Ok(Err(Refusal::NoSuchFile));
         };
         let mut bytes = read_all(rt, alloc, volume, &passes[place])?;
-        if (bytes.len() as u64) > entry.bytes {
-            bytes.truncate(entry.bytes as usize);
-        }
+        bytes.truncate(entry.bytes as usize);
         Ok(Ok(bytes))
     }
 }

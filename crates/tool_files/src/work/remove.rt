@@ -1,7 +1,10 @@
 //! A file goes.
-ghost use Rattle.std.specs.Prelude.{◌≡◌, ◌≢◌, ℕ, OnOk};
-ghost use Rattle.tool_files.specs.Names.{file_at};
+ghost use Rattle.std.specs.Prelude.{◌≡◌, ◌≢◌, ◌<◌, ℕ, List, All, length, map, OnOk};
+ghost use Rattle.tool_files.specs.Folder.{Row, IsRow};
+ghost use Rattle.tool_files.specs.Names.{file_at, IsRowOf, IsRowPlace, Removes};
+ghost use Rattle.tool_files.specs.Rows.{row_of};
 
+use crate::entry::Entry;
 use crate::refusal::Refusal;
 use crate::walk::{place_of, read_folder, row_at, write_folder};
 use device::{Block, Meta};
@@ -46,12 +49,23 @@ impl<'a, M: Meta, B: Block + Drop> Work<M, B> for Remove<'a> {
         let Some(row) = row_at(entries.as_slice(), self.name) else {
             return Ok(Err(Refusal::NoSuchFile));
         };
-        let entry = entries.remove(row);
-        delete_file(rt, volume, &mut rights.passes, entry.number)?;
+        let number = take_row(&mut entries, row);
+        delete_file(rt, volume, &mut rights.passes, number)?;
         let passes = rights.passes.as_mut_slice();
         write_folder(rt, alloc, volume, passes, entries.as_slice(), self.now)?;
         Ok(Ok(()))
     }
+}
+
+// Takes a row out, and answers the number of its file.
+fn take_row(entries: &mut Vec<Entry>, row: usize) -> u32
+    requires within { row < length entries.old.items }
+    ensures taken { (name : List ℕ) → IsRowPlace name (map row_of entries.old.items) row → (taken : Row) × (taken.number ≡ result) × IsRowOf name (map row_of entries.old.items) taken }
+    ensures removed { (name : List ℕ) → IsRowPlace name (map row_of entries.old.items) row → Removes name (map row_of entries.old.items) (map row_of entries.new.items) }
+    ensures rows { All IsRow (map row_of entries.old.items) → All IsRow (map row_of entries.new.items) }
+{
+    let entry = entries.remove(row);
+    entry.number
 }
 
 // Deletes the file of a number, where there is one.

@@ -1,5 +1,10 @@
 //! A file gets another name.
-use crate::entry::is_name;
+ghost use Rattle.std.specs.Prelude.{◌<◌, ℕ, List, All, length, map, OnOk};
+ghost use Rattle.tool_files.specs.Folder.{IsRow};
+ghost use Rattle.tool_files.specs.Names.{IsRowPlace, Renames};
+ghost use Rattle.tool_files.specs.Rows.{row_of};
+
+use crate::entry::{Entry, is_name};
 use crate::refusal::Refusal;
 use crate::walk::{read_folder, row_at, write_folder};
 use device::{Block, Meta};
@@ -50,10 +55,26 @@ impl<'a, M: Meta, B: Block + Drop> Work<M, B> for Rename<'a> {
         if row_at(entries.as_slice(), self.to).is_some() {
             return Ok(Err(Refusal::NameTaken));
         }
-        let name = String::from_str(alloc, self.to)?;
-        entries.as_mut_slice()[row].name = name;
+        rename_row(alloc, entries.as_mut_slice(), row, self.to)?;
         let passes = rights.passes.as_mut_slice();
         write_folder(rt, alloc, volume, passes, entries.as_slice(), self.now)?;
         Ok(Ok(()))
     }
+}
+
+// A row gets another name.
+fn rename_row(alloc: Global, entries: &mut [Entry], row: usize, to: &str) -> Result<(), Error>
+    requires within { row < length entries.old }
+    ensures renamed { OnOk result ((name : List ℕ) → IsRowPlace name (map row_of entries.old) row → Renames name to.now (map row_of entries.old) (map row_of entries.new)) }
+    ensures rows { OnOk result (All IsRow (map row_of entries.old) → All IsRow (map row_of entries.new)) }
+{
+    let name = String::from_str(alloc, to)?;
+    let old = &entries[row];
+    let entry = Entry {
+        name,
+        number: old.number,
+        bytes: old.bytes,
+    };
+    entries[row] = entry;
+    Ok(())
 }

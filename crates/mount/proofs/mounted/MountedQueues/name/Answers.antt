@@ -3,7 +3,7 @@
 use Rattle.std.proofs.Common.{◌≡◌, ℕ, List, sym, ap, subst, ◌∙◌}
 use Rattle.rights_claims.specs.Rules.{Ruled}
 use Rattle.rights_books.specs.declared.claim.Layout.{Layout}
-use Rattle.rights_books.specs.Accounts.{FileView}
+use Rattle.rights_books.specs.Accounts.{FileView, HandView}
 use Rattle.image.specs.Files.{files as image_files}
 use Rattle.image_codec.specs.Blocks.{bytes_at}
 use Rattle.mount_files.specs.Empty.{AreEmptyAccounts}
@@ -17,6 +17,18 @@ load_volume-segments-requires-clause-accounts g c =
     let named = ap (λ (v : MountView g.row.M.Denot g.row.B.Denot). v.books) c.mounted.view_is ∙ c.args.self.named.of_books in
     let same = ap (λ (b : Ruled Layout). b.book) (named ∙ sym c.books-2.ensures) in
     subst (λ b. AreEmptyAccounts b tables.memory.accounts.items) same c.mounted.invariant.made.memory.accounts
+
+pub invariant_of-all-clause-home : goal.invariant_of-all-clause-home
+invariant_of-all-clause-home g c = ap (λ (v : HandView). v.book) c.load_volume-segments.ensures.permit ∙ c.named-turnstile.result.1.home
+
+pub invariant_of-all-clause-others_home : goal.invariant_of-all-clause-others_home
+invariant_of-all-clause-others_home g c = c.named-turnstile.result.1.others_home
+
+pub invariant_of-all-clause-others_count : goal.invariant_of-all-clause-others_count
+invariant_of-all-clause-others_count g c = c.named-turnstile.result.1.others_count
+
+pub invariant_of-all-clause-all : goal.invariant_of-all-clause-all
+invariant_of-all-clause-all g c = c.named-turnstile.result.1.all
 
 pub lock_loaded_files-cells-requires-clause-blocks : goal.lock_loaded_files-cells-requires-clause-blocks
 lock_loaded_files-cells-requires-clause-blocks g c =
