@@ -1,5 +1,6 @@
 -- What holds of a value in one of two cases, once the case is known, or in one case by another fact.
-use Rattle.std.proofs.Common.{◌≡◌, Option, Some, None, Result, Ok, Err, IfOk, IfSome, IfNone, OnOk, subst, sym}
+use Rattle.std.proofs.Common.{◌≡◌, Option, Some, None, Result, Ok, Err, IfOk, IfSome, IfNone, OnOk, true, false, subst, sym}
+use Rattle.std.specs.Option.{is_some}
 
 pub none_of : {X : Type 0} (P : Type 0) (o : Option X) → o ≡ None → IfNone o P → P
 none_of P o is holds = subst (λ x. IfNone x P) is holds
@@ -24,3 +25,7 @@ some_of P o x is holds = subst (λ y. IfSome y P) is holds
 -- what holds of one list holds of one that is the same
 pub into : {X : Type 0} (P : X → Type 0) (other one : X) → other ≡ one → P one → P other
 into P other one is holds = subst P (sym is) holds
+
+pub none_unless : {X : Type 0} (P : Type 0) (o : Option X) → is_some o ≡ false → IfNone o P → P
+none_unless P None not holds = holds
+none_unless P (Some x) not holds = absurd (cc)

@@ -17,7 +17,7 @@ same_u64 m n one other same = sym (from_le_bytes-to_le_bytes_8 m one) ∙ ap (fr
 abbrev the_row : List ℕ → ℕ → ℕ → Row
 the_row name number bytes = record { name = name; number = number; bytes = bytes }
 
-same_row : (one other : Row) → one.name ≡ other.name → one.number ≡ other.number → one.bytes ≡ other.bytes → one ≡ other
+pub same_row : (one other : Row) → one.name ≡ other.name → one.number ≡ other.number → one.bytes ≡ other.bytes → one ≡ other
 same_row one other name number bytes =
     ap (λ n. the_row n one.number one.bytes) name
     ∙ ap (λ n. the_row other.name n one.bytes) number

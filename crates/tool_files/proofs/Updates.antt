@@ -1,6 +1,7 @@
 -- What is found by a number or a name after a pass or a row was set, pushed or removed.
-use Rattle.std.proofs.Common.{◌≡◌, ◌≢◌, ◌∙◌, ◌⊎◌, ◌++◌, ◌<◌, ℕ, zero, suc, List, [], ◌∷◌, Option, Some, None, cond, ◌==◌, length, set, remove, get_or, map, ap, sym, refl, inl, inr, ne_eqb, eq-eqb, arith}
+use Rattle.std.proofs.Common.{◌≡◌, ◌≢◌, ◌∙◌, ◌⊎◌, ◌++◌, ◌<◌, ℕ, zero, suc, List, [], ◌∷◌, Option, Some, None, cond, ◌==◌, length, set, take, remove, get_or, map, ap, sym, subst, refl, inl, inr, ne_eqb, eq-eqb, arith}
 use Rattle.std.proofs.lemmas.Bool.{cases_eq}
+use Rattle.std.proofs.lemmas.List.{length-set, take_at}
 use Rattle.file_cells.specs.Pass.{Pass}
 use Rattle.geometry.specs.File.{File}
 use Rattle.tool_files.specs.Folder.{Row}
@@ -86,3 +87,19 @@ written_at size bytes number before after place new is here same has = record {
   content = has;
   others = λ n other. ap (file_at n) is ∙ set_other number before place new here same n other;
 }
+
+-- a new file was written and put behind all
+pub written_new : (size : ℕ) (bytes : List ℕ) (number : ℕ) (before after : List Pass) (new : Pass) → after ≡ before ++ new ∷ [] → file_at number before ≡ None
+    → new.number ≡ number → HasBytes size bytes new.file → WasWritten size bytes number before after
+written_new size bytes number before after new is none same has = record {
+  file = new.file;
+  there =
+      ap (file_at number) is
+      ∙ subst (λ k. file_at k (before ++ new ∷ []) ≡ Some new.file) same (push_file before new (subst (λ k. file_at k before ≡ None) (sym same) none));
+  content = has;
+  others = λ n other. ap (file_at n) is ∙ push_other before new n (λ e. other (e ∙ same));
+}
+
+-- what a slice of a list wrote at a place is written there in the list
+pub written_back : {X : Type 0} (xs ys zs : List X) (n i : ℕ) (x : X) → ys ≡ xs → length xs ≡ n → take n (set ys i x ++ zs) ≡ set xs i x
+written_back xs ys zs n i x same long = take_at (set ys i x) zs n (length-set ys i x ∙ ap length same ∙ long) ∙ ap (λ l. set l i x) same

@@ -1,12 +1,17 @@
-use Rattle.std.proofs.Common.{◌≡◌, ◌∙◌, ◌++◌, ◌+◌, ◌-◌, ◌<◌, ◌≤◌, [], min, length, take, drop, replicate, ap, ap₂, sym, subst, rules, arith}
+use Rattle.std.proofs.Common.{◌≡◌, ◌∙◌, ◌++◌, ◌+◌, ◌-◌, ◌<◌, ◌≤◌, [], min, length, take, drop, replicate, ap, ap₂, sym, subst, refl, rules, arith}
 use Rattle.std.proofs.lemmas.Grind.{common_steps}
 use Rattle.std.proofs.lemmas.List.{take-append-drop, drop_all, nil_from_length}
 use Rattle.geometry.specs.File.{written, cut_to}
 use Rattle.geometry.specs.Shape.{block_bytes}
 use Rattle.tool_files.specs.Content.{HasBytes}
 use Rattle.tool_files.proofs.Cases.{on_ok}
-use Rattle.tool_files.proofs.Contents.{Writing, block_some, writing_goes_on, writing_ends}
+use Rattle.tool_files.proofs.Contents.{Writing, block_some, writing_begins, writing_goes_on, writing_ends}
 use Rattle.tool_files.proofs.content.write_all.Goals as goal
+
+pub loop-rest-init : goal.loop-rest-init
+loop-rest-init g c =
+    let shape = g.V.Numbers.GeometryName.geometry.shape in
+    (writing_begins (block_bytes shape) c.args.bytes.now c.args.pass.now.file (block_some shape), refl, refl)
 
 pub loop-rest-preserved : goal.loop-rest-preserved
 loop-rest-preserved g c =

@@ -7,6 +7,7 @@ use Rattle.tool_files.specs.declared.entry.Entry.{Entry}
 use Rattle.tool_files.proofs.Cases.{none_of, some_of}
 use Rattle.tool_files.proofs.Entries.{renewed_push, renewed_set, rows_push, rows_set}
 use Rattle.tool_files.proofs.Spelling.{same_row}
+use Rattle.tool_files.proofs.Updates.{written_back}
 use Rattle.tool_files.proofs.work.put.renew.Goals as goal
 
 pub returns-in-Some-clause-renewed : goal.returns-in-Some-clause-renewed
@@ -14,13 +15,16 @@ returns-in-Some-clause-renewed c =
     let entry : Entry = record { name = c.in_ok-from_str.field-0; number = c.args.number; bytes = c.args.bytes } in
     let row : Row = record { name = c.args.name.now; number = c.args.number; bytes = c.args.bytes } in
     let named : string_bytes c.in_ok-from_str.field-0 ≡ c.args.name.now = search rules in
-    renewed_set c.args.entries.now.items _ c.in-Some.place entry (search rules) row (same_row (row_of entry) row named refl refl)
+    let same : c.as_mut_slice.result.now ≡ c.args.entries.now.items = search rules in
+    renewed_set c.args.entries.now.items _ c.in-Some.place entry (written_back c.args.entries.now.items c.as_mut_slice.result.now _ _ c.in-Some.place entry same (search rules)) row (same_row (row_of entry) row named refl refl)
         (some_of (IsRowPlace c.args.name.now (map row_of c.args.entries.now.items)) c.args.row c.in-Some.place c.in-Some.is c.requires.some)
 
 pub returns-in-Some-clause-rows : goal.returns-in-Some-clause-rows
 returns-in-Some-clause-rows c =
     let entry : Entry = record { name = c.in_ok-from_str.field-0; number = c.args.number; bytes = c.args.bytes } in
-    λ past all. rows_set c.args.entries.now.items _ c.in-Some.place entry (search rules)
+    let same : c.as_mut_slice.result.now ≡ c.args.entries.now.items = search rules in
+    λ past all. rows_set c.args.entries.now.items _ c.in-Some.place entry
+        (written_back c.args.entries.now.items c.as_mut_slice.result.now _ _ c.in-Some.place entry same (search rules))
         (record { text = IsUtf8-string_bytes entry.name; not_folder = past; number_fits = search rules; bytes_fit = search rules; length_fits = search rules }) all
 
 pub returns-in_ok-push-in-None-clause-renewed : goal.returns-in_ok-push-in-None-clause-renewed

@@ -1,4 +1,4 @@
-use Rattle.std.proofs.Common.{◌≡◌, ◌<◌, length, get_or, string_bytes, refl, rules}
+use Rattle.std.proofs.Common.{◌≡◌, ◌<◌, length, get_or, string_bytes, ap, refl, rules}
 use Rattle.std.proofs.lemmas.Str.{IsUtf8-string_bytes}
 use Rattle.tool_files.specs.Folder.{IsRow}
 use Rattle.tool_files.specs.Rows.{row_of}
@@ -9,18 +9,22 @@ use Rattle.tool_files.proofs.work.rename.rename_row.Goals as goal
 pub returns-clause-renamed : goal.returns-clause-renamed
 returns-clause-renamed c =
     let entries = c.args.entries.now in
-    let old = c.index-entries-row.result in
+    let read = c.index-entries-row.result in
+    let read_is : read ≡ get_or entries c.args.row read = search rules in
+    let old : Entry = get_or entries c.args.row read in
     let entry : Entry = record { name = c.in_ok-name.name; number = old.number; bytes = old.bytes } in
-    let is : old ≡ get_or entries c.args.row old = search rules in
+    let is : old ≡ get_or entries c.args.row old = ap (get_or entries c.args.row) read_is in
     let named : string_bytes c.in_ok-name.name ≡ c.args.to.now = search rules in
     λ name here. renamed_set entries _ c.args.row entry refl name c.args.to.now old is named refl refl here
 
 pub returns-clause-rows : goal.returns-clause-rows
 returns-clause-rows c =
     let entries = c.args.entries.now in
-    let old = c.index-entries-row.result in
+    let read = c.index-entries-row.result in
+    let read_is : read ≡ get_or entries c.args.row read = search rules in
+    let old : Entry = get_or entries c.args.row read in
     let entry : Entry = record { name = c.in_ok-name.name; number = old.number; bytes = old.bytes } in
-    let is : old ≡ get_or entries c.args.row old = search rules in
+    let is : old ≡ get_or entries c.args.row old = ap (get_or entries c.args.row) read_is in
     λ all.
       let old_row : IsRow (row_of old) = is_row_there entries c.args.row old is c.requires.within all in
       rows_set entries _ c.args.row entry refl
