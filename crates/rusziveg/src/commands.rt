@@ -15,14 +15,18 @@ use std::fs::{File, Files};
 use std::io::{BufWriter, Read, Write};
 use std::rt::Runtime;
 use std::sync::Wait;
-use tool_files::{Clean, Get, GetNumber, MakeFolder, Policy, Put, Refusal, Remove, Rename, is_name};
+use tool_files::{
+    Clean, Get, GetNumber, MakeFolder, Policy, Put, Refusal, Remove, Rename, is_name,
+};
 
 /// Does what the words ask for, and answers the exit status.
-pub fn obey<
-    R: Runtime + AllocGlobal + Wait + Files<File = File>,
-    O: Write,
-    E: Write,
->(rt: &R, screen: Screen, words: &Words<'_>, out: &mut O, errors: &mut E) -> Result<u8, Fault> {
+pub fn obey<R: Runtime + AllocGlobal + Wait + Files<File = File>, O: Write, E: Write>(
+    rt: &R,
+    screen: Screen,
+    words: &Words<'_>,
+    out: &mut O,
+    errors: &mut E,
+) -> Result<u8, Fault> {
     let image = words.image;
     match words.task {
         Task::Check => return check(rt, image, out),
@@ -36,7 +40,16 @@ pub fn obey<
         Task::Get { name, number } => get(rt, image, name, number, out)?,
         Task::Remove { name } => run(rt, image, Leave::Close, Remove { name, now: now(rt) })??,
         Task::Rename { name, to } => {
-            run(rt, image, Leave::Close, Rename { name, to, now: now(rt) })??;
+            run(
+                rt,
+                image,
+                Leave::Close,
+                Rename {
+                    name,
+                    to,
+                    now: now(rt),
+                },
+            )??;
         }
         Task::List { json } => list(rt, image, json, out)?,
         Task::Clean { background } => clean(rt, screen, image, background, out, errors)?,
@@ -54,7 +67,11 @@ fn make<R: AllocGlobal + Wait + Files<File = File>, O: Write>(
     numbers: Numbers,
     out: &mut O,
 ) -> Result<(), Fault> {
-    let shape = if numbers.is_tiny { Shape::TINY } else { Shape::KERNEL };
+    let shape = if numbers.is_tiny {
+        Shape::TINY
+    } else {
+        Shape::KERNEL
+    };
     let Numbers {
         is_tiny: _,
         segments,
@@ -66,7 +83,10 @@ fn make<R: AllocGlobal + Wait + Files<File = File>, O: Write>(
     let parts = create_image(rt, rt.alloc(), image, &geometry)?;
     work_on_new(rt, rt.alloc(), parts, geometry, Leave::Close, MakeFolder)?;
     let bytes = u64::from(geometry.blocks()).saturating_mul(u64::from(shape.block_bytes()));
-    writeln!(out, "made {image}: {segments} segments, {bytes} bytes, at most {files} files")?;
+    writeln!(
+        out,
+        "made {image}: {segments} segments, {bytes} bytes, at most {files} files"
+    )?;
     Ok(())
 }
 
@@ -122,14 +142,22 @@ fn clean<R: Runtime + AllocGlobal + Wait + Files<File = File>, O: Write, E: Writ
 ) -> Result<(), Fault> {
     screen.tell(errors, "clean", image);
     let work = Clean {
-        policy: if background { Policy::Background } else { Policy::Foreground },
+        policy: if background {
+            Policy::Background
+        } else {
+            Policy::Foreground
+        },
         most: if background { 1 } else { 4096 },
         now: now(rt),
     };
     let tidied = run(rt, image, Leave::Close, work);
     screen.clear(errors);
     let tidied = tidied?;
-    writeln!(out, "cleaned {} sections, moved {} blocks", tidied.sections, tidied.moved)?;
+    writeln!(
+        out,
+        "cleaned {} sections, moved {} blocks",
+        tidied.sections, tidied.moved
+    )?;
     Ok(())
 }
 

@@ -106,7 +106,10 @@ fn draw_legend<O: Write>(
     out: &mut O,
 ) -> Result<(), Fault> {
     let blocks = geometry.shape.segment_blocks();
-    writeln!(out, "\n  ·  free    ▁ to █  sealed, by how many of its {blocks} blocks are valid")?;
+    writeln!(
+        out,
+        "\n  ·  free    ▁ to █  sealed, by how many of its {blocks} blocks are valid"
+    )?;
     let mut number = 0usize;
     for log in &image.logs {
         let name = LOGS[number.min(5)];
@@ -116,7 +119,11 @@ fn draw_legend<O: Write>(
             write!(out, "  {number}  ")?;
         }
         match log {
-            Some(place) => writeln!(out, "{name:<10}  appends to segment {}, block {}", place.segment, place.next)?,
+            Some(place) => writeln!(
+                out,
+                "{name:<10}  appends to segment {}, block {}",
+                place.segment, place.next
+            )?,
             None => writeln!(out, "{name:<10}  has no open segment")?,
         }
         number = number.saturating_add(1);
@@ -125,7 +132,10 @@ fn draw_legend<O: Write>(
     let ages = used.map(|info| info.mtime).min();
     let used = image.sit.iter().filter(|info| info.count > 0);
     if let (Some(oldest), Some(youngest)) = (ages, used.map(|info| info.mtime).max()) {
-        writeln!(out, "  the segments in use were last written from {oldest} to {youngest} (seconds since 1970)")?;
+        writeln!(
+            out,
+            "  the segments in use were last written from {oldest} to {youngest} (seconds since 1970)"
+        )?;
     }
     Ok(())
 }

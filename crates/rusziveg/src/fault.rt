@@ -115,8 +115,10 @@ impl Fault {
             Fault::NoWords => "a word of the call is not text (UTF-8)",
             Fault::Busy => "another program has the image open; try again when it has ended",
             Fault::NotAFile => "the image is no ordinary file; give the path of an image file",
-            Fault::InTheWay => "a file of that name is there and stays; give another path, or remove it first",
-            Fault::TooLong => "the bytes are more than the image has; format a larger one (--segments)",
+            Fault::InTheWay =>
+                "a file of that name is there and stays; give another path, or remove it first",
+            Fault::TooLong =>
+                "the bytes are more than the image has; format a larger one (--segments)",
             Fault::NoFiles => "there is no ordinary file in the folder",
             _ => "",
         }
@@ -137,14 +139,20 @@ impl Fault {
 fn advice(error: Error) -> &'static str {
     match error {
         Error::NoMemory => "nothing was changed; give the program more memory",
-        Error::Device => "the file could not be written or settled (is the disk full?); a later run finds the volume as it was",
+        Error::Device =>
+            "the file could not be written or settled (is the disk full?); a later run finds the volume as it was",
         Error::NoSpace => "nothing was changed; rm a file, or format a larger image (--segments)",
-        Error::NoFile => "nothing was changed; rm a file, or format an image for more files (--files)",
-        Error::NoNode => "nothing was changed; rm a file, or format an image with more nodes (--nodes)",
+        Error::NoFile =>
+            "nothing was changed; rm a file, or format an image for more files (--files)",
+        Error::NoNode =>
+            "nothing was changed; rm a file, or format an image with more nodes (--nodes)",
         Error::TooFar => "nothing was changed; a file can't be so long",
-        Error::BadGeometry => "this is no image of a volume, or its numbers are beyond their limits; see format --help",
-        Error::NoPack => "no checkpoint of the volume can be read; take a copy of the image that check calls sound",
-        Error::BadImage(_) => "the volume can't be used; check tells the fault, and a copy of the image may be sound",
+        Error::BadGeometry =>
+            "this is no image of a volume, or its numbers are beyond their limits; see format --help",
+        Error::NoPack =>
+            "no checkpoint of the volume can be read; take a copy of the image that check calls sound",
+        Error::BadImage(_) =>
+            "the volume can't be used; check tells the fault, and a copy of the image may be sound",
         _ => "a later run finds the volume as it was at its last checkpoint",
     }
 }
@@ -152,7 +160,8 @@ fn advice(error: Error) -> &'static str {
 // What can be done about a refusal of a name.
 fn name_advice(refusal: Refusal) -> &'static str {
     match refusal {
-        Refusal::NoFolder => "it was made by another program; ls shows its files by number, get --number reads them",
+        Refusal::NoFolder =>
+            "it was made by another program; ls shows its files by number, get --number reads them",
         Refusal::BadName => "give another name",
         Refusal::NoSuchFile => "ls shows what there is",
         Refusal::NameTaken => "rm that file first, or give another name",

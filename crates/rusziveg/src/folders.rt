@@ -68,9 +68,7 @@ fn is_unnamed(listing: &Listing, number: u32) -> bool {
     if number == FOLDER && listing.named.is_some() {
         return false;
     }
-    !named(listing)
-        .iter()
-        .any(|entry| entry.number == number && is_name(entry.name.as_str()))
+    !named(listing).iter().any(|entry| entry.number == number && is_name(entry.name.as_str()))
 }
 
 fn write_new<R: AllocGlobal + Files<File = File>>(

@@ -50,9 +50,21 @@ pub fn stat<R: AllocGlobal + Files<File = File>, O: Write>(
         return write_json(text, out);
     }
     writeln!(out, "version   {}", facts.version)?;
-    writeln!(out, "blocks    {} valid of {}, {} bytes each", facts.valid_blocks, facts.blocks, facts.block_bytes)?;
-    writeln!(out, "segments  {} free of {}, {} blocks each", facts.free_segments, facts.segments, facts.segment_blocks)?;
-    writeln!(out, "files     {} of {}, with the folder", facts.files, facts.most_files)?;
+    writeln!(
+        out,
+        "blocks    {} valid of {}, {} bytes each",
+        facts.valid_blocks, facts.blocks, facts.block_bytes
+    )?;
+    writeln!(
+        out,
+        "segments  {} free of {}, {} blocks each",
+        facts.free_segments, facts.segments, facts.segment_blocks
+    )?;
+    writeln!(
+        out,
+        "files     {} of {}, with the folder",
+        facts.files, facts.most_files
+    )?;
     writeln!(out, "nodes     {} of {}", facts.nodes, facts.most_nodes)?;
     Ok(())
 }

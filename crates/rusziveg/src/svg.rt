@@ -10,6 +10,7 @@ const COLUMNS: u32 = 32;
 
 // The width of a column, and the height of a line, in pixels.
 const WIDTH: u32 = 20;
+
 const HEIGHT: u32 = 48;
 
 // The height of a full segment.
@@ -31,7 +32,10 @@ pub fn draw_svg<O: Write>(geometry: &Geometry, image: &Image, out: &mut O) -> Re
         COLUMNS * WIDTH + 10,
         top.saturating_add(90)
     )?;
-    writeln!(out, "<rect width=\"100%\" height=\"100%\" fill=\"#ffffff\"/>")?;
+    writeln!(
+        out,
+        "<rect width=\"100%\" height=\"100%\" fill=\"#ffffff\"/>"
+    )?;
     let youngest = image.sit.iter().map(|info| info.mtime).max().unwrap_or(0);
     let oldest = oldest_of(image);
     let mut segment = 0u32;
@@ -90,7 +94,11 @@ fn draw_legend<O: Write>(top: u32, out: &mut O) -> Result<(), Fault> {
     let y = y.saturating_add(24);
     draw_key(5, y, "#444444", "sealed, paler the older", out)?;
     draw_key(205, y, "#cccccc", "free", out)?;
-    writeln!(out, "<text x=\"5\" y=\"{}\">each box is a segment, filled as far as its blocks are valid; a log appends to a coloured one</text>", y.saturating_add(24))?;
+    writeln!(
+        out,
+        "<text x=\"5\" y=\"{}\">each box is a segment, filled as far as its blocks are valid; a log appends to a coloured one</text>",
+        y.saturating_add(24)
+    )?;
     Ok(())
 }
 

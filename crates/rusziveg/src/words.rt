@@ -117,21 +117,59 @@ fn numbers_of(found: &ArgMatches<'_>) -> Numbers {
 
 fn program<'a>(alloc: Global) -> Result<Command<'a>, AllocError> {
     Command::new(alloc, "rusziveg")
-        .about("Flash volumes in image files: makes them, keeps named files in them, cleans, checks and draws them.")
-        .after_help("Exit status: 0 done; 1 a volume, an image or a name was refused; 2 the words were; 4 a file, a stream or memory failed.")
+        .about(
+            "Flash volumes in image files: makes them, keeps named files in them, cleans, checks and draws them.",
+        )
+        .after_help(
+            "Exit status: 0 done; 1 a volume, an image or a name was refused; 2 the words were; 4 a file, a stream or memory failed.",
+        )
         .subcommand_required(true)
         .subcommand(format_command(alloc)?)?
-        .subcommand(named(alloc, "put", "Reads standard input to its end, and makes it the file NAME")?)?
+        .subcommand(named(
+            alloc,
+            "put",
+            "Reads standard input to its end, and makes it the file NAME",
+        )?)?
         .subcommand(get_command(alloc)?)?
         .subcommand(named(alloc, "rm", "Removes the file NAME")?)?
         .subcommand(rename_command(alloc)?)?
-        .subcommand(flagged(alloc, "ls", "Lists the files, by name and by number", "json", "Writes JSON")?)?
-        .subcommand(flagged(alloc, "clean", "Cleans sections, so that their segments come free", "background", "Chooses by cost and benefit, for one section that is not urgent")?)?
-        .subcommand(on_image(alloc, "check", "Tells whether the image is sound, or its exact fault")?)?
-        .subcommand(flagged(alloc, "stat", "Tells the numbers of the volume", "json", "Writes JSON")?)?
+        .subcommand(flagged(
+            alloc,
+            "ls",
+            "Lists the files, by name and by number",
+            "json",
+            "Writes JSON",
+        )?)?
+        .subcommand(flagged(
+            alloc,
+            "clean",
+            "Cleans sections, so that their segments come free",
+            "background",
+            "Chooses by cost and benefit, for one section that is not urgent",
+        )?)?
+        .subcommand(on_image(
+            alloc,
+            "check",
+            "Tells whether the image is sound, or its exact fault",
+        )?)?
+        .subcommand(flagged(
+            alloc,
+            "stat",
+            "Tells the numbers of the volume",
+            "json",
+            "Writes JSON",
+        )?)?
         .subcommand(map_command(alloc)?)?
-        .subcommand(foldered(alloc, "dump", "Writes each file into FOLDER, under its name or number")?)?
-        .subcommand(foldered(alloc, "import", "Puts each ordinary file of FOLDER under its name")?)
+        .subcommand(foldered(
+            alloc,
+            "dump",
+            "Writes each file into FOLDER, under its name or number",
+        )?)?
+        .subcommand(foldered(
+            alloc,
+            "import",
+            "Puts each ordinary file of FOLDER under its name",
+        )?)
 }
 
 fn on_image<'a>(alloc: Global, name: &'a str, about: &'a str) -> Result<Command<'a>, AllocError> {
@@ -181,9 +219,13 @@ fn get_command<'a>(alloc: Global) -> Result<Command<'a>, AllocError> {
         .value_name("N")
         .help("The file's number, in place of a name: all its blocks are written")
         .value_parser(value_parser!(u32));
-    on_image(alloc, "get", "Writes the bytes of a file to standard output")?
-        .arg(name)?
-        .arg(number)
+    on_image(
+        alloc,
+        "get",
+        "Writes the bytes of a file to standard output",
+    )?
+    .arg(name)?
+    .arg(number)
 }
 
 fn rename_command<'a>(alloc: Global) -> Result<Command<'a>, AllocError> {
@@ -199,7 +241,12 @@ fn map_command<'a>(alloc: Global) -> Result<Command<'a>, AllocError> {
         .long("svg")
         .value_name("FILE")
         .help("Writes a picture (SVG) to a new file");
-    on_image(alloc, "map", "Draws each segment: how full it is, its log, its age")?.arg(svg)
+    on_image(
+        alloc,
+        "map",
+        "Draws each segment: how full it is, its log, its age",
+    )?
+    .arg(svg)
 }
 
 fn format_command<'a>(alloc: Global) -> Result<Command<'a>, AllocError> {
@@ -209,12 +256,21 @@ fn format_command<'a>(alloc: Global) -> Result<Command<'a>, AllocError> {
         .help("kernel: segments of 512 blocks of 4096 bytes; tiny: of 8 of 64")
         .value_parser(SHAPES.as_slice())
         .default_value("kernel");
-    on_image(alloc, "format", "Makes a new image file with an empty volume")?
-        .arg(shape)?
-        .arg(number_option(alloc, "segments", "Segments, 16 to 4096", "32"))?
-        .arg(number_option(alloc, "per-section", "Segments a section, 1 to 16", "1"))?
-        .arg(number_option(alloc, "files", "The most files, 1 to 1024", "256"))?
-        .arg(number_option(alloc, "nodes", "The most nodes, as many as files to 65536", "2048"))
+    on_image(
+        alloc,
+        "format",
+        "Makes a new image file with an empty volume",
+    )?
+    .arg(shape)?
+    .arg(number_option(alloc, "segments", "Segments, 16 to 4096", "32"))?
+    .arg(number_option(alloc, "per-section", "Segments a section, 1 to 16", "1"))?
+    .arg(number_option(alloc, "files", "The most files, 1 to 1024", "256"))?
+    .arg(number_option(
+        alloc,
+        "nodes",
+        "The most nodes, as many as files to 65536",
+        "2048",
+    ))
 }
 
 fn number_option<'a>(alloc: Global, name: &'a str, help: &'a str, other: &'a str) -> Arg<'a> {

@@ -37,9 +37,9 @@ front_cut size file m (suc n) few =
     let fewer : n ≤ m = omega arith in
     let below : n < m = omega arith in
     ap₂ (λ (xs ys : List ℕ). xs ++ ys) (front_cut size file m n fewer)
-        (ap (λ o. unwrap_or o (replicate size 0))
-            (get-retain_keys file.blocks (λ k. nat_lt k m) n (λ x e. ap (λ k. nat_lt k m) (sym (nat_cmp-IsAntisymmetric n x e)))
-            ∙ ap (λ b. cond b (get file.blocks n) None) (lt-ltb n m below)))
+    (ap (λ o. unwrap_or o (replicate size 0))
+    (get-retain_keys file.blocks (λ k. nat_lt k m) n (λ x e. ap (λ k. nat_lt k m) (sym (nat_cmp-IsAntisymmetric n x e)))
+    ∙ ap (λ b. cond b (get file.blocks n) None) (lt-ltb n m below)))
 
 -- so many blocks of the file are written, and these bytes are left
 pub record Writing (size : ℕ) (bytes rest : List ℕ) (file : File) (index : ℕ) : Type 0 where
@@ -72,8 +72,8 @@ writing_goes_on size bytes rest front behind block file index writing cut some f
   ];
   spelled =
       ap (λ ys. ys ++ behind)
-          (ap (front_bytes size (written file index block)) (add-one index)
-          ∙ ap₂ (λ (xs ys : List ℕ). xs ++ ys) (front_written size file index block index (omega arith)) (ap (λ o. unwrap_or o (replicate size 0)) (got file.blocks index block) ∙ is))
+      (ap (front_bytes size (written file index block)) (add-one index)
+      ∙ ap₂ (λ (xs ys : List ℕ). xs ++ ys) (front_written size file index block index (omega arith)) (ap (λ o. unwrap_or o (replicate size 0)) (got file.blocks index block) ∙ is))
       ∙ moved (cases_lt (length front) size);
 }
   where
@@ -89,7 +89,7 @@ writing_goes_on size bytes rest front behind block file index writing cut some f
         ∙ append-nil (front_bytes size file index ++ (front ++ replicate (size - length front) 0))
         ∙ sym (append_assoc (front_bytes size file index) front (replicate (size - length front) 0))
         ∙ ap (λ ys. ys ++ replicate (size - length front) 0)
-            (sym (append-nil (front_bytes size file index ++ front)) ∙ append_assoc (front_bytes size file index) front [] ∙ ap (λ ys. front_bytes size file index ++ (front ++ ys)) (sym (last short)) ∙ so_far)
+        (sym (append-nil (front_bytes size file index ++ front)) ∙ append_assoc (front_bytes size file index) front [] ∙ ap (λ ys. front_bytes size file index ++ (front ++ ys)) (sym (last short)) ∙ so_far)
     moved (inr full) =
         let none : size - length front ≡ 0 = omega arith in
         ap (λ n. front_bytes size file index ++ (front ++ replicate n 0) ++ behind) none

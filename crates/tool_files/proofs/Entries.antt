@@ -18,7 +18,7 @@ pub is_row_there : (entries : List Entry) (place : ℕ) (entry : Entry) → entr
     → IsRow (row_of entry)
 is_row_there entries place entry is low all =
     subst IsRow (row_there entries place entry is)
-        (All-get_or IsRow (map row_of entries) place (row_of entry) (subst (λ n. place < n) (sym (length-map entries row_of)) low) all)
+    (All-get_or IsRow (map row_of entries) place (row_of entry) (subst (λ n. place < n) (sym (length-map entries row_of)) low) all)
 
 pub found_row : (name : List ℕ) (entries : List Entry) (place : ℕ) (entry : Entry) → entry ≡ get_or entries place entry → IsRowPlace name (map row_of entries) place
     → IsRowOf name (map row_of entries) (row_of entry)
@@ -43,8 +43,8 @@ module _ (entries after : List Entry) (place : ℕ) (entry : Entry) (set_is : af
       let rows : List Row = map row_of entries in
       let there : get_or rows place (row_of old) ≡ row_of old = row_there entries place old is in
       let row_is : row_of entry ≡ record (get_or rows place (row_of old)) { name = to }
-          = same_row (row_of entry) (record (get_or rows place (row_of old)) { name = to }) named
-              (number ∙ ap (λ (r : Row). r.number) (sym there)) (bytes ∙ ap (λ (r : Row). r.bytes) (sym there)) in
+      = same_row (row_of entry) (record (get_or rows place (row_of old)) { name = to }) named
+      (number ∙ ap (λ (r : Row). r.number) (sym there)) (bytes ∙ ap (λ (r : Row). r.bytes) (sym there)) in
       subst (Renames name to rows) (sym (rows_are ∙ ap (set rows place) row_is)) (renames_at name to rows place (row_of old) here)
 
 -- an entry stands behind all

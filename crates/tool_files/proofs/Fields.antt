@@ -38,8 +38,8 @@ pub fields_make : (n number file_bytes : ℕ) (name bytes : List ℕ) → to_le_
 fields_make n number file_bytes name bytes first second third fourth long =
     take_split 20 n bytes
     ∙ ap₂ (λ (ys zs : List ℕ). ys ++ zs)
-        (take_split 12 8 bytes
-        ∙ ap₂ (λ (ys zs : List ℕ). ys ++ zs)
-            (take_split 4 8 bytes ∙ ap₂ (λ (ys zs : List ℕ). ys ++ zs) (sym first) (sym second))
-            (sym third ∙ ap (to_le_bytes w64) (sym long)))
-        (sym fourth)
+    (take_split 12 8 bytes
+    ∙ ap₂ (λ (ys zs : List ℕ). ys ++ zs)
+    (take_split 4 8 bytes ∙ ap₂ (λ (ys zs : List ℕ). ys ++ zs) (sym first) (sym second))
+    (sym third ∙ ap (to_le_bytes w64) (sym long)))
+    (sym fourth)

@@ -24,14 +24,13 @@ renewed_row row (r ∷ rows) after found renews named =
 
 module _ (size : ℕ) (name bytes : List ℕ) (number : ℕ) (before after later : List Pass) (got : List ℕ) (put : WasPut size name bytes number before after)
     (same : (n : ℕ) → file_at n later ≡ file_at n after) (has : HasFile size later name got) where
-
   same_folder : has.in_folder.folder ≡ put.has_folder.folder
   same_folder = ap (λ o. unwrap_or o has.in_folder.folder) (sym has.in_folder.here ∙ same 1 ∙ put.has_folder.here)
 
   same_rows : has.rows ≡ put.renewed
   same_rows =
       rows_unique has.rows put.renewed (all_bytes size put.has_folder.folder)
-          (subst (λ folder. BeginsWith has.rows (all_bytes size folder)) same_folder has.in_folder.spelled) put.has_folder.spelled
+      (subst (λ folder. BeginsWith has.rows (all_bytes size folder)) same_folder has.in_folder.spelled) put.has_folder.spelled
 
   row_is : has.row ≡ record { name = name; number = number; bytes = length bytes }
   row_is = renewed_row (record { name = name; number = number; bytes = length bytes }) put.rows put.renewed has.row put.renews (subst (λ rows. IsRowOf name rows has.row) same_rows has.named)

@@ -77,12 +77,12 @@ split_rows [] rows left behind all others few same = record { others = rows; who
 split_rows (e ∷ some) [] left behind all others few same = absurd (omega arith)
 split_rows (e ∷ some) (r ∷ rows) left behind all others few same =
     let here : row_bytes e ++ (flat_map row_bytes some ++ left) ≡ row_bytes r ++ (flat_map row_bytes rows ++ behind)
-        = sym (append_assoc (row_bytes e) (flat_map row_bytes some) left) ∙ same ∙ append_assoc (row_bytes r) (flat_map row_bytes rows) behind in
+    = sym (append_assoc (row_bytes e) (flat_map row_bytes some) left) ∙ same ∙ append_assoc (row_bytes r) (flat_map row_bytes rows) behind in
     let one = All-head IsRow e some all in
     let other = All-head IsRow r rows others in
     let fewer : length some ≤ length rows = omega arith in
     let rest = split_rows some rows left behind (All-tail IsRow e some all) (All-tail IsRow r rows others) fewer
-        (behind_unique e r (flat_map row_bytes some ++ left) (flat_map row_bytes rows ++ behind) one other here) in
+    (behind_unique e r (flat_map row_bytes some ++ left) (flat_map row_bytes rows ++ behind) one other here) in
     record {
       others = rest.others;
       whole = ap₂ (λ (z : Row) (zs : List Row). z ∷ zs) (sym (row_unique e r (flat_map row_bytes some ++ left) (flat_map row_bytes rows ++ behind) one other here)) rest.whole;
@@ -141,7 +141,7 @@ module _ (bytes : List ℕ) (at count : ℕ) (some rows : List Row) (begun : Beg
   rest_of =
       let enough : length some ≤ length rows = let many = as_many in omega arith in
       split_rows some rows (drop at bytes) with_rows.behind begun.are_rows with_rows.are_rows enough
-          (same_behind (head_bytes count) (head_bytes (length rows)) (flat_map row_bytes some ++ drop at bytes) (flat_map row_bytes rows ++ with_rows.behind) refl both_ways)
+      (same_behind (head_bytes count) (head_bytes (length rows)) (flat_map row_bytes some ++ drop at bytes) (flat_map row_bytes rows ++ with_rows.behind) refl both_ways)
 
 -- the rows are not those that are there and another behind them, where none begins there
 no_row : (others rows some : List Row) (left behind : List ℕ) → All IsRow rows → rows ≡ some ++ others → length some < length rows
@@ -167,10 +167,10 @@ none_here bytes at count some rows begun fits few none with_rows =
 pub rows_unique : (rows others : List Row) (bytes : List ℕ) → BeginsWith rows bytes → BeginsWith others bytes → rows ≡ others
 rows_unique rows others bytes one other =
     let begun : Begun bytes (length (folder_bytes rows)) (length rows) rows = record {
-          are_rows = one.are_rows;
-          within = let long = ap length one.spelled in let sum = length-append (folder_bytes rows) one.behind in omega arith;
-          spelled = ap (take (length (folder_bytes rows))) one.spelled ∙ take_at (folder_bytes rows) one.behind (length (folder_bytes rows)) refl;
-        } in
+      are_rows = one.are_rows;
+      within = let long = ap length one.spelled in let sum = length-append (folder_bytes rows) one.behind in omega arith;
+      spelled = ap (take (length (folder_bytes rows))) one.spelled ∙ take_at (folder_bytes rows) one.behind (length (folder_bytes rows)) refl;
+    } in
     let all : length rows ≤ length rows = omega arith in
     let rest = rest_of bytes (length (folder_bytes rows)) (length rows) rows others begun one.few all other in
     let many = as_many bytes (length (folder_bytes rows)) (length rows) rows others begun one.few all other in

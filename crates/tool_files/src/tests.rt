@@ -230,7 +230,8 @@ fn a_folder_is_read_back_and_other_bytes_are_none(rt: HostRuntime) -> Result<(),
     }
     let bytes = encode(alloc, entries.as_slice())?;
     // The mark, 3 rows, and the first of them.
-    let front = b"RUSZDIR1\x03\0\0\0\0\0\0\0\x02\0\0\0\xfe\xff\xff\xff\xff\xff\xff\xff\x01\0\0\0\0\0\0\0a";
+    let front =
+        b"RUSZDIR1\x03\0\0\0\0\0\0\0\x02\0\0\0\xfe\xff\xff\xff\xff\xff\xff\xff\x01\0\0\0\0\0\0\0a";
     assert!(rt; bytes.as_slice().get(..front.len()) == Some(front.as_slice()));
     for end in 0..bytes.len() {
         assert!(rt; decode(alloc, &bytes.as_slice()[..end])?.is_none(), "{end}");
@@ -253,7 +254,16 @@ fn names(rt: HostRuntime) -> Result<(), Fail> {
     for name in ["a", "a b", "é", "-", "...", ".a", longest.as_str()] {
         assert!(rt; is_name(name), "{name}");
     }
-    for name in ["", ".", "..", "a/b", "a\n", "\u{1b}[m", "\0", longer.as_str()] {
+    for name in [
+        "",
+        ".",
+        "..",
+        "a/b",
+        "a\n",
+        "\u{1b}[m",
+        "\0",
+        longer.as_str(),
+    ] {
         assert!(rt; !is_name(name), "{name:?}");
     }
     Ok(())

@@ -36,7 +36,7 @@ loop-rest-preserved g c =
     let pass_is : c.write.new.pass ≡ record pass { file = written pass.file index block } = c.in_ok-write.ensures.file in
     let next : c.in-Some.next ≡ index + 1 = search rules in
     let made = writing_goes_on size c.args.bytes.now rest front behind block pass.file index c.loop-rest.invariant.0 cut some fits
-          (λ short. behind_is ∙ drop_all n rest (omega (arith, n_is, long, short))) block_is in (
+    (λ short. behind_is ∙ drop_all n rest (omega (arith, n_is, long, short))) block_is in (
       subst (λ file. Writing size c.args.bytes.now behind file c.in-Some.next) (sym (ap (λ p. p.file) pass_is))
           (subst (Writing size c.args.bytes.now behind (written pass.file index block)) (sym next) made),
       ap (λ p. p.number) pass_is ∙ c.loop-rest.invariant.1,
@@ -50,6 +50,6 @@ returns-clause-bytes g c =
     let pass = c.loop-rest.pass in
     let empty : length rest ≡ 0 = grind (arith, common_steps) in
     on_ok c.cut.result (c.cut.new.pass ≡ record pass { file = cut_to pass.file c.loop-rest.index }) (HasBytes size c.args.bytes.now c.cut.new.pass.file)
-        (λ is. subst (HasBytes size c.args.bytes.now) (sym (ap (λ p. p.file) is))
-            (writing_ends size c.args.bytes.now rest pass.file c.loop-rest.index c.loop-rest.invariant.0 (nil_from_length rest empty)))
-        c.cut.ensures.file
+    (λ is. subst (HasBytes size c.args.bytes.now) (sym (ap (λ p. p.file) is))
+    (writing_ends size c.args.bytes.now rest pass.file c.loop-rest.index c.loop-rest.invariant.0 (nil_from_length rest empty)))
+    c.cut.ensures.file

@@ -15,4 +15,4 @@ returns-in_ok-name-in-Ok-clause-spelled c =
     let enough : n ≤ length bytes - 20 = search rules in
     let there : n ≤ length (drop 20 bytes) = let long = length-drop 20 bytes in omega (arith, long, enough) in
     fields_make n c.u32_at-number.result c.u64_at-file_bytes.result (string_bytes c.in_ok-name-in-Ok.name) bytes
-        c.u32_at-number.ensures c.u64_at-file_bytes.ensures c.u64_at-name_bytes.ensures cut (ap length cut ∙ length-take-le n (drop 20 bytes) there)
+    c.u32_at-number.ensures c.u64_at-file_bytes.ensures c.u64_at-name_bytes.ensures cut (ap length cut ∙ length-take-le n (drop 20 bytes) there)

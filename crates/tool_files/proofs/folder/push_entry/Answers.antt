@@ -21,5 +21,5 @@ returns-clause-bytes c =
     let third : c.extend_from_slice-3.new.self.items ≡ c.extend_from_slice-2.new.self.items ++ to_le_bytes w64 (length (string_bytes entry.name)) = search rules in
     let fourth : c.extend_from_slice-4.new.self.items ≡ c.extend_from_slice-3.new.self.items ++ string_bytes entry.name = search rules in
     in_turn c.args.bytes.now.items (to_le_bytes w32 entry.number) (to_le_bytes w64 entry.bytes) (to_le_bytes w64 (length (string_bytes entry.name))) (string_bytes entry.name)
-        c.extend_from_slice.new.self.items c.extend_from_slice-2.new.self.items c.extend_from_slice-3.new.self.items c.extend_from_slice-4.new.self.items
-        first second third fourth
+    c.extend_from_slice.new.self.items c.extend_from_slice-2.new.self.items c.extend_from_slice-3.new.self.items c.extend_from_slice-4.new.self.items
+    first second third fourth

@@ -20,8 +20,8 @@ returns-in_ok-bytes-in-Some-clause-some g c =
     let here : file_at 1 passes ≡ Some pass.file = file_at_place 1 passes c.in-Some.place pass place ∙ ap (λ p. Some p.file) (sym is) in
     let content : bytes ≡ all_bytes size pass.file = search rules in
     if_found c.decode.result (λ entries. BeginsWith (map row_of entries.items) bytes) (λ entries. HasFolder size passes (map row_of entries.items))
-        (λ entries begins. record { folder = pass.file; here = here; spelled = subst (BeginsWith (map row_of entries.items)) content begins })
-        c.decode.ensures.some
+    (λ entries begins. record { folder = pass.file; here = here; spelled = subst (BeginsWith (map row_of entries.items)) content begins })
+    c.decode.ensures.some
 
 pub returns-in_ok-bytes-in-Some-clause-none : goal.returns-in_ok-bytes-in-Some-clause-none
 returns-in_ok-bytes-in-Some-clause-none g c =
@@ -34,7 +34,7 @@ returns-in_ok-bytes-in-Some-clause-none g c =
     let here : file_at 1 passes ≡ Some pass.file = file_at_place 1 passes c.in-Some.place pass place ∙ ap (λ p. Some p.file) (sym is) in
     let content : bytes ≡ all_bytes size pass.file = search rules in
     if_not_found c.decode.result ((rows : List Row) → BeginsWith rows bytes → ⊥) ((rows : List Row) → HasFolder size passes rows → ⊥)
-        (λ none rows has.
-          let same : has.folder ≡ pass.file = ap (λ o. unwrap_or o pass.file) (sym has.here ∙ here) in
-          none rows (subst (BeginsWith rows) (ap (all_bytes size) same ∙ sym content) has.spelled))
-        c.decode.ensures.none
+    (λ none rows has.
+    let same : has.folder ≡ pass.file = ap (λ o. unwrap_or o pass.file) (sym has.here ∙ here) in
+    none rows (subst (BeginsWith rows) (ap (all_bytes size) same ∙ sym content) has.spelled))
+    c.decode.ensures.none

@@ -21,17 +21,17 @@ returns-in_ok-bytes-in-Some-clause-folder g c =
     let number : new.number ≡ 1 = c.write_all.ensures.number ∙ number_at_place 1 passes place pass here in
     let few : length entries < 2 ^ 64 = search rules in
     on_ok c.write_all.result (HasBytes size c.as_slice.result.now new.file) _
-        (λ has. record {
-          folder = new.file;
-          here = set_file 1 passes place new here number;
-          spelled = record {
-            are_rows = c.requires.rows;
-            few = subst (λ n. n < 2 ^ 64) (sym (length-map entries row_of)) few;
-            behind = replicate has.zeros 0;
-            spelled = has.spelled ∙ ap (λ ys. ys ++ replicate has.zeros 0) (c.as_slice.ensures.value ∙ c.in_ok-bytes-in-Some.ensures.bytes);
-          };
-        })
-        c.write_all.ensures.bytes
+    (λ has. record {
+      folder = new.file;
+      here = set_file 1 passes place new here number;
+      spelled = record {
+        are_rows = c.requires.rows;
+        few = subst (λ n. n < 2 ^ 64) (sym (length-map entries row_of)) few;
+        behind = replicate has.zeros 0;
+        spelled = has.spelled ∙ ap (λ ys. ys ++ replicate has.zeros 0) (c.as_slice.ensures.value ∙ c.in_ok-bytes-in-Some.ensures.bytes);
+      };
+    })
+    c.write_all.ensures.bytes
 
 pub returns-in_ok-bytes-in-Some-clause-others : goal.returns-in_ok-bytes-in-Some-clause-others
 returns-in_ok-bytes-in-Some-clause-others g c =

@@ -17,15 +17,15 @@ returns-in-Some-clause-renewed c =
     let named : string_bytes c.in_ok-from_str.field-0 ≡ c.args.name.now = search rules in
     let same : c.as_mut_slice.result.now ≡ c.args.entries.now.items = search rules in
     renewed_set c.args.entries.now.items _ c.in-Some.place entry (written_back c.args.entries.now.items c.as_mut_slice.result.now _ _ c.in-Some.place entry same (search rules)) row (same_row (row_of entry) row named refl refl)
-        (some_of (IsRowPlace c.args.name.now (map row_of c.args.entries.now.items)) c.args.row c.in-Some.place c.in-Some.is c.requires.some)
+    (some_of (IsRowPlace c.args.name.now (map row_of c.args.entries.now.items)) c.args.row c.in-Some.place c.in-Some.is c.requires.some)
 
 pub returns-in-Some-clause-rows : goal.returns-in-Some-clause-rows
 returns-in-Some-clause-rows c =
     let entry : Entry = record { name = c.in_ok-from_str.field-0; number = c.args.number; bytes = c.args.bytes } in
     let same : c.as_mut_slice.result.now ≡ c.args.entries.now.items = search rules in
     λ past all. rows_set c.args.entries.now.items _ c.in-Some.place entry
-        (written_back c.args.entries.now.items c.as_mut_slice.result.now _ _ c.in-Some.place entry same (search rules))
-        (record { text = IsUtf8-string_bytes entry.name; not_folder = past; number_fits = search rules; bytes_fit = search rules; length_fits = search rules }) all
+    (written_back c.args.entries.now.items c.as_mut_slice.result.now _ _ c.in-Some.place entry same (search rules))
+    (record { text = IsUtf8-string_bytes entry.name; not_folder = past; number_fits = search rules; bytes_fit = search rules; length_fits = search rules }) all
 
 pub returns-in_ok-push-in-None-clause-renewed : goal.returns-in_ok-push-in-None-clause-renewed
 returns-in_ok-push-in-None-clause-renewed c =
@@ -40,4 +40,4 @@ returns-in_ok-push-in-None-clause-rows c =
     let entry : Entry = record { name = c.in_ok-from_str.field-0; number = c.args.number; bytes = c.args.bytes } in
     let items : c.push.new.self.items ≡ c.args.entries.now.items ++ entry ∷ [] = search rules in
     λ past all. rows_push c.args.entries.now.items c.push.new.self.items entry items
-        (record { text = IsUtf8-string_bytes entry.name; not_folder = past; number_fits = search rules; bytes_fit = search rules; length_fits = search rules }) all
+    (record { text = IsUtf8-string_bytes entry.name; not_folder = past; number_fits = search rules; bytes_fit = search rules; length_fits = search rules }) all

@@ -26,6 +26,6 @@ returns-clause-rows c =
     let entry : Entry = record { name = c.in_ok-name.name; number = old.number; bytes = old.bytes } in
     let is : old ≡ get_or entries c.args.row old = ap (get_or entries c.args.row) read_is in
     λ all.
-      let old_row : IsRow (row_of old) = is_row_there entries c.args.row old is c.requires.within all in
-      rows_set entries _ c.args.row entry refl
-          (record { text = IsUtf8-string_bytes entry.name; not_folder = old_row.not_folder; number_fits = old_row.number_fits; bytes_fit = old_row.bytes_fit; length_fits = search rules }) all
+    let old_row : IsRow (row_of old) = is_row_there entries c.args.row old is c.requires.within all in
+    rows_set entries _ c.args.row entry refl
+    (record { text = IsUtf8-string_bytes entry.name; not_folder = old_row.not_folder; number_fits = old_row.number_fits; bytes_fit = old_row.bytes_fit; length_fits = search rules }) all

@@ -22,20 +22,22 @@ returns g c =
     let same : c.as_slice-passes.result.now ≡ passes = search rules in
     let same_entries : c.as_slice.result.now ≡ entries = search rules in
     let folder : HasFolder size passes rows
-        = subst (λ ps. HasFolder size ps rows) same
-            (some_of (λ found. HasFolder size c.as_slice-passes.result.now (map row_of found.items)) c.in_ok-entries.field-0 c.in-Some.entries c.in-Some.is c.in_ok-entries.ensures.some) in
+    = subst (λ ps. HasFolder size ps rows) same
+    (some_of (λ found. HasFolder size c.as_slice-passes.result.now (map row_of found.items)) c.in_ok-entries.field-0 c.in-Some.entries c.in-Some.is c.in_ok-entries.ensures.some) in
     let row_here : IsRowPlace name rows row = subst (λ es. IsRowPlace name (map row_of es) row) same_entries c.in-Some-row_at.ensures.some in
     let entry_is : entry ≡ get_or entries row entry = search rules in
     let here : IsPlace entry.number passes place = subst (λ ps. IsPlace entry.number ps place) same c.in-Some-place_of.ensures.some in
     let is : pass ≡ get_or passes place pass = search rules in
     let there : file_at entry.number passes ≡ Some pass.file = file_at_place entry.number passes place pass here ∙ ap (λ p. Some p.file) (sym is) in
-    let cut : c.truncate.new.self.items ≡ take entry.bytes c.in_ok-bytes.bytes.items = search rules in
-    (refl, record {
-      rows = rows;
-      in_folder = folder;
-      row = row_of entry;
-      named = found_row name entries row entry entry_is row_here;
-      file = pass.file;
-      there = there;
-      content = cut ∙ ap (take entry.bytes) c.in_ok-bytes.ensures.bytes;
-    })
+    let cut : c.truncate.new.self.items ≡ take entry.bytes c.in_ok-bytes.bytes.items = search rules in (
+      refl,
+      record {
+        rows = rows;
+        in_folder = folder;
+        row = row_of entry;
+        named = found_row name entries row entry entry_is row_here;
+        file = pass.file;
+        there = there;
+        content = cut ∙ ap (take entry.bytes) c.in_ok-bytes.ensures.bytes;
+      },
+    )

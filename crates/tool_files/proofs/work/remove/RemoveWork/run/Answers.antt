@@ -13,7 +13,7 @@ write_folder-requires g c =
     let slice = c.as_slice.result.now in
     let entries = c.in-Some.entries.items in
     let folder : HasFolder size slice (map row_of entries)
-        = some_of (λ found. HasFolder size slice (map row_of found.items)) c.in_ok-entries.field-0 c.in-Some.entries c.in-Some.is c.in_ok-entries.ensures.some in
+    = some_of (λ found. HasFolder size slice (map row_of found.items)) c.in_ok-entries.field-0 c.in-Some.entries c.in-Some.is c.in_ok-entries.ensures.some in
     into (λ es. All IsRow (map row_of es)) _ c.take_row-number.new.entries.items (search rules) (c.take_row-number.ensures.rows folder.spelled.are_rows)
 
 pub returns : goal.returns
@@ -25,7 +25,7 @@ returns g c =
     let entries = c.in-Some.entries.items in
     let rows = map row_of entries in
     let folder : HasFolder size slice rows
-        = some_of (λ found. HasFolder size slice (map row_of found.items)) c.in_ok-entries.field-0 c.in-Some.entries c.in-Some.is c.in_ok-entries.ensures.some in
+    = some_of (λ found. HasFolder size slice (map row_of found.items)) c.in_ok-entries.field-0 c.in-Some.entries c.in-Some.is c.in_ok-entries.ensures.some in
     let had : HasFolder size before rows = into (λ ps. HasFolder size ps rows) before slice (search rules) folder in
     let same_entries : c.as_slice-2.result.now ≡ entries = search rules in
     let here : IsRowPlace name rows c.in-Some-row_at.row = subst (λ es. IsRowPlace name (map row_of es) c.in-Some-row_at.row) same_entries c.in-Some-row_at.ensures.some in
@@ -38,4 +38,4 @@ returns g c =
     let same_between : c.as_mut_slice-passes.result.now ≡ between = search rules in
     let others : (n : ℕ) → n ≢ 1 → file_at n after ≡ file_at n between = λ n other. c.in_ok-write_folder.ensures.others n other ∙ ap (file_at n) same_between in
     into (WasRemoved size name before) _ after (search rules)
-        (was_removed size name before between after rows left taken.0 had taken.1.1 (c.take_row-number.ensures.removed name here) deleted has others)
+    (was_removed size name before between after rows left taken.0 had taken.1.1 (c.take_row-number.ensures.removed name here) deleted has others)

@@ -13,10 +13,10 @@ write_folder-requires g c =
     let slice = c.as_slice.result.now in
     let entries = c.in-Some.entries.items in
     let folder : HasFolder size slice (map row_of entries)
-        = some_of (λ found. HasFolder size slice (map row_of found.items)) c.in_ok-entries.field-0 c.in-Some.entries c.in-Some.is c.in_ok-entries.ensures.some in
+    = some_of (λ found. HasFolder size slice (map row_of found.items)) c.in_ok-entries.field-0 c.in-Some.entries c.in-Some.is c.in_ok-entries.ensures.some in
     let same : c.as_mut_slice.result.now ≡ entries = search rules in
     let rows : All IsRow (map row_of c.rename_row.new.entries)
-        = c.in_ok-rename_row.ensures.rows (into (λ es. All IsRow (map row_of es)) c.as_mut_slice.result.now entries same folder.spelled.are_rows) in
+    = c.in_ok-rename_row.ensures.rows (into (λ es. All IsRow (map row_of es)) c.as_mut_slice.result.now entries same folder.spelled.are_rows) in
     into (λ es. All IsRow (map row_of es)) _ c.rename_row.new.entries (search rules) rows
 
 pub returns : goal.returns
@@ -30,7 +30,7 @@ returns g c =
     let rows = map row_of entries in
     let row = c.in-Some-row_at.row in
     let folder : HasFolder size slice rows
-        = some_of (λ found. HasFolder size slice (map row_of found.items)) c.in_ok-entries.field-0 c.in-Some.entries c.in-Some.is c.in_ok-entries.ensures.some in
+    = some_of (λ found. HasFolder size slice (map row_of found.items)) c.in_ok-entries.field-0 c.in-Some.entries c.in-Some.is c.in_ok-entries.ensures.some in
     let had : HasFolder size before rows = into (λ ps. HasFolder size ps rows) before slice (search rules) folder in
     let same_entries : c.as_slice-2.result.now ≡ entries = search rules in
     let here : IsRowPlace name rows row = subst (λ es. IsRowPlace name (map row_of es) row) same_entries c.in-Some-row_at.ensures.some in
