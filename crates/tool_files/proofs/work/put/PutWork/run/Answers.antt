@@ -1,4 +1,5 @@
-use Rattle.std.proofs.Common.{◌≡◌, ◌≢◌, ◌∙◌, ℕ, All, length, map, ap, sym, rules}
+use Rattle.std.proofs.Common.{◌≡◌, ◌≢◌, ◌∙◌, ◌++◌, ℕ, All, length, map, take, drop, ap, rules}
+use Rattle.std.proofs.lemmas.List.{take_at}
 use Rattle.geometry.specs.Shape.{block_bytes}
 use Rattle.tool_files.specs.Folder.{IsRow}
 use Rattle.tool_files.specs.Names.{file_at, HasFolder, Renews, WasPut}
@@ -35,7 +36,7 @@ write_folder-requires g c =
     let folder : HasFolder size slice (map row_of entries)
     = some_of (λ found. HasFolder size slice (map row_of found.items)) c.in_ok-entries.field-0 c.in-Some.entries c.in-Some.is c.in_ok-entries.ensures.some in
     let rows : All IsRow (map row_of c.renew.new.entries.items) = c.in_ok-renew.ensures.rows c.in_ok-number.ensures.past folder.spelled.are_rows in
-    into (λ es. All IsRow (map row_of es)) _ c.renew.new.entries.items (search rules) rows
+    record { rows = into (λ es. All IsRow (map row_of es)) c.as_slice-3.result.now c.renew.new.entries.items (search rules) rows }
 
 pub returns : goal.returns
 returns g c =
@@ -56,8 +57,8 @@ returns g c =
     let renews : Renews (record { name = name; number = number; bytes = length bytes }) rows renewed
     = into (λ n. Renews (record { name = name; number = number; bytes = n }) rows renewed) (length bytes) _ (search rules) c.in_ok-renew.ensures.renewed in
     let has : HasFolder size after renewed
-    = into (λ es. HasFolder size after (map row_of es)) c.renew.new.entries.items _ (search rules) c.in_ok-write_folder.ensures.folder in
+    = into (λ es. HasFolder size after (map row_of es)) c.renew.new.entries.items c.as_slice-3.result.now (search rules) c.in_ok-write_folder.ensures.folder in
     let same_between : c.as_mut_slice-passes.result.now ≡ between = search rules in
     let others : (n : ℕ) → n ≢ 1 → file_at n after ≡ file_at n between = λ n other. c.in_ok-write_folder.ensures.others n other ∙ ap (file_at n) same_between in
-    into (WasPut size name bytes number before) _ after (search rules)
+    into (WasPut size name bytes number before) (take c.write_row.new.passes.len (after ++ drop (length after) between)) after (take_at after (drop (length after) between) c.write_row.new.passes.len (search rules))
     (was_put size name bytes number before between after rows renewed had c.in_ok-number.ensures.written c.in_ok-number.ensures.past renews has others)

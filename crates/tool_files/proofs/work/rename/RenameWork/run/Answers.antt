@@ -1,4 +1,5 @@
-use Rattle.std.proofs.Common.{◌≡◌, ◌≢◌, ◌∙◌, ℕ, All, map, ap, subst, rules}
+use Rattle.std.proofs.Common.{◌≡◌, ◌≢◌, ◌∙◌, ◌++◌, ℕ, All, length, map, take, drop, ap, subst, sym, rules}
+use Rattle.std.proofs.lemmas.List.{take_at}
 use Rattle.geometry.specs.Shape.{block_bytes}
 use Rattle.tool_files.specs.Folder.{IsRow}
 use Rattle.tool_files.specs.Names.{file_at, HasFolder, IsRowPlace, Renames, WasRenamed}
@@ -17,7 +18,7 @@ write_folder-requires g c =
     let same : c.as_mut_slice.result.now ≡ entries = search rules in
     let rows : All IsRow (map row_of c.rename_row.new.entries)
     = c.in_ok-rename_row.ensures.rows (into (λ es. All IsRow (map row_of es)) c.as_mut_slice.result.now entries same folder.spelled.are_rows) in
-    into (λ es. All IsRow (map row_of es)) _ c.rename_row.new.entries (search rules) rows
+    record { rows = into (λ es. All IsRow (map row_of es)) c.as_slice-4.result.now c.rename_row.new.entries (c.as_slice-4.ensures.value ∙ take_at c.rename_row.new.entries (drop (length c.rename_row.new.entries) entries) c.in-Some.entries.len (search rules)) rows }
 
 pub returns : goal.returns
 returns g c =
@@ -39,7 +40,7 @@ returns g c =
     let renamed = map row_of c.rename_row.new.entries in
     let after = c.write_folder.new.passes in
     let renames : Renames name to rows renamed = subst (λ es. Renames name to (map row_of es) renamed) same (c.in_ok-rename_row.ensures.renamed name here_mut) in
-    let has : HasFolder size after renamed = into (λ es. HasFolder size after (map row_of es)) c.rename_row.new.entries _ (search rules) c.in_ok-write_folder.ensures.folder in
+    let has : HasFolder size after renamed = into (λ es. HasFolder size after (map row_of es)) c.rename_row.new.entries c.as_slice-4.result.now (sym (c.as_slice-4.ensures.value ∙ take_at c.rename_row.new.entries (drop (length c.rename_row.new.entries) entries) c.in-Some.entries.len (search rules))) c.in_ok-write_folder.ensures.folder in
     let same_passes : c.as_mut_slice-passes.result.now ≡ before = search rules in
     let others : (n : ℕ) → n ≢ 1 → file_at n after ≡ file_at n before = λ n other. c.in_ok-write_folder.ensures.others n other ∙ ap (file_at n) same_passes in
-    into (WasRenamed size name to before) _ after (search rules) (was_renamed size name to before after rows renamed had renames has others)
+    into (WasRenamed size name to before) (take c.args.rights.now.passes.len (after ++ drop (length after) before)) after (take_at after (drop (length after) before) c.args.rights.now.passes.len (search rules)) (was_renamed size name to before after rows renamed had renames has others)
