@@ -1,0 +1,115 @@
+-- What a write and a cut do to the bytes of a file's first blocks.
+use Rattle.std.proofs.Common.{◌≡◌, ◌≢◌, ◌∙◌, ◌+◌, ◌-◌, ◌++◌, ◌<◌, ◌≤◌, ℕ, zero, suc, List, [], Some, None, min, max, cond, nat_lt, unwrap_or, replicate, length, ap, ap₂, sym, subst, refl, eq-eqb, ne_eqb, add-one, lit<, inl, inr, ◌⊎◌, arith}
+use borrow.Author.Tests.{lt-ltb}
+use Rattle.std.proofs.lemmas.Bool.{cases_lt}
+use Rattle.std.proofs.lemmas.Cmp.{nat_cmp_total}
+use Rattle.std.proofs.lemmas.List.{append_assoc, append-nil, length-append}
+use Rattle.std.specs.Cmp.{unsigned_tied}
+use Rattle.std.specs.FinMap.{FinMap, get, insert, get-insert, get-retain_keys, nat_cmp-IsAntisymmetric}
+use Rattle.std.specs.Ordering.{nat_cmp}
+use Rattle.geometry.specs.File.{File, Block, bytes_at, written, cut_to}
+use Rattle.geometry.specs.Shape.{block_bytes}
+use Rattle.geometry.specs.declared.shape.Shape.{Shape}
+use Rattle.geometry.specs.declared.shape.Shape.TheVariants.{Tiny, Kernel}
+use Rattle.tool_files.specs.Content.{front_bytes, all_bytes, HasBytes}
+
+pub block_some : (shape : Shape) → 0 < block_bytes shape
+block_some Tiny = lit< tt
+block_some Kernel = lit< tt
+
+got : (m : FinMap nat_cmp Block) (k : ℕ) (v : Block) → get (insert m k v) k ≡ Some v
+got m k v = get-insert nat_cmp_total m k v k ∙ ap (λ b. cond b (Some v) (get m k)) (unsigned_tied k k ∙ eq-eqb k k refl)
+
+kept : (m : FinMap nat_cmp Block) (k : ℕ) (v : Block) (q : ℕ) → q ≢ k → get (insert m k v) q ≡ get m q
+kept m k v q e = get-insert nat_cmp_total m k v q ∙ ap (λ b. cond b (Some v) (get m q)) (unsigned_tied q k ∙ ne_eqb q k e)
+
+front_written : (size : ℕ) (file : File) (index : ℕ) (block : Block) (n : ℕ) → n ≤ index
+    → front_bytes size (written file index block) n ≡ front_bytes size file n
+front_written size file index block zero few = refl
+front_written size file index block (suc n) few =
+    let fewer : n ≤ index = omega arith in
+    let other : n ≢ index = λ e. omega arith in
+    ap₂ (λ (xs ys : List ℕ). xs ++ ys) (front_written size file index block n fewer) (ap (λ o. unwrap_or o (replicate size 0)) (kept file.blocks index block n other))
+
+front_cut : (size : ℕ) (file : File) (m n : ℕ) → n ≤ m → front_bytes size (cut_to file m) n ≡ front_bytes size file n
+front_cut size file m zero few = refl
+front_cut size file m (suc n) few =
+    let fewer : n ≤ m = omega arith in
+    let below : n < m = omega arith in
+    ap₂ (λ (xs ys : List ℕ). xs ++ ys) (front_cut size file m n fewer)
+    (ap (λ o. unwrap_or o (replicate size 0))
+    (get-retain_keys file.blocks (λ k. nat_lt k m) n (λ x e. ap (λ k. nat_lt k m) (sym (nat_cmp-IsAntisymmetric n x e)))
+    ∙ ap (λ b. cond b (get file.blocks n) None) (lt-ltb n m below)))
+
+-- so many blocks of the file are written, and these bytes are left
+pub record Writing (size : ℕ) (bytes rest : List ℕ) (file : File) (index : ℕ) : Type 0 where
+  pub reaches : index ≤ file.length
+  pub zeros : ℕ
+  pub in_last_block : zeros < size
+  pub at_the_end : 0 < length rest → zeros ≡ 0
+  pub spelled : front_bytes size file index ++ rest ≡ bytes ++ replicate zeros 0
+
+pub writing_begins : (size : ℕ) (bytes : List ℕ) (file : File) → 0 < size → Writing size bytes bytes file 0
+writing_begins size bytes file some = record {
+  reaches = omega arith;
+  zeros = 0;
+  in_last_block = some;
+  at_the_end = λ _. refl;
+  spelled = sym (append-nil bytes);
+}
+
+-- a block is written, which begins with what was left in front
+pub writing_goes_on : (size : ℕ) (bytes rest front behind block : List ℕ) (file : File) (index : ℕ) → Writing size bytes rest file index
+    → rest ≡ front ++ behind → 0 < length front → length front ≤ size → (length front < size → behind ≡ []) → block ≡ front ++ replicate (size - length front) 0
+    → Writing size bytes behind (written file index block) (index + 1)
+writing_goes_on size bytes rest front behind block file index writing cut some fits last is = record {
+  reaches = omega arith;
+  zeros = size - length front;
+  in_last_block = omega arith;
+  at_the_end = λ more. elim (cases_lt (length front) size) [
+    | inl short ↦ let none : length behind ≡ 0 = ap length (last short) in absurd (omega arith)
+    | inr full ↦ omega arith
+  ];
+  spelled =
+      ap (λ ys. ys ++ behind)
+      (ap (front_bytes size (written file index block)) (add-one index)
+      ∙ ap₂ (λ (xs ys : List ℕ). xs ++ ys) (front_written size file index block index (omega arith)) (ap (λ o. unwrap_or o (replicate size 0)) (got file.blocks index block) ∙ is))
+      ∙ moved (cases_lt (length front) size);
+}
+  where
+    so_far : front_bytes size file index ++ (front ++ behind) ≡ bytes
+    so_far =
+        let long : 0 < length rest = let sum = ap length cut ∙ length-append front behind in omega arith in
+        ap (λ ys. front_bytes size file index ++ ys) (sym cut) ∙ writing.spelled ∙ ap (λ n. bytes ++ replicate n 0) (writing.at_the_end long) ∙ append-nil bytes
+
+    moved : (length front < size) ⊎ (size ≤ length front)
+        → front_bytes size file index ++ (front ++ replicate (size - length front) 0) ++ behind ≡ bytes ++ replicate (size - length front) 0
+    moved (inl short) =
+        ap (λ ys. front_bytes size file index ++ (front ++ replicate (size - length front) 0) ++ ys) (last short)
+        ∙ append-nil (front_bytes size file index ++ (front ++ replicate (size - length front) 0))
+        ∙ sym (append_assoc (front_bytes size file index) front (replicate (size - length front) 0))
+        ∙ ap (λ ys. ys ++ replicate (size - length front) 0)
+        (sym (append-nil (front_bytes size file index ++ front)) ∙ append_assoc (front_bytes size file index) front [] ∙ ap (λ ys. front_bytes size file index ++ (front ++ ys)) (sym (last short)) ∙ so_far)
+    moved (inr full) =
+        let none : size - length front ≡ 0 = omega arith in
+        ap (λ n. front_bytes size file index ++ (front ++ replicate n 0) ++ behind) none
+        ∙ ap (λ ys. front_bytes size file index ++ ys ++ behind) (append-nil front)
+        ∙ append_assoc (front_bytes size file index) front behind
+        ∙ so_far
+        ∙ sym (append-nil bytes)
+        ∙ ap (λ n. bytes ++ replicate n 0) (sym none)
+
+-- nothing is left, and the file is cut behind what was written
+pub writing_ends : (size : ℕ) (bytes rest : List ℕ) (file : File) (index : ℕ) → Writing size bytes rest file index → rest ≡ []
+    → HasBytes size bytes (cut_to file index)
+writing_ends size bytes rest file index writing none = record {
+  zeros = writing.zeros;
+  in_last_block = writing.in_last_block;
+  spelled =
+      let long : min index file.length ≡ index = let reaches = writing.reaches in omega arith in
+      ap (front_bytes size (cut_to file index)) long
+      ∙ front_cut size file index index (omega arith)
+      ∙ sym (append-nil (front_bytes size file index))
+      ∙ ap (λ ys. front_bytes size file index ++ ys) (sym none)
+      ∙ writing.spelled;
+}

@@ -1,0 +1,9 @@
+mod Cases
+mod Contents
+mod Entries
+mod Fields
+mod Got
+mod Places
+mod Spelling
+mod Updates
+mod Works

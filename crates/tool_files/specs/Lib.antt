@@ -1,0 +1,4 @@
+pub mod Content
+pub mod Folder
+pub mod Names
+pub mod Rows

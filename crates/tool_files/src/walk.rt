@@ -1,0 +1,90 @@
+//! The files of the passes, and the folder among them.
+ghost use Rattle.std.specs.Prelude.{◌≡◌, ◌≢◌, ◌<◌, ◌⊎◌, ℕ, List, None, All, length, map, IfOk, IfErr, IfSome, IfNone, OnOk};
+ghost use Rattle.geometry.specs.Shape.{block_bytes};
+ghost use Rattle.geometry.specs.declared.error.Error.TheVariants.{Device, NoMemory};
+ghost use Rattle.tool_files.specs.Folder.{Row, IsRow};
+ghost use Rattle.tool_files.specs.Names.{file_at, HasFolder, HasNoRow, IsPlace, IsRowPlace};
+ghost use Rattle.tool_files.specs.Rows.{row_of};
+
+use crate::content::{read_all, write_all};
+use crate::entry::Entry;
+use crate::folder::{FOLDER, decode, encode};
+use device::{Block, Meta};
+use file_cells::FilePass;
+use geometry::Error;
+use rights_names::VolumeName;
+use std::alloc::Global;
+use std::sync::Wait;
+use volume::Volume;
+
+/// Where the first pass of a number is.
+pub(crate) fn place_of<V: VolumeName>(passes: &[FilePass<V>], number: u32) -> Option<usize>
+    ensures within { IfSome result (λ place. place < length passes.now) }
+    ensures some { IfSome result (λ place. IsPlace number passes.now place) }
+    ensures none { IfNone result (file_at number passes.now ≡ None) }
+{
+    for (place, pass) in passes.iter().enumerate() {
+        if pass.number() == number {
+            return Some(place);
+        }
+    }
+    None
+}
+
+/// Where the first row of a name is.
+pub(crate) fn row_at(entries: &[Entry], name: &str) -> Option<usize>
+    ensures within { IfSome result (λ place. place < length entries.now) }
+    ensures some { IfSome result (λ place. IsRowPlace name.now (map row_of entries.now) place) }
+    ensures none { IfNone result (HasNoRow name.now (map row_of entries.now)) }
+{
+    for (place, entry) in entries.iter().enumerate() {
+        if entry.name.as_str() == name {
+            return Some(place);
+        }
+    }
+    None
+}
+
+/// The rows of the folder. None exactly where the passes have no folder. Answers NoMemory, or Device where the device failed.
+pub(crate) fn read_folder<V: VolumeName, M: Meta, B: Block + Drop, R: Wait>(
+    rt: &R,
+    alloc: Global,
+    volume: &Volume<V, M, B>,
+    passes: &[FilePass<V>],
+) -> Result<Option<Vec<Entry>>, Error>
+    ensures some { IfOk result (λ found. IfSome found (λ entries. HasFolder (block_bytes V.Numbers.geometry.shape) passes.now (map row_of entries.items))) }
+    ensures none { IfOk result (λ found. IfNone found ((rows : List Row) → HasFolder (block_bytes V.Numbers.geometry.shape) passes.now rows → ⊥)) }
+    ensures error { IfErr result (λ error. (error ≡ NoMemory) ⊎ (error ≡ Device)) }
+{
+    match place_of(passes, FOLDER) {
+        Some(place) => {
+            let bytes = read_all(rt, alloc, volume, &passes[place])?;
+            decode(alloc, bytes.as_slice())
+        }
+        None => Ok(None),
+    }
+}
+
+/// The folder becomes these rows, and no other file changes. What it is after an error is not said. The answers are those of
+/// `write_all`; NoFile where there is no folder's file.
+pub(crate) fn write_folder<V: VolumeName, M: Meta, B: Block + Drop, R: Wait>(
+    rt: &R,
+    alloc: Global,
+    volume: &Volume<V, M, B>,
+    passes: &mut [FilePass<V>],
+    entries: &[Entry],
+    now: u64,
+) -> Result<(), Error>
+    requires rows { All IsRow (map row_of entries.now) }
+    ensures folder { OnOk result (HasFolder (block_bytes V.Numbers.geometry.shape) passes.new (map row_of entries.now)) }
+    ensures others { (n : ℕ) → n ≢ 1 → file_at n passes.new ≡ file_at n passes.old }
+{
+    match place_of(passes, FOLDER) {
+        Some(place) => {
+            let bytes = encode(alloc, entries)?;
+            let pass = &mut passes[place];
+            write_all(rt, alloc, volume, pass, bytes.as_slice(), now)
+        }
+        None => Err(Error::NoFile),
+    }
+}

@@ -1,0 +1,14 @@
+//! Work on named files.
+mod get;
+mod list;
+mod make_folder;
+mod put;
+mod remove;
+mod rename;
+
+pub use get::{Get, GetNumber};
+pub use list::{List, Listing, NumberedFile};
+pub use make_folder::MakeFolder;
+pub use put::Put;
+pub use remove::Remove;
+pub use rename::Rename;

@@ -1,0 +1,90 @@
+//! A file goes.
+ghost use Rattle.std.specs.Prelude.{◌≡◌, ◌≢◌, ◌<◌, ℕ, List, All, length, map, OnOk};
+ghost use Rattle.tool_files.specs.Folder.{Row, IsRow};
+ghost use Rattle.tool_files.specs.Names.{file_at, IsRowOf, IsRowPlace, Removes};
+ghost use Rattle.tool_files.specs.Rows.{row_of};
+
+use crate::entry::Entry;
+use crate::refusal::Refusal;
+use crate::walk::{place_of, read_folder, row_at, write_folder};
+use device::{Block, Meta};
+use file_cells::FilePass;
+use flash_volume::{Rights, Work};
+use geometry::Error;
+use rights_names::VolumeName;
+use std::alloc::Global;
+use std::sync::Wait;
+use volume::Volume;
+
+/// Removes a name from the folder, and deletes its file.
+#[derive(Clone, Copy, Drop)]
+pub struct Remove<'a> {
+    pub name: &'a str,
+    /// The time of the writes, in seconds.
+    pub now: u64,
+}
+
+impl<'a, M: Meta, B: Block + Drop> Work<M, B> for Remove<'a> {
+    ghost use Rattle.std.specs.Prelude.{◌≡◌, MatchResult};
+    ghost use Rattle.geometry.specs.Shape.{block_bytes};
+    ghost use Rattle.tool_files.specs.Names.{WasRemoved};
+
+    type Output = Result<(), Refusal>;
+
+    // The name is gone, and no file of another row changes; or nothing does.
+    ghost post = { λ remove geometry before output after. MatchResult output
+        (λ _. WasRemoved (block_bytes geometry.shape) remove.name.now before after)
+        (λ refusal. after ≡ before) };
+
+    fn run<V: VolumeName, R: Wait>(
+        self,
+        rt: &R,
+        alloc: Global,
+        volume: &Volume<V, M, B>,
+        rights: &mut Rights<V>,
+    ) -> Result<Result<(), Refusal>, Error> {
+        let Some(mut entries) = read_folder(rt, alloc, volume, rights.passes.as_slice())? else {
+            return Ok(Err(Refusal::NoFolder));
+        };
+        let Some(row) = row_at(entries.as_slice(), self.name) else {
+            return Ok(Err(Refusal::NoSuchFile));
+        };
+        let number = take_row(&mut entries, row);
+        delete_file(rt, volume, &mut rights.passes, number)?;
+        let passes = rights.passes.as_mut_slice();
+        write_folder(rt, alloc, volume, passes, entries.as_slice(), self.now)?;
+        Ok(Ok(()))
+    }
+}
+
+// Takes a row out, and answers the number of its file.
+fn take_row(entries: &mut Vec<Entry>, row: usize) -> u32
+    requires within { row < length entries.old.items }
+    ensures taken { (name : List ℕ) → IsRowPlace name (map row_of entries.old.items) row → (taken : Row) × (taken.number ≡ result) × IsRowOf name (map row_of entries.old.items) taken }
+    ensures removed { (name : List ℕ) → IsRowPlace name (map row_of entries.old.items) row → Removes name (map row_of entries.old.items) (map row_of entries.new.items) }
+    ensures rows { All IsRow (map row_of entries.old.items) → All IsRow (map row_of entries.new.items) }
+{
+    let entry = entries.remove(row);
+    entry.number
+}
+
+// Deletes the file of a number, where there is one.
+fn delete_file<V: VolumeName, M: Meta, B: Block + Drop, R: Wait>(
+    rt: &R,
+    volume: &Volume<V, M, B>,
+    passes: &mut Vec<FilePass<V>>,
+    number: u32,
+) -> Result<(), Error>
+    ensures others { OnOk result ((n : ℕ) → n ≢ number → file_at n passes.new.items ≡ file_at n passes.old.items) }
+{
+    match place_of(passes.as_slice(), number) {
+        Some(place) => {
+            let pass = passes.remove(place);
+            match volume.delete(rt, pass) {
+                Ok(()) => Ok(()),
+                Err((_pass, error)) => Err(error),
+            }
+        }
+        None => Ok(()),
+    }
+}

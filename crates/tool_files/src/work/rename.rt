@@ -1,0 +1,80 @@
+//! A file gets another name.
+ghost use Rattle.std.specs.Prelude.{◌<◌, ℕ, List, All, length, map, OnOk};
+ghost use Rattle.tool_files.specs.Folder.{IsRow};
+ghost use Rattle.tool_files.specs.Names.{IsRowPlace, Renames};
+ghost use Rattle.tool_files.specs.Rows.{row_of};
+
+use crate::entry::{Entry, is_name};
+use crate::refusal::Refusal;
+use crate::walk::{read_folder, row_at, write_folder};
+use device::{Block, Meta};
+use flash_volume::{Rights, Work};
+use geometry::Error;
+use rights_names::VolumeName;
+use std::alloc::Global;
+use std::sync::Wait;
+use volume::Volume;
+
+/// A file gets another name, which no file has.
+#[derive(Clone, Copy, Drop)]
+pub struct Rename<'a> {
+    pub name: &'a str,
+    pub to: &'a str,
+    /// The time of the writes, in seconds.
+    pub now: u64,
+}
+
+impl<'a, M: Meta, B: Block + Drop> Work<M, B> for Rename<'a> {
+    ghost use Rattle.std.specs.Prelude.{◌≡◌, MatchResult};
+    ghost use Rattle.geometry.specs.Shape.{block_bytes};
+    ghost use Rattle.tool_files.specs.Names.{WasRenamed};
+
+    type Output = Result<(), Refusal>;
+
+    // The file has the new name, and no file changes but the folder; or nothing does.
+    ghost post = { λ rename geometry before output after. MatchResult output
+        (λ _. WasRenamed (block_bytes geometry.shape) rename.name.now rename.to.now before after)
+        (λ refusal. after ≡ before) };
+
+    fn run<V: VolumeName, R: Wait>(
+        self,
+        rt: &R,
+        alloc: Global,
+        volume: &Volume<V, M, B>,
+        rights: &mut Rights<V>,
+    ) -> Result<Result<(), Refusal>, Error> {
+        if !is_name(self.to) {
+            return Ok(Err(Refusal::BadName));
+        }
+        let Some(mut entries) = read_folder(rt, alloc, volume, rights.passes.as_slice())? else {
+            return Ok(Err(Refusal::NoFolder));
+        };
+        let Some(row) = row_at(entries.as_slice(), self.name) else {
+            return Ok(Err(Refusal::NoSuchFile));
+        };
+        if row_at(entries.as_slice(), self.to).is_some() {
+            return Ok(Err(Refusal::NameTaken));
+        }
+        rename_row(alloc, entries.as_mut_slice(), row, self.to)?;
+        let passes = rights.passes.as_mut_slice();
+        write_folder(rt, alloc, volume, passes, entries.as_slice(), self.now)?;
+        Ok(Ok(()))
+    }
+}
+
+// A row gets another name.
+fn rename_row(alloc: Global, entries: &mut [Entry], row: usize, to: &str) -> Result<(), Error>
+    requires within { row < length entries.old }
+    ensures renamed { OnOk result ((name : List ℕ) → IsRowPlace name (map row_of entries.old) row → Renames name to.now (map row_of entries.old) (map row_of entries.new)) }
+    ensures rows { OnOk result (All IsRow (map row_of entries.old) → All IsRow (map row_of entries.new)) }
+{
+    let name = String::from_str(alloc, to)?;
+    let old = &entries[row];
+    let entry = Entry {
+        name,
+        number: old.number,
+        bytes: old.bytes,
+    };
+    entries[row] = entry;
+    Ok(())
+}
