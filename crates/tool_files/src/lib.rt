@@ -9,8 +9,6 @@ mod entry;
 mod folder;
 mod law;
 mod refusal;
-#[cfg(test)]
-mod tests;
 mod tidy;
 mod walk;
 mod work;
