@@ -2,7 +2,7 @@
 //!
 //! There are five pairs of calls, each of which leaves all as it was: `pin and unpin` (a segment's word), `mark and clear`
 //! (the books), `enter and leave` (the turnstile's channel), `enter and leave by rests`, and `take and put` (the pool of free segments). With no argument each
-//! pair is done ten times, and counted. With `--measure` each is done a million times on one thread, and a million times on
+//! pair is done ten times on one thread, and ten times on each of two, and counted. With `--measure` each is done a million times on one thread, and a million times on
 //! each of two threads that share the tables, and the nanoseconds a pair are told, beside those of a bare addition and
 //! subtraction. The time of a run has the making of its tables and threads in it.
 #![tactic(auto)]
@@ -14,8 +14,6 @@ mod bare;
 mod marks;
 mod pins;
 mod slips;
-#[cfg(test)]
-mod tests;
 mod turns;
 
 use geometry::Error;
@@ -112,15 +110,16 @@ fn main(rt: HostRuntime) -> io::Result<()> {
     }
 }
 
-// How many of ten pairs of each kind were done.
-fn shown<R: Wait>(rt: &R, alloc: Global) -> Result<String, Error>
+// How many of ten pairs of each kind were done on one thread, and on each of two.
+fn shown<R: Threads + Wait + Sync>(rt: &R, alloc: Global) -> Result<String, Error>
     ensures { IsOkUnless result NoMemory }
 {
     let mut text = String::new(alloc);
     for pair in PAIRS {
         let name = pair.name();
         let done = pair.on_one(rt, alloc, SHOWN)?;
-        write!(text, "{name} {done}\n")?;
+        let (first, second) = pair.on_two(rt, alloc, SHOWN)?;
+        write!(text, "{name} {done}, {first} and {second}\n")?;
     }
     Ok(text)
 }

@@ -134,10 +134,10 @@ fn each_image_is_read_back(rt: HostRuntime) -> Result<(), Fail> {
 // The n-th call of a write fails: whether it was done, and the version that counts afterwards.
 fn crash_in_write(alloc: Global, nth: u32, late: bool) -> Result<(bool, u32), Error> {
     let file = empty_file(alloc)?;
-    let fuse = Arc::new(alloc, Fuse::new(alloc, 1)?)?;
+    let fuse = Arc::new(alloc, Fuse::new(alloc))?;
     let meta = Faulty::new(area_of(alloc, &file)?, Arc::try_clone(&fuse)?);
     let (mut packs, image) = opened(alloc, meta, &file)?;
-    fuse.arm(nth, late);
+    fuse.arm(nth, late)?;
     let done = write_total(&mut packs, alloc, image, 7).is_ok();
     let (again, _image) = opened(alloc, packs.area.meta.into_inner(), &file)?;
     Ok((done, again.area.version))

@@ -1,10 +1,11 @@
 //! A device that fails when told to: the n-th write or sync from the moment of arming fails once.
 ghost use Rattle.std.specs.Prelude.{◌≡◌, ◌+◌};
 
+use crate::waiting::Waiting;
 use crate::{Block, DeviceError, Failures, Meta};
 use std::alloc::{AllocError, Global};
-use std::sync::Arc;
-use std::sync::atomic::{AtomicU64, Ordering};
+use std::sync::{Arc, Mutex, MutexGuard};
+use std::thread;
 
 /// What a fuse does to a call.
 #[derive(Clone, Copy, Debug, PartialEq, Eq)]
@@ -17,61 +18,48 @@ pub enum Fault {
 
 /// Says which calls fail. A device and who arms it share it.
 ///
-/// No contract says what an atomic number holds, so what a fuse does is only tested.
+/// No contract says what a lock holds, so that a fuse does what `Waiting` promises is only tested.
 #[derive(Drop)]
 pub struct Fuse {
-    // For each failure that may wait at one time: twice the calls that are left, and one more where the fault comes late. Below 2
-    // it is not armed.
-    words: Vec<AtomicU64>,
+    waiting: Mutex<Waiting>,
 }
 
 impl Fuse {
-    /// A fuse that is not armed, with room for so many failures at one time. The only error is want of memory.
-    pub fn new(alloc: Global, failures: u32) -> Result<Fuse, AllocError> {
-        let mut words = Vec::new(alloc);
-        for _failure in 0..failures {
-            words.push(AtomicU64::new(0))?;
+    /// A fuse that is not armed.
+    pub fn new(alloc: Global) -> Fuse {
+        Fuse {
+            waiting: Mutex::new(Waiting::none(alloc)),
         }
-        Ok(Fuse { words })
     }
 
     /// The n-th write or sync from now on fails once: it is done before where the fault comes late, and else not done.
-    /// With 0 none fails. Those that were armed before count on. Answers whether there was room.
-    pub fn arm(&self, nth: u32, late: bool) -> bool {
-        let calls = 2 * nth as u64;
-        let armed = if late && nth > 0 { calls + 1 } else { calls };
-        for word in &self.words {
-            if word.load(Ordering::SeqCst) < 2 {
-                word.store(armed, Ordering::SeqCst);
-                return true;
-            }
+    /// With 0 none fails. Those that were armed before count on; where two come to the same call, the one that was armed first
+    /// decides. The only error is want of memory.
+    pub fn arm(&self, nth: u32, late: bool) -> Result<(), AllocError> {
+        let fault = if late { Fault::After } else { Fault::Before };
+        match self.hold() {
+            Some(mut waiting) if nth > 0 => waiting.arm(u64::from(nth), fault),
+            _ => Ok(()),
         }
-        false
     }
 
-    /// Counts one call, and says whether it is to fail. Where two failures come to the same call, it fails once.
+    /// Counts one call, and says whether it is to fail.
     pub fn burn(&self) -> Option<Fault> {
-        let mut found = None;
-        for word in &self.words {
-            if let Some(fault) = burn_one(word) {
-                found = Some(fault);
-            }
+        match self.hold() {
+            Some(mut waiting) => waiting.next(),
+            None => None,
         }
-        found
     }
-}
 
-// Counts one call of a failure, and says whether it is that call which is to fail.
-fn burn_one(word: &AtomicU64) -> Option<Fault> {
-    if word.load(Ordering::SeqCst) < 2 {
-        return None;
-    }
-    // Where threads burn it side by side, each call takes a number of its own, so one of them fails. A call that comes too late
-    // leaves a number that no run counts down.
-    match word.fetch_sub(2, Ordering::SeqCst) {
-        2 => Some(Fault::Before),
-        3 => Some(Fault::After),
-        _ => None,
+    // Who holds it lets it go after a few steps. To wait for a lock asks for more than a device may do, so this looks again.
+    fn hold(&self) -> Option<MutexGuard<'_, Waiting>> {
+        for _look in 0..u64::MAX {
+            if let Some(waiting) = self.waiting.try_lock() {
+                return Some(waiting);
+            }
+            thread::yield_now();
+        }
+        None
     }
 }
 

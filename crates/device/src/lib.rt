@@ -11,6 +11,7 @@ pub mod log;
 pub mod memory;
 pub mod meta;
 pub mod parts;
+mod waiting;
 
 pub use block::{Block, DeviceError};
 pub use failures::Failures;

@@ -7,6 +7,7 @@ use program_run::status::{FAILED, MISUSED};
 use program_run::{check_image, run_script, tell_files, tell_io_failure};
 use program_script::words::USAGE;
 use program_script::{Words, WordsError};
+use program_workers::OpenGate;
 use saving::save;
 use std::fs::File;
 use std::io::{LineWriter, Write};
@@ -93,7 +94,15 @@ fn run_saving<R: Runtime + AllocGlobal + Threads + Wait + Sync, W: Write, E: Wri
         Some(_) => Some(&mut bytes),
         None => None,
     };
-    let status = run_script(rt, rt.alloc(), &mut rt.reader(), out, errors, saved);
+    let status = run_script(
+        rt,
+        rt.alloc(),
+        &mut rt.reader(),
+        out,
+        errors,
+        saved,
+        &OpenGate,
+    );
     match path {
         Some(path) if !bytes.is_empty() => {
             save(rt, rt.alloc(), path, bytes.as_slice())?;

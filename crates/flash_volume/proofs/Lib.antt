@@ -1,4 +1,6 @@
+pub mod Dealing
 pub mod Following
 pub mod Results
 pub mod Same
+pub mod Together
 pub mod Working

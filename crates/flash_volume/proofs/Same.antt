@@ -1,11 +1,15 @@
--- Blocks of the same addresses and contents are the same run, and parts of them have the same size.
-use Rattle.std.proofs.Common.{◌≡◌, ◌∙◌, ℕ, ◌<◌, ap, sym, subst, List, length, map, get_or}
+-- Blocks of the same addresses and contents are the same run, and parts of them have the same size. So what a fault hands back can be
+-- mounted again: at the mount it is what was handed in, and later what a volume that was given up leaves.
+use Rattle.std.proofs.Common.{◌≡◌, ◌≢◌, ◌∙◌, ℕ, ◌<◌, ap, sym, subst, List, length, map, get_or, inl, inr}
 use Rattle.std.proofs.Math.ListN.{get_or-map}
 use Rattle.std.proofs.lemmas.List.{length-map}
 use Rattle.device.specs.declared.parts.Parts.{Parts}
 use Rattle.device.specs.Parts.{HasSize, IsBlockRun}
 use Rattle.geometry.specs.declared.geometry.Geometry.{Geometry}
+use Rattle.flash_volume.proofs.Results.{at_mount}
 use Rattle.flash_volume.specs.Worked.{AreGivenUp}
+use Rattle.flash_volume.specs.declared.leave.Stage.{Stage}
+use Rattle.flash_volume.specs.declared.leave.Stage.TheVariants.{Mount}
 use Rattle.image_unique_law.proofs.Same.{one_geometry}
 use Rattle.mount_reading.specs.Held.{AreSameParts}
 use Rattle.packs_format.specs.Grammar.{HasSuper}
@@ -40,3 +44,25 @@ module _ {M B : Type 0} (seen : M → List ℕ) (address_of : B → ℕ) (conten
       → (other : Geometry) × HasSuper other (seen made.meta) × AreGivenUp seen may_leave address_of content_of other left → HasSize seen address_of content_of geometry left
   size_given_up may_leave geometry made left front (other, there, given_up) =
       subst (λ (numbers : Geometry). HasSize seen address_of content_of numbers left) (one_geometry other geometry (seen made.meta) there front) given_up.size
+
+module _ {M B : Type 0} (seen : M → List ℕ) (may_leave : M → List ℕ → Type 0) (address_of : B → ℕ) (content_of : B → List ℕ) where
+  pub refused_run : (bytes : ℕ) (old : List B) (back left : Parts M B) → map address_of back.blocks.items ≡ map address_of old → map content_of back.blocks.items ≡ map content_of old
+      → IsBlockRun address_of content_of bytes 1 old → left ≡ back → (size : ℕ) × IsBlockRun address_of content_of size 1 left.blocks.items
+  refused_run bytes old back left addresses contents run is =
+      (bytes, subst (λ (parts : Parts M B). IsBlockRun address_of content_of bytes 1 parts.blocks.items) (sym is) (same_run address_of content_of bytes old back.blocks.items addresses contents run))
+
+  pub fault_run : (geometry : Geometry) (bytes : ℕ) (old : List B) (mounted left : Parts M B) (stage : Stage) → map address_of mounted.blocks.items ≡ map address_of old
+      → map content_of mounted.blocks.items ≡ map content_of old → IsBlockRun address_of content_of bytes 1 old → (stage ≡ Mount → left ≡ mounted)
+      → (stage ≢ Mount → AreGivenUp seen may_leave address_of content_of geometry left) → (size : ℕ) × IsBlockRun address_of content_of size 1 left.blocks.items
+  fault_run geometry bytes old mounted left stage addresses contents run back given_up = elim (at_mount stage) [
+    | inl is ↦ refused_run bytes old mounted left addresses contents run (back is)
+    | inr later ↦ (_, (given_up later).size.run)
+  ]
+
+  pub size_back : (geometry : Geometry) (made left : Parts M B) (stage : Stage) → HasSuper geometry (seen made.meta) → HasSize seen address_of content_of geometry made
+      → (stage ≡ Mount → AreSameParts seen address_of content_of made left)
+      → (stage ≢ Mount → (other : Geometry) × HasSuper other (seen made.meta) × AreGivenUp seen may_leave address_of content_of other left) → HasSize seen address_of content_of geometry left
+  size_back geometry made left stage front size same given_up = elim (at_mount stage) [
+    | inl is ↦ same_size seen address_of content_of geometry made left (same is) size
+    | inr later ↦ size_given_up seen address_of content_of may_leave geometry made left front (given_up later)
+  ]

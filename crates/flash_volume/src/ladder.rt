@@ -109,7 +109,7 @@ fn on_opened<
 }
 
 // A mount was refused.
-fn unmounted<M: Meta, B: Block>(fault: OpenFault<M, B>) -> Fault<M, B>
+pub(crate) fn unmounted<M: Meta, B: Block>(fault: OpenFault<M, B>) -> Fault<M, B>
     ensures parts { result.parts ≡ fault.parts }
     ensures stage { result.stage ≡ AtMount }
     ensures error { result.error ≡ fault.error }

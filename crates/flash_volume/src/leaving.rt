@@ -1,16 +1,21 @@
 //! A volume is worked on, and left.
 ghost use Rattle.std.specs.Prelude.{◌≡◌, ◌⊎◌, IfOk, IfErr};
+ghost use Rattle.flash_volume.specs.Beside.{AreDoneBeside};
 ghost use Rattle.flash_volume.specs.Worked.{AreClosed, AreGivenUp, AreLeft, EndedWith, IsNotClosed};
 ghost use Rattle.flash_volume.specs.declared.leave.Stage.TheVariants.{Work as AtWork, Close as AtClose};
 
+use crate::beside::Beside;
+use crate::block::SharedBlock;
 use crate::leave::{Done, Fault, Leave, Stage};
 use crate::rights::Rights;
+use crate::threads::work_on_threads;
 use crate::work::Work;
 use device::{Block, Meta, Parts};
 use rights_names::VolumeName;
 use std::alloc::Global;
 use std::sync::Wait;
-use volume::{CloseFault, Closed, Volume};
+use std::thread::Threads;
+use volume::{CloseFault, Closed, SharedName, Volume};
 
 // Works on a volume, and leaves it. Where the work is refused, nothing more is written.
 pub(crate) fn work_and_leave<V: VolumeName, M: Meta, B: Block + Drop, R: Wait, W: Work<M, B>>(
@@ -27,6 +32,41 @@ pub(crate) fn work_and_leave<V: VolumeName, M: Meta, B: Block + Drop, R: Wait, W
 {
     let mut rights = rights;
     match work.run(rt, alloc, &volume, &mut rights) {
+        Ok(output) => match leave_volume(rt, volume, rights, leave) {
+            Ok(parts) => Ok(Done { parts, output }),
+            Err(fault) => Err(fault),
+        },
+        Err(error) => Err(Fault {
+            parts: volume.discard(rt),
+            stage: Stage::Work,
+            error,
+        }),
+    }
+}
+
+// Does works on a volume side by side, and leaves it. Where one is refused, nothing more is written.
+pub(crate) fn work_side_by_side_and_leave<
+    V: SharedName,
+    M: Meta + Send,
+    B: SharedBlock,
+    R: Threads + Wait + Sync,
+    W: Work<M, B> + Drop + Send,
+>(
+    rt: &R,
+    alloc: Global,
+    volume: Volume<V, M, B>,
+    rights: Rights<V>,
+    leave: Leave,
+    works: Vec<Beside<W>>,
+) -> Result<Done<M, B, Vec<W::Output>>, Fault<M, B>>
+where
+    W::Output: Send,
+    ensures done { IfOk result (λ done. EndedWith M.seen M.may_leave B.address_of B.content_of (λ after. AreDoneBeside W.post V.Numbers.geometry works.items rights.passes.items done.output.items after) leave V.Numbers.geometry done.parts) }
+    ensures given_up { IfErr result (λ fault. AreGivenUp M.seen M.may_leave B.address_of B.content_of V.Numbers.geometry fault.parts) }
+    ensures cause { IfErr result (λ fault. (fault.stage ≡ AtWork) ⊎ ((fault.stage ≡ AtClose) × IsNotClosed fault.error)) }
+{
+    let mut rights = rights;
+    match work_on_threads(rt, alloc, &volume, &mut rights, works) {
         Ok(output) => match leave_volume(rt, volume, rights, leave) {
             Ok(parts) => Ok(Done { parts, output }),
             Err(fault) => Err(fault),

@@ -1,10 +1,12 @@
-//! The front door: all that a program over a flash volume names, and two calls that make or mount a volume, do the program's work on
-//! it, and hand its device back.
+//! The front door: all that a program over a flash volume names, and calls that make or mount a volume, do the program's work on it,
+//! in this thread or side by side on many, and hand its device back.
 //!
 //! A volume's tables are known to the proofs by names in its type, which are picked while the volume comes to be. Who writes a
 //! `Work` meets them as one type parameter of its method, and nowhere else.
 #![tactic(auto)]
 
+mod beside;
+mod block;
 mod fault;
 mod ladder;
 mod law;
@@ -12,8 +14,12 @@ mod leave;
 mod leaving;
 mod new;
 mod rights;
+mod side_by_side;
+mod threads;
 mod work;
 
+pub use beside::Beside;
+pub use block::SharedBlock;
 pub use checkpoint::Stored;
 pub use cleaning::{Cleaned, Policy};
 pub use device::{Block, DeviceError, MemBlock, MemDevice, MemMeta, Meta, Parts};
@@ -23,8 +29,9 @@ pub use geometry::{Error, Geometry, Kind, Shape};
 pub use ladder::work_on;
 pub use law::work_law;
 pub use leave::{Done, Fault, Leave, Stage};
-pub use new::work_on_new;
+pub use new::{work_on_new, work_side_by_side_on_new};
 pub use rights::Rights;
 pub use rights_names::VolumeName;
+pub use side_by_side::work_side_by_side;
 pub use volume::Volume;
 pub use work::Work;

@@ -1,18 +1,23 @@
 //! A volume is made, worked on and left.
 ghost use Rattle.std.specs.Prelude.{◌≡◌, ◌≢◌, ◌⊎◌, ℕ, [], IfOk, IfErr};
 ghost use Rattle.device.specs.Parts.{HasSize, IsBlockRun};
+ghost use Rattle.flash_volume.specs.Beside.{AreDoneBeside};
 ghost use Rattle.flash_volume.specs.Worked.{AreGivenUp, EndedWith, IsNotClosed};
 ghost use Rattle.flash_volume.specs.declared.leave.Stage.TheVariants.{Format as AtFormat, Mount as AtMount, Work as AtWork, Close as AtClose};
 ghost use Rattle.geometry.specs.declared.error.Error.TheVariants.{NoMemory, Device};
 
+use crate::beside::Beside;
+use crate::block::SharedBlock;
 use crate::ladder::work_on;
 use crate::leave::{Done, Fault, Leave, Stage};
+use crate::side_by_side::work_side_by_side;
 use crate::work::Work;
 use device::{Block, Meta, Parts};
 use geometry::Geometry;
 use mount_law::{format_law, mount_law};
 use std::alloc::Global;
 use std::sync::Wait;
+use std::thread::Threads;
 use volume_format::{FormatFault, format};
 
 /// Writes a volume without files to the parts of a device that has the size of the geometry, mounts it, does the work on it, and
@@ -41,13 +46,56 @@ pub fn work_on_new<M: Meta, B: Block + Drop, R: Wait, W: Work<M, B> + Drop>(
             format_law::<M, B>();
             work_on(rt, alloc, parts, leave, work)
         }
-        Err(fault) => {
-            let FormatFault { parts, error } = fault;
-            Err(Fault {
-                parts,
-                stage: Stage::Format,
-                error,
-            })
+        Err(fault) => Err(unformatted(fault)),
+    }
+}
+
+/// Writes a volume without files to the parts of a device that has the size of the geometry, mounts it, does works on it side by
+/// side, and leaves it, as `work_side_by_side`: none of the works is given a pass.
+///
+/// Each fault hands the parts back, as one of `work_on_new`.
+pub fn work_side_by_side_on_new<
+    M: Meta + Send,
+    B: SharedBlock,
+    R: Threads + Wait + Sync,
+    W: Work<M, B> + Drop + Send,
+>(
+    rt: &R,
+    alloc: Global,
+    parts: Parts<M, B>,
+    geometry: Geometry,
+    leave: Leave,
+    works: Vec<Beside<W>>,
+) -> Result<Done<M, B, Vec<W::Output>>, Fault<M, B>>
+where
+    W::Output: Send,
+    requires size { HasSize M.seen B.address_of B.content_of geometry parts }
+    ensures done { IfOk result (λ done. EndedWith M.seen M.may_leave B.address_of B.content_of (λ after. AreDoneBeside W.post geometry works.items [] done.output.items after) leave geometry done.parts) }
+    ensures again { IfOk result (λ done. (bytes : ℕ) × IsBlockRun B.address_of B.content_of bytes 1 done.parts.blocks.items) }
+    ensures early { IfErr result (λ fault. (fault.stage ≡ AtFormat) ⊎ (fault.stage ≡ AtMount) → (fault.error ≡ NoMemory) ⊎ (fault.error ≡ Device)) }
+    ensures size_back { IfErr result (λ fault. HasSize M.seen B.address_of B.content_of geometry fault.parts) }
+    ensures not_closed { IfErr result (λ fault. fault.stage ≡ AtClose → IsNotClosed fault.error) }
+{
+    match format(alloc, parts, geometry) {
+        Ok(parts) => {
+            mount_law::<M, B>();
+            format_law::<M, B>();
+            work_side_by_side(rt, alloc, parts, leave, works)
         }
+        Err(fault) => Err(unformatted(fault)),
+    }
+}
+
+// A format was refused.
+fn unformatted<M: Meta, B: Block>(fault: FormatFault<M, B>) -> Fault<M, B>
+    ensures parts { result.parts ≡ fault.parts }
+    ensures stage { result.stage ≡ AtFormat }
+    ensures error { result.error ≡ fault.error }
+{
+    let FormatFault { parts, error } = fault;
+    Fault {
+        parts,
+        stage: Stage::Format,
+        error,
     }
 }

@@ -20,9 +20,9 @@ pub trait Work<M: Meta, B: Block + Drop> {
     // it ends with. It promises nothing unless it says so.
     ghost post: { Self → Geometry → List Pass → Self.Output → List Pass → Type 0 } = { λ _ _ _ _ _. Unit {0} };
 
-    /// Does the work, in this thread alone. It begins with the 64 seats, and a pass of each file in the order of their numbers. The
-    /// pass of a file that it makes goes to the rights, and that of a file which it deletes comes out of there: where one is
-    /// missing the volume can't be closed.
+    /// Does the work, in this thread alone. It begins with the 64 seats, and a pass of each file in the order of their numbers; beside
+    /// other works with as many seats as any of them, and the passes of its files. The pass of a file that it makes goes to the
+    /// rights, and that of a file which it deletes comes out of there: where one is missing the volume can't be closed.
     ///
     /// An error ends it. Then the volume is given up, and what was not synced is lost.
     fn run<V: VolumeName, R: Wait>(

@@ -157,7 +157,7 @@ fn crash_in_write(
     late: bool,
 ) -> Result<Option<Outcome>, AllocError> {
     let (_, old) = picked_pack(alloc, geometry, Vec::from_slice(alloc, before)?)?;
-    let fuse = Arc::new(alloc, Fuse::new(alloc, 1)?)?;
+    let fuse = Arc::new(alloc, Fuse::new(alloc))?;
     let Some(meta) = recorded(geometry, Vec::from_slice(alloc, before)?, &fuse)? else {
         return Ok(None);
     };
@@ -170,7 +170,7 @@ fn crash_in_write(
     let Some(body) = body_like(alloc, geometry, packs.version + 1, like)? else {
         return Ok(None);
     };
-    fuse.arm(nth, late);
+    fuse.arm(nth, late)?;
     let done = packs.write(body.as_slice()).is_ok();
     let recorder = packs.meta.into_inner();
     let unsettled = recorder.count;
@@ -254,11 +254,11 @@ fn crash_in_open(
         [OWN, OWN],
     )?;
     let old = body_with(alloc, geometry, 1, 0x11)?;
-    let fuse = Arc::new(alloc, Fuse::new(alloc, 1)?)?;
+    let fuse = Arc::new(alloc, Fuse::new(alloc))?;
     let Some(meta) = recorded(geometry, before.clone()?, &fuse)? else {
         return Ok(None);
     };
-    fuse.arm(nth, late);
+    fuse.arm(nth, late)?;
     let (done, meta) = match Packs::open(meta, geometry) {
         Ok(packs) => (true, packs.meta),
         Err((_, meta)) => (false, meta),

@@ -9,10 +9,10 @@ use std::test::Fail;
 // What three writes answer, of the bytes 1, 2 and 3 in turn, where the second fails; what stands there after each; and
 // the failures.
 fn three_writes(alloc: Global, late: bool) -> Result<([(bool, u8); 3], u64), AllocError> {
-    let fuse = Arc::new(alloc, Fuse::new(alloc, 1)?)?;
+    let fuse = Arc::new(alloc, Fuse::new(alloc))?;
     let inner = MemMeta::new([0u8].to_vec(alloc)?);
     let mut meta = Faulty::new(inner, Arc::try_clone(&fuse)?);
-    fuse.arm(2, late);
+    fuse.arm(2, late)?;
     let mut turns = [(false, 0u8); 3];
     for (byte, turn) in (1u8..4).zip(turns.iter_mut()) {
         let mut out = [0u8];
@@ -47,10 +47,10 @@ fn write_byte(block: &mut Faulty<MemBlock>, byte: u8) -> (bool, u8)
 
 // The same three writes, of a block.
 fn three_block_writes(alloc: Global, late: bool) -> Result<([(bool, u8); 3], u64), AllocError> {
-    let fuse = Arc::new(alloc, Fuse::new(alloc, 1)?)?;
+    let fuse = Arc::new(alloc, Fuse::new(alloc))?;
     let bytes = Vec::from_slice(alloc, &[0u8])?;
     let mut block = Faulty::new(MemBlock::new(alloc, 1, bytes)?, Arc::try_clone(&fuse)?);
-    fuse.arm(2, late);
+    fuse.arm(2, late)?;
     let first = write_byte(&mut block, 1);
     let second = write_byte(&mut block, 2);
     let third = write_byte(&mut block, 3);
@@ -69,10 +69,10 @@ fn the_second_write_of_a_block_fails(rt: HostRuntime) -> Result<(), Fail> {
 #[test]
 fn a_lease_of_a_faulty_block_keeps_its_bytes(rt: HostRuntime) -> Result<(), Fail> {
     let alloc = rt.alloc();
-    let fuse = Arc::new(alloc, Fuse::new(alloc, 1)?)?;
+    let fuse = Arc::new(alloc, Fuse::new(alloc))?;
     let inner = MemBlock::new(alloc, 7, Vec::from_slice(alloc, &[1u8, 2])?)?;
     let mut block = Faulty::new(inner, Arc::try_clone(&fuse)?);
-    fuse.arm(1, false);
+    fuse.arm(1, false)?;
     // Neither a read nor a lease burns the fuse.
     let mut out = [0u8; 2];
     block.read(&mut out)?;
@@ -86,10 +86,10 @@ fn a_lease_of_a_faulty_block_keeps_its_bytes(rt: HostRuntime) -> Result<(), Fail
 
 #[test]
 fn a_sync_counts_as_a_call(rt: HostRuntime) -> Result<(), Fail> {
-    let fuse = Arc::new(rt.alloc(), Fuse::new(rt.alloc(), 1)?)?;
+    let fuse = Arc::new(rt.alloc(), Fuse::new(rt.alloc()))?;
     let mut meta = Faulty::new(MemMeta::new(Vec::new(rt.alloc())), Arc::try_clone(&fuse)?);
     assert!(rt; meta.sync().is_ok());
-    fuse.arm(1, false);
+    fuse.arm(1, false)?;
     assert!(rt; meta.sync().is_err());
     assert!(rt; meta.sync().is_ok());
     assert_eq!(rt; meta.failures(), 1);
@@ -98,11 +98,12 @@ fn a_sync_counts_as_a_call(rt: HostRuntime) -> Result<(), Fail> {
 
 #[test]
 fn two_failures_wait_side_by_side(rt: HostRuntime) -> Result<(), Fail> {
-    let fuse = Arc::new(rt.alloc(), Fuse::new(rt.alloc(), 2)?)?;
+    let fuse = Arc::new(rt.alloc(), Fuse::new(rt.alloc()))?;
     let mut meta = Faulty::new(MemMeta::new(Vec::new(rt.alloc())), Arc::try_clone(&fuse)?);
-    assert!(rt; fuse.arm(3, false));
-    assert!(rt; fuse.arm(1, false));
-    assert!(rt; !fuse.arm(1, false));
+    assert!(rt; fuse.arm(3, false).is_ok());
+    assert!(rt; fuse.arm(1, false).is_ok());
+    // The earlier one decides: the call is not done.
+    assert!(rt; fuse.arm(1, true).is_ok());
     assert!(rt; meta.sync().is_err());
     assert!(rt; meta.sync().is_ok());
     assert!(rt; meta.sync().is_err());

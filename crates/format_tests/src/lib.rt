@@ -7,11 +7,15 @@ mod areas;
 #[cfg(test)]
 mod checker_calls;
 #[cfg(test)]
+mod codec_calls;
+#[cfg(test)]
 mod crash_calls;
 #[cfg(test)]
 mod error;
 #[cfg(test)]
 mod faulty;
+#[cfg(test)]
+mod file_calls;
 #[cfg(test)]
 mod format_calls;
 #[cfg(test)]

@@ -1,5 +1,5 @@
 -- A file: its kind, its length in blocks, and a finite map from indexes to blocks of bytes.
-use Rattle.std.specs.Prelude.{◌<◌, ℕ, ◌+◌, min, max, List, replicate, unwrap_or, IsSome, nat_lt}
+use Rattle.std.specs.Prelude.{ℕ, ◌+◌, min, max, List, replicate, unwrap_or, nat_lt}
 use Rattle.std.specs.Ordering.{nat_cmp}
 use Rattle.std.specs.FinMap.{FinMap, get, insert, retain_keys, empty, code}
 use Rattle.std.specs.Coded.{Coded, coded_ℕ, coded_list}
@@ -33,10 +33,6 @@ cut_to file length = record file {
   length = min length file.length;
   blocks = retain_keys file.blocks (λ index. nat_lt index length);
 }
-
--- no block stands at or past the length
-abbrev pub IsWithinLength : File → Type 0
-IsWithinLength file = (index : ℕ) → IsSome (get file.blocks index) → index < file.length
 
 -- how a model stores the blocks of a file
 abbrev pub blocks_code : Coded (FinMap nat_cmp Block)

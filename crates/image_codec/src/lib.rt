@@ -5,8 +5,6 @@
 //! The nodes of an image, read from the blocks of a device on which they stand.
 #![tactic(auto)]
 
-#[cfg(test)]
-mod codec_calls;
 mod decode;
 mod encode;
 mod kind;

@@ -1,2 +1,3 @@
+pub mod Lower
 pub mod Spares
 pub mod Written

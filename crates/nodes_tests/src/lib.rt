@@ -1,5 +1,12 @@
-//! Tests of `nodes` by its public calls. They stand apart, so that to prove them does not take the proof of `nodes` again.
+//! Tests of segments, of the node address table, of tickets and of nodes, by their public calls. They stand apart, so that to
+//! prove them does not take the proofs of those crates again.
 #![tactic(auto)]
 
 #[cfg(test)]
-mod tests;
+mod nat_calls;
+#[cfg(test)]
+mod node_calls;
+#[cfg(test)]
+mod sit_calls;
+#[cfg(test)]
+mod ticket_calls;

@@ -1,5 +1,6 @@
+mod Consumed
+mod Front
 pub mod Texts
-pub mod Known
 mod Memory
 pub mod Runs
 pub mod Going

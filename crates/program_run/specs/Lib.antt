@@ -1,3 +1,4 @@
 pub mod Checking
 pub mod Run
 pub mod Ending
+pub mod Reading

@@ -4,7 +4,7 @@ ghost use Rattle.std.specs.Io.KnownBytes.{Appends};
 ghost use Rattle.program_run.specs.Checking.{TellsImage, TellsRefusal};
 ghost use Rattle.program_session.specs.Lines.{name_of, numbers_line, refusal_line};
 
-use crate::reading::read_all;
+use crate::reading::read_image;
 use crate::status::{DONE, REFUSED};
 use crate::stop::tell_io_failure;
 use image::Image;
@@ -14,9 +14,9 @@ use std::alloc::Global;
 use std::io;
 use std::io::{Read, Write};
 
-/// Reads an image file to its end and writes one line to `out`: the version and the total of its image and how many of
-/// its segments are free, or why it is refused. Answers the exit status. Where `input` cannot be read or `out` cannot be
-/// written, it says so on `errors`.
+/// Reads an image file as far as its superblock tells, and one byte more, and writes one line to `out`: the version and the total
+/// of its image and how many of its segments are free, or why it is refused. Answers the exit status. Where `input` cannot be read
+/// or `out` cannot be written, it says so on `errors`.
 pub fn check_image<R: Read, W: Write, E: Write>(
     alloc: Global,
     input: &mut R,
@@ -59,7 +59,7 @@ fn read_and_tell<R: Read, W: Write>(alloc: Global, input: &mut R, out: &mut W) -
     ensures lawful { IfOk result (λ status. status ≡ 0 → TellsImage (R.remaining input.old) (W.contents out.old) (W.contents out.new)) }
     ensures refused { IfOk result (λ status. status ≡ 1 → TellsRefusal (R.remaining input.old) (W.contents out.old) (W.contents out.new)) }
 {
-    let file = read_all(alloc, input)?;
+    let file = read_image(alloc, input)?;
     let status = tell_image(alloc, file.as_slice(), out)?;
     Ok(status)
 }

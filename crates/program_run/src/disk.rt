@@ -6,8 +6,8 @@ ghost use Rattle.program_run.specs.declared.stop.Stop.TheVariants.{NoMemory};
 use crate::stop::Stop;
 use device::{Block, Faulty, Fuse, MemBlock, MemDevice, MemMeta, Meta, Parts};
 use geometry::Geometry;
-use program_script::{Command, Failure, Step};
-use std::alloc::Global;
+use program_script::Failure;
+use std::alloc::{AllocError, Global};
 use std::sync::Arc;
 
 /// What lets calls of a device fail: one fuse for its meta area, and one for all its blocks.
@@ -18,49 +18,32 @@ pub struct Faults {
 }
 
 impl Faults {
-    /// None is armed. There is room for each failure of these steps. It stops where there is no memory.
-    pub fn new(alloc: Global, steps: &[Step]) -> Result<Faults, Stop>
+    /// None is armed. It stops where there is no memory.
+    pub fn new(alloc: Global) -> Result<Faults, Stop>
         ensures err { IfErr result (λ stop. stop ≡ NoMemory) }
     {
-        let failures = count_failures(steps);
-        let meta = shared_fuse(alloc, failures)?;
-        let block = shared_fuse(alloc, failures)?;
+        let meta = shared_fuse(alloc)?;
+        let block = shared_fuse(alloc)?;
         Ok(Faults { meta, block })
     }
 
-    /// Lets a call fail that comes after this one.
-    pub fn arm(&self, failure: Failure) {
-        let _room = match failure {
+    /// Lets a call fail that comes after this one. The only error is want of memory.
+    pub fn arm(&self, failure: Failure) -> Result<(), AllocError> {
+        match failure {
             Failure::Meta { call, late } => self.meta.arm(call, late),
             Failure::Block { call } => self.block.arm(call, false),
-        };
+        }
     }
 }
 
-// A fuse that is not armed, with room for so many failures. It stops where there is no memory.
-fn shared_fuse(alloc: Global, failures: u32) -> Result<Arc<Fuse>, Stop>
+// A fuse that is not armed. It stops where there is no memory.
+fn shared_fuse(alloc: Global) -> Result<Arc<Fuse>, Stop>
     ensures err { IfErr result (λ stop. stop ≡ NoMemory) }
 {
-    let fuse = Fuse::new(alloc, failures)?;
-    match Arc::new(alloc, fuse) {
+    match Arc::new(alloc, Fuse::new(alloc)) {
         Ok(shared) => Ok(shared),
         Err(_) => Err(Stop::NoMemory),
     }
-}
-
-// How many failures the steps arm.
-fn count_failures(steps: &[Step]) -> u32 {
-    let mut count = 0u32;
-    for step in steps {
-        if let Step::Command {
-            line: _,
-            command: Command::Fail(_),
-        } = step
-        {
-            count = count.saturating_add(1);
-        }
-    }
-    count
 }
 
 /// The parts of a new device in memory of the size of a geometry, which fail where their fuses say so. It stops where there is no

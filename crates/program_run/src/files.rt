@@ -3,10 +3,11 @@ ghost use Rattle.std.specs.Prelude.{◌≡◌, ◌≢◌, ◌⊎◌, ◌*◌, le
 ghost use Rattle.std.specs.List.{flat_map};
 ghost use Rattle.device.specs.Parts.{IsBlockRun};
 ghost use Rattle.program_run.specs.Checking.{IsDeviceOf, TellsFiles};
+ghost use Rattle.program_run.specs.Reading.{IsWhole};
 ghost use Rattle.program_run.specs.Run.{names_line};
 ghost use Rattle.packs_format.specs.File.{IsFileRefusal};
 
-use crate::reading::read_all;
+use crate::reading::read_image;
 use crate::status::DONE;
 use crate::stop::Stop;
 use crate::telling::tell_parts;
@@ -18,8 +19,8 @@ use std::alloc::{AllocError, Global};
 use std::io::{Read, Write};
 use std::sync::Wait;
 
-/// Reads an image file to its end, mounts a device in memory with its bytes, and writes to `out` the line of each file and the
-/// total of its image, as at a script's end; or why it is refused.
+/// Reads an image file as far as its superblock tells, and one byte more, mounts a device in memory with its bytes, and writes to
+/// `out` the line of each file and the total of its image, as at a script's end; or why it is refused.
 ///
 /// Answers the exit status: 0 where all was told; 1 where the image is refused, as by `check_image`, or a file could not be read;
 /// 4 where `input` could not be read, `out` could not be written, or the program itself found no memory, which is told on
@@ -50,7 +51,7 @@ fn read_and_tell<T: Wait, R: Read, W: Write>(
     ensures told { OnOk result (TellsFiles ⟦<MemMeta as Meta>⟧.seen ⟦<MemBlock as Block>⟧.address_of ⟦<MemBlock as Block>⟧.content_of (R.remaining input.old) (W.contents out.old) (W.contents out.new)) }
     ensures err { IfErr result (λ stop. names_line stop ≡ false) }
 {
-    let file = read_all(alloc, input)?;
+    let file = read_image(alloc, input)?;
     let parts = parts_of(alloc, file.as_slice())?;
     tell_parts(rt, alloc, parts, out)
 }
@@ -58,6 +59,7 @@ fn read_and_tell<T: Wait, R: Read, W: Write>(
 // A device in memory with the bytes of an image file, if its image is lawful.
 fn parts_of(alloc: Global, file: &[u8]) -> Result<Parts<MemMeta, MemBlock>, Error>
     ensures device { IfOk result (IsDeviceOf ⟦<MemMeta as Meta>⟧.seen ⟦<MemBlock as Block>⟧.address_of ⟦<MemBlock as Block>⟧.content_of file.now) }
+    ensures whole { OnOk result (IsWhole file.now) }
     ensures refused { IfErr result (IsFileRefusal file.now) }
 {
     let (geometry, _image) = Image::read(alloc, file)?;

@@ -6,7 +6,7 @@ ghost use Rattle.program_session.specs.Lines.{unsynced_line};
 ghost use Rattle.program_run.specs.Ending.{AreLeft, LeftSome, WasLeft};
 ghost use Rattle.program_run.specs.Run.{names_line};
 
-use crate::disk::Faults;
+use crate::setting::Setting;
 use crate::steps::{Carried, Halt, Opening, run_session};
 use crate::stop::Stop;
 use device::{Block, Meta, Parts};
@@ -14,7 +14,7 @@ use file_cells::FilePass;
 use file_readers::Seat;
 use program_script::Step;
 use program_session::lines::tell_unsynced;
-use program_workers::SharedBlock;
+use program_workers::{Gate, SharedBlock};
 use rights_names::VolumeName;
 use std::alloc::Global;
 use std::io::Write;
@@ -37,6 +37,7 @@ pub fn run_volume<
     M: Meta + Drop + Send,
     B: SharedBlock,
     R: Threads + Wait + Sync,
+    G: Gate + Sync,
     O: Write,
 >(
     rt: &R,
@@ -46,7 +47,7 @@ pub fn run_volume<
     passes: Vec<FilePass<V>>,
     opening: Opening,
     steps: &[Step],
-    faults: &Faults,
+    setting: &Setting<'_, G>,
     out: &mut O,
 ) -> Result<Left<M, B>, Stop>
     requires in_order { AreInOrder V.Numbers.geometry.files passes.items }
@@ -54,7 +55,7 @@ pub fn run_volume<
     ensures err { IfErr result (λ stop. names_line stop ≡ false) }
 {
     match run_session(
-        rt, alloc, &volume, seats, passes, opening, steps, faults, out,
+        rt, alloc, &volume, seats, passes, opening, steps, setting, out,
     ) {
         Ok(halt) => {
             let Halt {

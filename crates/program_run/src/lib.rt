@@ -8,6 +8,7 @@ mod leaving;
 mod reading;
 mod remounting;
 mod run;
+mod setting;
 pub mod status;
 mod steps;
 mod stop;

@@ -11,15 +11,15 @@ ghost use Rattle.program_run.specs.Ending.{WentOn, WentOnWith};
 ghost use Rattle.program_run.specs.Run.{names_line};
 ghost use Rattle.volume.specs.Picked.{HaveNames};
 
-use crate::disk::Faults;
 use crate::leaving::{Left, run_volume};
+use crate::setting::Setting;
 use crate::steps::Carried;
 use crate::stop::Stop;
 use device::{Meta, Parts};
 use file_cells::FilePass;
 use mount::{Mounted, MountedQueues, mount};
 use program_script::Step;
-use program_workers::SharedBlock;
+use program_workers::{Gate, SharedBlock};
 use rights_names::{BooksOf, NumbersOf, PoolName, TablesName, TurnName, VolumeName, WordsOf};
 use std::alloc::Global;
 use std::io::Write;
@@ -28,13 +28,19 @@ use std::sync::Wait;
 use std::thread::Threads;
 
 /// Mounts the parts of a device, runs the steps on its volume, and leaves it.
-pub fn run_mounted<M: Meta + Drop + Send, B: SharedBlock, R: Threads + Wait + Sync, O: Write>(
+pub fn run_mounted<
+    M: Meta + Drop + Send,
+    B: SharedBlock,
+    R: Threads + Wait + Sync,
+    G: Gate + Sync,
+    O: Write,
+>(
     rt: &R,
     alloc: Global,
     parts: Parts<M, B>,
     carried: Carried,
     steps: &[Step],
-    faults: &Faults,
+    setting: &Setting<'_, G>,
     out: &mut O,
 ) -> Result<Left<M, B>, Stop>
     requires run { (bytes : ℕ) × IsBlockRun B.address_of B.content_of bytes 1 parts.blocks.items }
@@ -42,8 +48,8 @@ pub fn run_mounted<M: Meta + Drop + Send, B: SharedBlock, R: Threads + Wait + Sy
     ensures err { IfErr result (λ stop. names_line stop ≡ false) }
 {
     match mount(alloc, parts) {
-        Ok(mounted) => on_mounted::<Brand, M, B, R, O>(
-            rt, alloc, mounted, carried, steps, faults, out,
+        Ok(mounted) => on_mounted::<Brand, M, B, R, G, O>(
+            rt, alloc, mounted, carried, steps, setting, out,
         ),
         Err(fault) => Err(Stop::Refused(fault.error)),
     }
@@ -54,6 +60,7 @@ fn on_mounted<
     M: Meta + Drop + Send,
     B: SharedBlock,
     R: Threads + Wait + Sync,
+    G: Gate + Sync,
     O: Write,
 >(
     rt: &R,
@@ -61,7 +68,7 @@ fn on_mounted<
     mounted: Mounted<M, B>,
     carried: Carried,
     steps: &[Step],
-    faults: &Faults,
+    setting: &Setting<'_, G>,
     out: &mut O,
 ) -> Result<Left<M, B>, Stop>
     requires books { mounted.books ≡ K.books }
@@ -71,8 +78,8 @@ fn on_mounted<
     ensures err { IfErr result (λ stop. names_line stop ≡ false) }
 {
     match mounted.name::<BooksOf<K>, WordsOf<K>, NumbersOf<K>>() {
-        Ok(opened) => on_opened::<K, Brand, Brand, M, B, R, O>(
-            rt, alloc, opened, carried, steps, faults, out,
+        Ok(opened) => on_opened::<K, Brand, Brand, M, B, R, G, O>(
+            rt, alloc, opened, carried, steps, setting, out,
         ),
         Err(fault) => Err(Stop::Refused(fault.error)),
     }
@@ -85,6 +92,7 @@ fn on_opened<
     M: Meta + Drop + Send,
     B: SharedBlock,
     R: Threads + Wait + Sync,
+    G: Gate + Sync,
     O: Write,
 >(
     rt: &R,
@@ -92,7 +100,7 @@ fn on_opened<
     opened: MountedQueues<BooksOf<K>, WordsOf<K>, NumbersOf<K>, M, B>,
     carried: Carried,
     steps: &[Step],
-    faults: &Faults,
+    setting: &Setting<'_, G>,
     out: &mut O,
 ) -> Result<Left<M, B>, Stop>
     requires named { HaveNames opened.queues opened.channel P.ordinary P.reserve T.turns T.key }
@@ -104,7 +112,7 @@ fn on_opened<
             tell_order(&passes);
             let opening = carried.opening(volume.base().version);
             run_volume(
-                rt, alloc, volume, seats, passes, opening, steps, faults, out,
+                rt, alloc, volume, seats, passes, opening, steps, setting, out,
             )
         }
         Err(fault) => Err(Stop::Refused(fault.error)),

@@ -9,6 +9,7 @@ use crate::disk::{Faults, new_parts, with_faults, without_faults};
 use crate::leaving::Left;
 use crate::reading::read_all;
 use crate::remounting::run_mounted;
+use crate::setting::Setting;
 use crate::status::DONE;
 use crate::steps::Carried;
 use crate::stop::Stop;
@@ -18,7 +19,7 @@ use geometry::Geometry;
 use image_unique_law::one_image_law;
 use mount_law::{format_law, mount_law};
 use program_script::{Numbers, Script, Step};
-use program_workers::SharedBlock;
+use program_workers::{Gate, SharedBlock};
 use std::alloc::Global;
 use std::io::{Read, Write};
 use std::sync::Wait;
@@ -30,17 +31,20 @@ use volume_format::format;
 /// as it is, behind a line that tells so. The bytes of the device are added to `saved`, if there is one. Then the device is
 /// mounted again, and each file has a line with its length and its blocks, and the image's total a last one.
 ///
+/// The calls of workers side by side go through `gate`.
+///
 /// Answers the exit status: 0 where all was done; 1 where the volume could not be made, closed or mounted again, or a file not
 /// be read at the end, which is told on `out`; 3 where a line is not of the grammar, which is told on `errors` and nothing is
 /// run; 4 where `input` could not be read, `out` could not be written, or the program itself found no memory. A command that is
 /// refused writes its refusal, and the run goes on.
-pub fn run_script<T: Threads + Wait + Sync, R: Read, W: Write, E: Write>(
+pub fn run_script<T: Threads + Wait + Sync, G: Gate + Sync, R: Read, W: Write, E: Write>(
     rt: &T,
     alloc: Global,
     input: &mut R,
     out: &mut W,
     errors: &mut E,
     saved: Option<&mut Vec<u8>>,
+    gate: &G,
 ) -> u8
     ensures status { (result ≡ 0) ⊎ ((result ≡ 1) ⊎ ((result ≡ 3) ⊎ (result ≡ 4))) }
     ensures read { result ≡ 0 → IsAtEnd (R.remaining input.new) }
@@ -48,18 +52,19 @@ pub fn run_script<T: Threads + Wait + Sync, R: Read, W: Write, E: Write>(
     ensures bad_line { result ≡ 3 → out.new ≡ out.old }
     ensures quiet { result ≢ 3 → result ≢ 4 → errors.new ≡ errors.old }
 {
-    match read_and_run(rt, alloc, input, out, saved) {
+    match read_and_run(rt, alloc, input, out, saved, gate) {
         Ok(()) => DONE,
         Err(stop) => stop.tell(out, errors),
     }
 }
 
-fn read_and_run<T: Threads + Wait + Sync, R: Read, W: Write>(
+fn read_and_run<T: Threads + Wait + Sync, G: Gate + Sync, R: Read, W: Write>(
     rt: &T,
     alloc: Global,
     input: &mut R,
     out: &mut W,
     saved: Option<&mut Vec<u8>>,
+    gate: &G,
 ) -> Result<(), Stop>
     ensures read { OnOk result (IsAtEnd (R.remaining input.new)) }
     ensures done { OnOk result ((out.new ≡ out.old) ⊎ WroteSomeScript (W.contents out.old) (W.contents out.new)) }
@@ -70,17 +75,26 @@ fn read_and_run<T: Threads + Wait + Sync, R: Read, W: Write>(
     let Some(numbers) = script.volume else {
         return Ok(());
     };
-    run_whole(rt, alloc, numbers, script.steps.as_slice(), out, saved)
+    run_whole(
+        rt,
+        alloc,
+        numbers,
+        script.steps.as_slice(),
+        out,
+        saved,
+        gate,
+    )
 }
 
 // Runs the steps on a new volume of these numbers, puts the bytes of the device that they leave aside, and tells its files.
-fn run_whole<T: Threads + Wait + Sync, W: Write>(
+fn run_whole<T: Threads + Wait + Sync, G: Gate + Sync, W: Write>(
     rt: &T,
     alloc: Global,
     numbers: Numbers,
     steps: &[Step],
     out: &mut W,
     saved: Option<&mut Vec<u8>>,
+    gate: &G,
 ) -> Result<(), Stop>
     ensures done { OnOk result (WroteScript steps.now (W.contents out.old) (W.contents out.new)) }
     ensures err { IfErr result (λ stop. names_line stop ≡ false) }
@@ -92,12 +106,15 @@ fn run_whole<T: Threads + Wait + Sync, W: Write>(
         numbers.files,
         numbers.nodes,
     )?;
-    let faults = Faults::new(alloc, steps)?;
-    let parts = new_parts(alloc, &geometry, &faults)?;
-    let left = run_volumes(rt, alloc, parts, geometry, steps, &faults, out)?;
+    let setting = Setting {
+        faults: Faults::new(alloc)?,
+        gate,
+    };
+    let parts = new_parts(alloc, &geometry, &setting.faults)?;
+    let left = run_volumes(rt, alloc, parts, geometry, steps, &setting, out)?;
     let device = without_faults(alloc, left)?;
     put_aside(&device, saved)?;
-    let parts = with_faults(alloc, device, &faults)?;
+    let parts = with_faults(alloc, device, &setting.faults)?;
     tell_parts(rt, alloc, parts, out)?;
     one_image_law();
     Ok(())
@@ -105,13 +122,19 @@ fn run_whole<T: Threads + Wait + Sync, W: Write>(
 
 // Runs all steps, each on the volume that the last one before it mounted, and leaves the last of these volumes: the parts of its
 // device.
-fn run_volumes<M: Meta + Drop + Send, B: SharedBlock, T: Threads + Wait + Sync, W: Write>(
+fn run_volumes<
+    M: Meta + Drop + Send,
+    B: SharedBlock,
+    T: Threads + Wait + Sync,
+    G: Gate + Sync,
+    W: Write,
+>(
     rt: &T,
     alloc: Global,
     parts: Parts<M, B>,
     geometry: Geometry,
     steps: &[Step],
-    faults: &Faults,
+    setting: &Setting<'_, G>,
     out: &mut W,
 ) -> Result<Parts<M, B>, Stop>
     requires size { HasSize M.seen B.address_of B.content_of geometry parts }
@@ -130,7 +153,7 @@ fn run_volumes<M: Meta + Drop + Send, B: SharedBlock, T: Threads + Wait + Sync, 
         readers: 0,
     };
     let mut rest = steps;
-    let mut left = run_mounted(rt, alloc, parts, new, rest, faults, out)?;
+    let mut left = run_mounted(rt, alloc, parts, new, rest, setting, out)?;
     while left.run < rest.len() {
         let Left {
             parts,
@@ -138,7 +161,7 @@ fn run_volumes<M: Meta + Drop + Send, B: SharedBlock, T: Threads + Wait + Sync, 
             carried,
         } = left;
         rest = &rest[run + 1..];
-        left = run_mounted(rt, alloc, parts, carried, rest, faults, out)?;
+        left = run_mounted(rt, alloc, parts, carried, rest, setting, out)?;
     }
     let Left {
         parts,

@@ -7,6 +7,7 @@ ghost use Rattle.program_session.specs.Work.{Wrote};
 ghost use Rattle.program_run.specs.Run.{CommandWrites, IsHalted, RanSome, StepWrites, WroteSteps, is_remount, mounted_of, names_line, opening_line};
 
 use crate::disk::Faults;
+use crate::setting::Setting;
 use crate::stop::Stop;
 use device::{Block, Meta};
 use file_cells::FilePass;
@@ -15,7 +16,7 @@ use geometry::Error;
 use program_script::{Command, Step};
 use program_session::lines::{tell_created, tell_done, tell_refusal, tell_status, tell_taken};
 use program_session::{Ended, Session, run_work};
-use program_workers::{OpenGate, SharedBlock, run_part};
+use program_workers::{Gate, SharedBlock, run_part};
 use rights_names::VolumeName;
 use std::alloc::Global;
 use std::io;
@@ -86,6 +87,7 @@ pub fn run_session<
     M: Meta + Send,
     B: SharedBlock,
     R: Threads + Wait + Sync,
+    G: Gate + Sync,
     O: Write,
 >(
     rt: &R,
@@ -95,7 +97,7 @@ pub fn run_session<
     passes: Vec<FilePass<V>>,
     opening: Opening,
     steps: &[Step],
-    faults: &Faults,
+    setting: &Setting<'_, G>,
     out: &mut O,
 ) -> Result<Halt<V>, Stop>
     requires in_order { AreInOrder V.Numbers.geometry.files passes.items }
@@ -109,7 +111,7 @@ pub fn run_session<
     } = opening.carried;
     let mut session = Session::of(alloc, volume, seats, passes, time, readers)?;
     opening.tell(out)?;
-    let run = run_steps(rt, alloc, &mut session, steps, faults, out)?;
+    let run = run_steps(rt, alloc, &mut session, steps, setting, out)?;
     let Ended {
         seats,
         passes,
@@ -129,12 +131,19 @@ pub fn run_session<
 }
 
 // Runs the steps in order, up to one that mounts the volume again, and answers how many were run.
-fn run_steps<V: SharedName, M: Meta + Send, B: SharedBlock, R: Threads + Wait + Sync, O: Write>(
+fn run_steps<
+    V: SharedName,
+    M: Meta + Send,
+    B: SharedBlock,
+    R: Threads + Wait + Sync,
+    G: Gate + Sync,
+    O: Write,
+>(
     rt: &R,
     alloc: Global,
     session: &mut Session<'_, V, M, B>,
     steps: &[Step],
-    faults: &Faults,
+    setting: &Setting<'_, G>,
     out: &mut O,
 ) -> Result<usize, Stop>
     ensures done { IfOk result (λ run. WroteSteps (take run steps.now) session.old session.new [] (O.contents out.old) (O.contents out.new)) }
@@ -146,7 +155,7 @@ fn run_steps<V: SharedName, M: Meta + Send, B: SharedBlock, R: Threads + Wait + 
         if is_remount(step) && session.open_readers() == 0 {
             return Ok(run);
         }
-        run_step(rt, alloc, session, step, faults, out)?;
+        run_step(rt, alloc, session, step, setting, out)?;
         run += 1;
     }
     Ok(run)
@@ -166,12 +175,19 @@ fn is_remount(step: &Step) -> bool
 }
 
 // Runs a step that leaves the volume mounted.
-fn run_step<V: SharedName, M: Meta + Send, B: SharedBlock, R: Threads + Wait + Sync, O: Write>(
+fn run_step<
+    V: SharedName,
+    M: Meta + Send,
+    B: SharedBlock,
+    R: Threads + Wait + Sync,
+    G: Gate + Sync,
+    O: Write,
+>(
     rt: &R,
     alloc: Global,
     session: &mut Session<'_, V, M, B>,
     step: &Step,
-    faults: &Faults,
+    setting: &Setting<'_, G>,
     out: &mut O,
 ) -> Result<(), Stop>
     requires stays { is_remount step.now ≡ true → 0 < open_count session.old.readers }
@@ -180,11 +196,11 @@ fn run_step<V: SharedName, M: Meta + Send, B: SharedBlock, R: Threads + Wait + S
 {
     match step {
         Step::Command { line: _, command } => {
-            run_command(rt, session, *command, faults, out)?;
+            run_command(rt, session, *command, &setting.faults, out)?;
             Ok(())
         }
         Step::Part { line: _, workers } => {
-            run_part(rt, alloc, session, workers.as_slice(), &OpenGate, out)?;
+            run_part(rt, alloc, session, workers.as_slice(), setting.gate, out)?;
             Ok(())
         }
     }
@@ -213,7 +229,7 @@ fn run_command<V: VolumeName, M: Meta, B: Block + Drop, R: Wait, O: Write>(
         Command::Done { reader } => tell_done(session.close(reader), out),
         Command::Work(work) => run_work(rt, session, work, out),
         Command::Fail(failure) => {
-            faults.arm(failure);
+            faults.arm(failure)?;
             Ok(())
         }
         Command::Remount => tell_refusal(Error::SeatsOut(session.open_readers()), out),

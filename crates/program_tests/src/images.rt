@@ -113,9 +113,58 @@ impl Read for Broken {
     }
 }
 
+// An input without an end: some bytes, and then zeros. It gives few at a time, and each third call is interrupted.
+#[derive(Drop)]
+struct Endless<'a> {
+    front: &'a [u8],
+    calls: u32,
+    given: usize,
+}
+
+impl Read for Endless<'_> {
+    fn read(&mut self, buf: &mut [u8]) -> io::Result<usize> {
+        self.calls = self.calls.saturating_add(1);
+        if self.calls.is_multiple_of(3) {
+            return Err(io::Error::from(io::ErrorKind::Interrupted));
+        }
+        let count = buf.len().min(1_000);
+        for (place, byte) in buf.iter_mut().take(count).enumerate() {
+            let at = self.given.saturating_add(place);
+            *byte = self.front.get(at).copied().unwrap_or(0);
+        }
+        self.given = self.given.saturating_add(count);
+        Ok(count)
+    }
+}
+
+// An input that begins so and has no end is refused in this line, and no more bytes of it are read.
+fn assert_read<R: Wait + Abort>(rt: &R, alloc: Global, front: &[u8], wanted: &[u8], most: usize) {
+    for files in [false, true] {
+        let mut input = Endless {
+            front,
+            calls: 0,
+            given: 0,
+        };
+        let mut out = Vec::new(alloc);
+        let mut errors = Vec::new(alloc);
+        let status = if files {
+            tell_files(rt, alloc, &mut input, &mut out, &mut errors)
+        } else {
+            check_image(alloc, &mut input, &mut out, &mut errors)
+        };
+        assert_eq!(rt; status, REFUSED);
+        assert_eq!(rt; out.as_slice(), wanted);
+        assert_eq!(rt; input.given, most);
+    }
+}
+
 #[test]
 fn other_inputs_are_told(rt: HostRuntime) -> Result<(), Fail> {
     let mut file = base_file(rt.alloc())?;
+    let too_long = b"refused 11 BadImage 1\n".as_slice();
+    assert_read(&rt, rt.alloc(), &file, too_long, FILE_BYTES + 1);
+    let no_super = b"refused 9 BadGeometry\n".as_slice();
+    assert_read(&rt, rt.alloc(), &[], no_super, 64);
     file.push(0)?;
     let (line, _) = told(rt.alloc(), &file);
     assert_eq!(rt; line.as_slice(), b"refused 11 BadImage 1\n".as_slice());

@@ -2,6 +2,7 @@
 use super::images::{Broken, told};
 use program_run::run_script;
 use program_run::status::{BAD_LINE, DONE, FAILED, REFUSED};
+use program_workers::OpenGate;
 use std::alloc::Global;
 use std::io;
 use std::process::Abort;
@@ -27,7 +28,15 @@ pub(super) fn run<R: Threads + Wait + Sync>(
     let mut input = text.as_bytes();
     let mut out = Vec::new(alloc);
     let mut errors = Vec::new(alloc);
-    let status = run_script(rt, alloc, &mut input, &mut out, &mut errors, saved);
+    let status = run_script(
+        rt,
+        alloc,
+        &mut input,
+        &mut out,
+        &mut errors,
+        saved,
+        &OpenGate,
+    );
     Told {
         out,
         errors,
@@ -102,7 +111,15 @@ fn what_cannot_run_is_told(rt: HostRuntime) {
     let mut broken = Broken {
         kind: io::ErrorKind::PermissionDenied,
     };
-    let status = run_script(&rt, alloc, &mut broken, &mut out, &mut errors, None);
+    let status = run_script(
+        &rt,
+        alloc,
+        &mut broken,
+        &mut out,
+        &mut errors,
+        None,
+        &OpenGate,
+    );
     assert_eq!(rt; status, FAILED);
     assert_eq!(rt; out.as_slice(), b"".as_slice());
     assert_eq!(rt; errors.as_slice(), b"input or output failed\n".as_slice());

@@ -2,6 +2,7 @@
 use super::images::{files_told, told};
 use program_run::run_script;
 use program_run::status::{DONE, REFUSED};
+use program_workers::OpenGate;
 use std::alloc::Global;
 use std::process::Abort;
 use std::sync::Wait;
@@ -26,6 +27,7 @@ fn saved_by<R: Threads + Wait + Abort + Sync>(
         &mut out,
         &mut errors,
         Some(&mut saved),
+        &OpenGate,
     );
     assert_eq!(rt; status, DONE);
     (out, saved)

@@ -16,15 +16,11 @@
 #![tactic(auto)]
 
 mod book;
-#[cfg(test)]
-mod claims_calls;
 mod compare;
 mod holder;
 mod law;
 mod plays;
 mod shown;
-#[cfg(test)]
-mod shown_calls;
 mod value;
 
 pub use book::Book;

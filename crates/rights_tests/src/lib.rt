@@ -5,7 +5,11 @@
 #[cfg(test)]
 mod books_calls;
 #[cfg(test)]
+mod claims_calls;
+#[cfg(test)]
 mod pool_calls;
+#[cfg(test)]
+mod shown_calls;
 #[cfg(test)]
 mod turnstile_calls;
 #[cfg(test)]

@@ -3,8 +3,6 @@
 #![tactic(auto)]
 
 mod node;
-#[cfg(test)]
-mod tests;
 mod ticket;
 
 pub use node::{NidToken, give_block};

@@ -4,9 +4,10 @@ use Rattle.std.proofs.lemmas.List.{take_at}
 use Rattle.file_cells.specs.Pass.{Pass}
 use Rattle.geometry.specs.File.{File}
 use Rattle.tool_files.specs.Content.{all_bytes, HasBytes}
-use Rattle.tool_files.specs.Folder.{Row, BeginsWith}
-use Rattle.tool_files.specs.Names.{file_at, HasFile, HasFolder, IsRowOf, Renews, WasPut}
-use Rattle.tool_files.proofs.Spelling.{rows_unique}
+use Rattle.tool_folder.specs.Folder.{Row, BeginsWith}
+use Rattle.tool_files.specs.Files.{file_at, HasFile, HasFolder, WasPut}
+use Rattle.tool_folder.specs.Names.{IsRowOf, Renews}
+use Rattle.tool_folder.proofs.Spelling.{rows_unique}
 
 -- the first row of the name of one that was renewed is that one
 renewed_row : (row : Row) (rows after : List Row) (found : Row) → Renews row rows after → IsRowOf row.name after found → found ≡ row

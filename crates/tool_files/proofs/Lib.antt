@@ -1,9 +1,6 @@
-mod Cases
 mod Contents
-mod Entries
-mod Fields
 mod Got
 mod Places
-mod Spelling
+mod Rows
 mod Updates
 mod Works

@@ -1,12 +1,11 @@
--- What is found by a number or a name after a pass or a row was set, pushed or removed.
-use Rattle.std.proofs.Common.{◌≡◌, ◌≢◌, ◌∙◌, ◌⊎◌, ◌++◌, ◌<◌, ℕ, zero, suc, List, [], ◌∷◌, Option, Some, None, cond, ◌==◌, length, set, take, remove, get_or, map, ap, sym, subst, refl, inl, inr, ne_eqb, eq-eqb, arith}
+-- What is found by a number after a pass was set, pushed or removed.
+use Rattle.std.proofs.Common.{◌≡◌, ◌≢◌, ◌∙◌, ◌++◌, ℕ, zero, suc, List, [], ◌∷◌, Some, None, cond, ◌==◌, length, set, take, remove, ap, sym, subst, refl, inl, inr, ne_eqb, eq-eqb}
 use Rattle.std.proofs.lemmas.Bool.{cases_eq}
 use Rattle.std.proofs.lemmas.List.{length-set, take_at}
 use Rattle.file_cells.specs.Pass.{Pass}
 use Rattle.geometry.specs.File.{File}
-use Rattle.tool_files.specs.Folder.{Row}
 use Rattle.tool_files.specs.Content.{HasBytes}
-use Rattle.tool_files.specs.Names.{file_at, HasNoRow, IsPlace, IsRowOf, IsRowPlace, Removes, Renames, Renews, WasWritten}
+use Rattle.tool_files.specs.Files.{file_at, IsPlace, WasWritten}
 
 pub set_file : (number : ℕ) (passes : List Pass) (place : ℕ) (pass : Pass) → IsPlace number passes place → pass.number ≡ number
     → file_at number (set passes place pass) ≡ Some pass.file
@@ -46,38 +45,6 @@ remove_other number [] place here n other = absurd here
 remove_other number (p ∷ passes) zero here n other = sym (ap (λ b. cond b (Some p.file) (file_at n passes)) (ne_eqb p.number n (λ e. other (sym e ∙ here))))
 remove_other number (p ∷ passes) (suc place) here n other = ap (λ o. cond (p.number == n) (Some p.file) o) (remove_other number passes place here.1 n other)
 
-pub renews_set : (row : Row) (rows : List Row) (place : ℕ) → IsRowPlace row.name rows place → Renews row rows (set rows place row)
-renews_set row [] place here = absurd here
-renews_set row (r ∷ rows) zero here = inl (here, refl)
-renews_set row (r ∷ rows) (suc place) here = inr (here.0, (set rows place row, refl, renews_set row rows place here.1))
-
-pub renews_push : (row : Row) (rows : List Row) → HasNoRow row.name rows → Renews row rows (rows ++ row ∷ [])
-renews_push row [] none = refl
-renews_push row (r ∷ rows) none = inr (none.0, (rows ++ row ∷ [], refl, renews_push row rows none.1))
-
-pub removes_at : (name : List ℕ) (rows : List Row) (place : ℕ) → IsRowPlace name rows place → Removes name rows (remove rows place)
-removes_at name [] place here = absurd here
-removes_at name (r ∷ rows) zero here = inl (here, refl)
-removes_at name (r ∷ rows) (suc place) here = inr (here.0, (remove rows place, refl, removes_at name rows place here.1))
-
-pub renames_at : (name to : List ℕ) (rows : List Row) (place : ℕ) (other : Row) → IsRowPlace name rows place
-    → Renames name to rows (set rows place (record (get_or rows place other) { name = to }))
-renames_at name to [] place other here = absurd here
-renames_at name to (r ∷ rows) zero other here = inl (here, refl)
-renames_at name to (r ∷ rows) (suc place) other here =
-    inr (here.0, (set rows place (record (get_or rows place other) { name = to }), refl, renames_at name to rows place other here.1))
-
-pub row_of_place : (name : List ℕ) (rows : List Row) (place : ℕ) (other : Row) → IsRowPlace name rows place → IsRowOf name rows (get_or rows place other)
-row_of_place name [] place other here = absurd here
-row_of_place name (r ∷ rows) zero other here = inl (here, refl)
-row_of_place name (r ∷ rows) (suc place) other here = inr (here.0, row_of_place name rows place other here.1)
-
-pub map-remove : {X Y : Type 0} (f : X → Y) (xs : List X) (i : ℕ) → map f (remove xs i) ≡ remove (map f xs) i
-map-remove f [] zero = refl
-map-remove f [] (suc i) = refl
-map-remove f (x ∷ xs) zero = refl
-map-remove f (x ∷ xs) (suc i) = ap (λ ys. f x ∷ ys) (map-remove f xs i)
-
 -- a file was written in its place
 pub written_at : (size : ℕ) (bytes : List ℕ) (number : ℕ) (before after : List Pass) (place : ℕ) (new : Pass) → after ≡ set before place new → IsPlace number before place
     → new.number ≡ number → HasBytes size bytes new.file → WasWritten size bytes number before after
@@ -99,7 +66,3 @@ written_new size bytes number before after new is none same has = record {
   content = has;
   others = λ n other. ap (file_at n) is ∙ push_other before new n (λ e. other (e ∙ same));
 }
-
--- what a slice of a list wrote at a place is written there in the list
-pub written_back : {X : Type 0} (xs ys zs : List X) (n i : ℕ) (x : X) → ys ≡ xs → length xs ≡ n → take n (set ys i x ++ zs) ≡ set xs i x
-written_back xs ys zs n i x same long = take_at (set ys i x) zs n (length-set ys i x ∙ ap length same ∙ long) ∙ ap (λ l. set l i x) same

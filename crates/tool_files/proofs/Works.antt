@@ -2,8 +2,9 @@
 use Rattle.std.proofs.Common.{◌≡◌, ◌≢◌, ◌∙◌, ◌<◌, ℕ, zero, suc, List, Some, None, length, ap, sym, subst, arith}
 use Rattle.file_cells.specs.Pass.{Pass}
 use Rattle.geometry.specs.File.{File}
-use Rattle.tool_files.specs.Folder.{Row}
-use Rattle.tool_files.specs.Names.{file_at, HasFolder, IsRowOf, Removes, Renames, Renews, WasPut, WasRemoved, WasRenamed, WasWritten}
+use Rattle.tool_folder.specs.Folder.{Row}
+use Rattle.tool_files.specs.Files.{file_at, HasFolder, IsNumberFor, WasPut, WasRemoved, WasRenamed, WasWritten}
+use Rattle.tool_folder.specs.Names.{IsRowOf, Removes, Renames, Renews}
 
 -- a number that no pass has is not that of the folder
 pub past_folder : (number : ℕ) (passes : List Pass) (folder : File) → 0 < number → file_at number passes ≡ None → file_at 1 passes ≡ Some folder → 1 < number
@@ -12,12 +13,13 @@ past_folder (suc zero) passes folder some none there = let both : Some folder �
 past_folder (suc (suc n)) passes folder some none there = omega arith
 
 pub was_put : (size : ℕ) (name bytes : List ℕ) (number : ℕ) (before between after : List Pass) (rows renewed : List Row)
-    → HasFolder size before rows → WasWritten size bytes number before between → 1 < number
+    → HasFolder size before rows → IsNumberFor name number rows before → WasWritten size bytes number before between → 1 < number
     → Renews (record { name = name; number = number; bytes = length bytes }) rows renewed
     → HasFolder size after renewed → ((n : ℕ) → n ≢ 1 → file_at n after ≡ file_at n between) → WasPut size name bytes number before after
-was_put size name bytes number before between after rows renewed had written past renews has others = record {
+was_put size name bytes number before between after rows renewed had own written past renews has others = record {
   rows = rows;
   had_folder = had;
+  own = own;
   renewed = renewed;
   has_folder = has;
   renews = renews;
@@ -28,9 +30,10 @@ was_put size name bytes number before between after rows renewed had written pas
 }
 
 pub was_removed : (size : ℕ) (name : List ℕ) (before between after : List Pass) (rows left : List Row) (row : Row)
-    → HasFolder size before rows → IsRowOf name rows row → Removes name rows left → ((n : ℕ) → n ≢ row.number → file_at n between ≡ file_at n before)
+    → HasFolder size before rows → IsRowOf name rows row → 1 < row.number → Removes name rows left
+    → file_at row.number between ≡ None → ((n : ℕ) → n ≢ row.number → file_at n between ≡ file_at n before)
     → HasFolder size after left → ((n : ℕ) → n ≢ 1 → file_at n after ≡ file_at n between) → WasRemoved size name before after
-was_removed size name before between after rows left row had named removes deleted has others = record {
+was_removed size name before between after rows left row had named past removes gone deleted has others = record {
   rows = rows;
   had_folder = had;
   row = row;
@@ -38,6 +41,7 @@ was_removed size name before between after rows left row had named removes delet
   left = left;
   has_folder = has;
   removes = removes;
+  gone = others row.number (λ e. omega arith) ∙ gone;
   others = λ n not_folder other. others n not_folder ∙ deleted n other;
 }
 

@@ -1,4 +1,2 @@
 pub mod Content
-pub mod Folder
-pub mod Names
-pub mod Rows
+pub mod Files

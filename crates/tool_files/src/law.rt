@@ -1,7 +1,7 @@
 //! What was put is what is got.
 ghost use Rattle.std.specs.Prelude.{◌≡◌, ℕ, List};
 ghost use Rattle.file_cells.specs.Pass.{Pass};
-ghost use Rattle.tool_files.specs.Names.{file_at, HasFile, WasPut};
+ghost use Rattle.tool_files.specs.Files.{file_at, HasFile, WasPut};
 
 /// Of a run that put a file (`WasPut`, of `Put`), and of passes that show for each number the same file as those with which it ended:
 /// what a run that begins with these passes gets under the name (`HasFile`, of `Get`) is what was put.

@@ -1,12 +1,10 @@
 //! Named files of bytes on a volume: what each command of the tool does with them, as work over the front door.
 //!
-//! The folder is the file of number 1. It has a row for each name: the number of the file that has its bytes, and how many. No call
-//! writes a checkpoint, so that what a piece of work did is seen by a later run whole, once the volume is closed, or not at all.
+//! The folder (`tool_folder`) is the file of number 1. No call but `Clean` writes a checkpoint, so that what a piece of work did is
+//! seen by a later run whole, once the volume is closed, or not at all.
 #![tactic(auto)]
 
 mod content;
-mod entry;
-mod folder;
 mod law;
 mod refusal;
 mod tidy;
@@ -14,8 +12,6 @@ mod walk;
 mod work;
 
 pub use cleaning::Policy;
-pub use entry::{Entry, is_name};
-pub use folder::{FOLDER, decode, encode, folder_law};
 pub use law::put_get_law;
 pub use refusal::Refusal;
 pub use tidy::{Clean, Tidied};

@@ -13,6 +13,9 @@ pub enum Refusal {
     /// The folder has no such name, or there is no file of such a number.
     #[error("there is no such file")]
     NoSuchFile,
+    /// The folder names a file that is not there: another program deleted it. Its number would be a new file's.
+    #[error("the folder names a file that is not there")]
+    LostFile,
     /// The folder has the new name already.
     #[error("there is a file of the new name")]
     NameTaken,

@@ -1,20 +1,19 @@
 //! The files of the passes, and the folder among them.
-ghost use Rattle.std.specs.Prelude.{◌≡◌, ◌≢◌, ◌<◌, ◌⊎◌, ℕ, List, None, All, length, map, IfOk, IfErr, IfSome, IfNone, OnOk};
+ghost use Rattle.std.specs.Prelude.{◌≡◌, ◌≢◌, ◌<◌, ◌⊎◌, ℕ, List, None, All, length, map, true, IfOk, IfErr, IfSome, IfNone, OnOk};
 ghost use Rattle.geometry.specs.Shape.{block_bytes};
 ghost use Rattle.geometry.specs.declared.error.Error.TheVariants.{Device, NoMemory};
-ghost use Rattle.tool_files.specs.Folder.{Row, IsRow};
-ghost use Rattle.tool_files.specs.Names.{file_at, HasFolder, HasNoRow, IsPlace, IsRowPlace};
-ghost use Rattle.tool_files.specs.Rows.{row_of};
+ghost use Rattle.tool_files.specs.Files.{file_at, HasFolder, IsPlace, IsThere};
+ghost use Rattle.tool_folder.specs.Folder.{Row, IsRow};
+ghost use Rattle.tool_folder.specs.Rows.{row_of};
 
 use crate::content::{read_all, write_all};
-use crate::entry::Entry;
-use crate::folder::{FOLDER, decode, encode};
 use device::{Block, Meta};
 use file_cells::FilePass;
 use geometry::Error;
 use rights_names::VolumeName;
 use std::alloc::Global;
 use std::sync::Wait;
+use tool_folder::{Entry, FOLDER, decode, encode};
 use volume::Volume;
 
 /// Where the first pass of a number is.
@@ -31,18 +30,16 @@ pub(crate) fn place_of<V: VolumeName>(passes: &[FilePass<V>], number: u32) -> Op
     None
 }
 
-/// Where the first row of a name is.
-pub(crate) fn row_at(entries: &[Entry], name: &str) -> Option<usize>
-    ensures within { IfSome result (λ place. place < length entries.now) }
-    ensures some { IfSome result (λ place. IsRowPlace name.now (map row_of entries.now) place) }
-    ensures none { IfNone result (HasNoRow name.now (map row_of entries.now)) }
+/// Whether the passes have a file of each row.
+pub(crate) fn are_there<V: VolumeName>(passes: &[FilePass<V>], entries: &[Entry]) -> bool
+    ensures { result ≡ true → All (λ row. IsThere passes.now row.number) (map row_of entries.now) }
 {
-    for (place, entry) in entries.iter().enumerate() {
-        if entry.name.as_str() == name {
-            return Some(place);
+    for entry in entries {
+        if place_of(passes, entry.number).is_none() {
+            return false;
         }
     }
-    None
+    true
 }
 
 /// The rows of the folder. None exactly where the passes have no folder. Answers NoMemory, or Device where the device failed.

@@ -129,8 +129,8 @@ fn run_step<V: VolumeName, M: Meta, B: Block + Drop, R: Wait + Abort>(
             sync_twice(rt, volume, &passes[place])?;
         }
         Step::NoSync(wanted) => assert!(rt; volume.sync(rt, &[]).err() == Some(wanted)),
-        Step::Fail(fuse) => assert!(rt; fuse.arm(1, false)),
-        Step::FailAt(fuse, nth, late) => assert!(rt; fuse.arm(nth, late)),
+        Step::Fail(fuse) => assert!(rt; fuse.arm(1, false).is_ok()),
+        Step::FailAt(fuse, nth, late) => assert!(rt; fuse.arm(nth, late).is_ok()),
         Step::Row(row) => {
             for pass in run_row(rt, alloc, volume, row)? {
                 passes.push(pass)?;

@@ -1,7 +1,7 @@
 //! Devices that fail, and volumes that are wounded.
 use super::Row;
 
-pub(super) const ROWS: [Row; 6] = [
+pub(super) const ROWS: [Row; 8] = [
     // A main block that fails leaves the file as it was, in a write and in the nodes' writes of a checkpoint, and wounds nothing.
     Row {
         what: "a write that fails leaves nothing",
@@ -123,6 +123,51 @@ pub(super) const ROWS: [Row; 6] = [
             look 1 11 11 11 11 11 11 11 11\n\
             file 1 length 8 22 22 22 22 22 22 22 22\n\
             total 10\n",
+    },
+    // Of two lines that let the same call fail the earlier one decides: the footer is not written, or it is.
+    Row {
+        what: "the earlier failure decides, before its call",
+        script: "format TINY 16 1 4 32\n\
+            create file\n\
+            write 1 0 41\n\
+            sync\n\
+            write 1 0 42\n\
+            fail meta 8\n\
+            fail meta 8 late\n\
+            sync\n\
+            remount\n\
+            read 1 0\n",
+        lines: "file 1\n\
+            ok\n\
+            version 2 total 2 free 10\n\
+            ok\n\
+            refused 2 Device\n\
+            mount version 2\n\
+            read 1 0 41\n\
+            file 1 length 1 41\n\
+            total 2\n",
+    },
+    Row {
+        what: "the earlier failure decides, after its call",
+        script: "format TINY 16 1 4 32\n\
+            create file\n\
+            write 1 0 41\n\
+            sync\n\
+            write 1 0 42\n\
+            fail meta 8 late\n\
+            fail meta 8\n\
+            sync\n\
+            remount\n\
+            read 1 0\n",
+        lines: "file 1\n\
+            ok\n\
+            version 2 total 2 free 10\n\
+            ok\n\
+            refused 2 Device\n\
+            mount version 3\n\
+            read 1 0 42\n\
+            file 1 length 1 42\n\
+            total 2\n",
     },
     // Failures wait side by side, each counted from its line.
     Row {

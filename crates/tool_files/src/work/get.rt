@@ -1,13 +1,14 @@
 //! The bytes of a file.
 use crate::content::read_all;
 use crate::refusal::Refusal;
-use crate::walk::{place_of, read_folder, row_at};
+use crate::walk::{place_of, read_folder};
 use device::{Block, Meta};
 use flash_volume::{Rights, Work};
 use geometry::Error;
 use rights_names::VolumeName;
 use std::alloc::Global;
 use std::sync::Wait;
+use tool_folder::row_at;
 use volume::Volume;
 
 /// The bytes of the file of a name.
@@ -19,7 +20,7 @@ pub struct Get<'a> {
 impl<'a, M: Meta, B: Block + Drop> Work<M, B> for Get<'a> {
     ghost use Rattle.std.specs.Prelude.{◌≡◌, IfOk};
     ghost use Rattle.geometry.specs.Shape.{block_bytes};
-    ghost use Rattle.tool_files.specs.Names.{HasFile};
+    ghost use Rattle.tool_files.specs.Files.{HasFile};
 
     type Output = Result<Vec<u8>, Refusal>;
 
@@ -62,7 +63,7 @@ impl<M: Meta, B: Block + Drop> Work<M, B> for GetNumber {
     ghost use Rattle.geometry.specs.File.{File};
     ghost use Rattle.geometry.specs.Shape.{block_bytes};
     ghost use Rattle.tool_files.specs.Content.{all_bytes};
-    ghost use Rattle.tool_files.specs.Names.{file_at};
+    ghost use Rattle.tool_files.specs.Files.{file_at};
 
     type Output = Result<Vec<u8>, Refusal>;
 

@@ -1,5 +1,4 @@
 //! What files there are.
-use crate::entry::Entry;
 use crate::walk::read_folder;
 use device::{Block, Meta};
 use flash_volume::{Rights, Work};
@@ -7,6 +6,7 @@ use geometry::Error;
 use rights_names::VolumeName;
 use std::alloc::Global;
 use std::sync::Wait;
+use tool_folder::Entry;
 use volume::Volume;
 
 /// A file by its number, and its length in blocks.

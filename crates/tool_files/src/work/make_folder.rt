@@ -1,5 +1,4 @@
 //! The folder of a new volume.
-use crate::folder::FOLDER;
 use crate::walk::write_folder;
 use device::{Block, Meta};
 use flash_volume::{Rights, Work};
@@ -7,6 +6,7 @@ use geometry::{Error, Kind};
 use rights_names::VolumeName;
 use std::alloc::Global;
 use std::sync::Wait;
+use tool_folder::FOLDER;
 use volume::Volume;
 
 /// Makes the folder, without rows, on a volume without files.
@@ -16,7 +16,7 @@ pub struct MakeFolder;
 impl<M: Meta, B: Block + Drop> Work<M, B> for MakeFolder {
     ghost use Rattle.std.specs.Prelude.{[]};
     ghost use Rattle.geometry.specs.Shape.{block_bytes};
-    ghost use Rattle.tool_files.specs.Names.{HasFolder};
+    ghost use Rattle.tool_files.specs.Files.{HasFolder};
 
     type Output = ();
 

@@ -1,15 +1,14 @@
 //! A file gets its bytes.
-ghost use Rattle.std.specs.Prelude.{◌≡◌, ◌<◌, All, Some, length, map, IfOk, IfSome, IfNone, OnOk};
-ghost use Rattle.geometry.specs.File.{File};
+ghost use Rattle.std.specs.Prelude.{◌≡◌, ◌<◌, ℕ, List, None, All, length, map, IfOk, IfSome, IfNone, OnOk};
 ghost use Rattle.geometry.specs.Shape.{block_bytes};
-ghost use Rattle.tool_files.specs.Folder.{IsRow};
-ghost use Rattle.tool_files.specs.Names.{file_at, HasNoRow, IsRowPlace, Renews, WasWritten};
-ghost use Rattle.tool_files.specs.Rows.{row_of};
+ghost use Rattle.tool_files.specs.Files.{file_at, IsThere, WasWritten};
+ghost use Rattle.tool_folder.specs.Folder.{Row, IsRow};
+ghost use Rattle.tool_folder.specs.Names.{IsRowOf, IsRowPlace};
+ghost use Rattle.tool_folder.specs.Rows.{row_of};
 
 use crate::content::write_all;
-use crate::entry::{Entry, is_name};
 use crate::refusal::Refusal;
-use crate::walk::{place_of, read_folder, row_at, write_folder};
+use crate::walk::{are_there, place_of, read_folder, write_folder};
 use device::{Block, Meta};
 use file_cells::FilePass;
 use flash_volume::{Rights, Work};
@@ -17,6 +16,7 @@ use geometry::{Error, Kind};
 use rights_names::VolumeName;
 use std::alloc::Global;
 use std::sync::Wait;
+use tool_folder::{Entry, is_name, put_row, row_at};
 use volume::Volume;
 
 /// The file of a name becomes these bytes; where there is none it is made. Answers its number.
@@ -34,7 +34,7 @@ pub struct Put<'a> {
 impl<'a, M: Meta, B: Block + Drop> Work<M, B> for Put<'a> {
     ghost use Rattle.std.specs.Prelude.{◌≡◌, MatchResult};
     ghost use Rattle.geometry.specs.Shape.{block_bytes};
-    ghost use Rattle.tool_files.specs.Names.{WasPut};
+    ghost use Rattle.tool_files.specs.Files.{WasPut};
 
     type Output = Result<u32, Refusal>;
 
@@ -56,19 +56,22 @@ impl<'a, M: Meta, B: Block + Drop> Work<M, B> for Put<'a> {
         let Some(mut entries) = read_folder(rt, alloc, volume, rights.passes.as_slice())? else {
             return Ok(Err(Refusal::NoFolder));
         };
+        if !are_there(rights.passes.as_slice(), entries.as_slice()) {
+            return Ok(Err(Refusal::LostFile));
+        }
         let row = row_at(entries.as_slice(), self.name);
         let held = entries.as_slice();
         let passes = &mut rights.passes;
         let number = write_row(rt, alloc, volume, passes, held, row, self.bytes, self.now)?;
         let bytes = self.bytes.len() as u64;
-        renew(alloc, &mut entries, row, self.name, number, bytes)?;
+        put_row(alloc, &mut entries, row, self.name, number, bytes)?;
         let passes = rights.passes.as_mut_slice();
         write_folder(rt, alloc, volume, passes, entries.as_slice(), self.now)?;
         Ok(Ok(number))
     }
 }
 
-// The file of a row has the bytes, or a new one where there is none. Answers its number.
+// The file of a row has the bytes, or a new one where there is no row. Answers its number.
 fn write_row<V: VolumeName, M: Meta, B: Block + Drop, R: Wait>(
     rt: &R,
     alloc: Global,
@@ -81,20 +84,23 @@ fn write_row<V: VolumeName, M: Meta, B: Block + Drop, R: Wait>(
 ) -> Result<u32, Error>
     requires within { IfSome row (λ place. place < length entries.now) }
     requires rows { All IsRow (map row_of entries.now) }
-    requires folder { (folder : File) × (file_at 1 passes.old.items ≡ Some folder) }
+    requires folder { IsThere passes.old.items 1 }
     ensures written { IfOk result (λ number. WasWritten (block_bytes V.Numbers.geometry.shape) bytes.now number passes.old.items passes.new.items) }
     ensures past { IfOk result (λ number. 1 < number) }
+    ensures kept { IfOk result (λ number. IfSome row (λ place. (name : List ℕ) → IsRowPlace name (map row_of entries.now) place → (found : Row) × IsRowOf name (map row_of entries.now) found × (found.number ≡ number))) }
+    ensures made { IfOk result (λ number. IfNone row (file_at number passes.old.items ≡ None)) }
 {
     match row {
         Some(place) => {
             let number = entries[place].number;
-            write_file(rt, alloc, volume, passes, number, bytes, now)
+            write_file(rt, alloc, volume, passes, number, bytes, now)?;
+            Ok(number)
         }
         None => write_new(rt, alloc, volume, passes, bytes, now),
     }
 }
 
-// The file of a number has the bytes, or a new one where there is none. Answers its number.
+// The file of a number has the bytes.
 fn write_file<V: VolumeName, M: Meta, B: Block + Drop, R: Wait>(
     rt: &R,
     alloc: Global,
@@ -103,19 +109,15 @@ fn write_file<V: VolumeName, M: Meta, B: Block + Drop, R: Wait>(
     number: u32,
     bytes: &[u8],
     now: u64,
-) -> Result<u32, Error>
-    requires past { 1 < number }
-    requires folder { (folder : File) × (file_at 1 passes.old.items ≡ Some folder) }
-    ensures written { IfOk result (λ there. WasWritten (block_bytes V.Numbers.geometry.shape) bytes.now there passes.old.items passes.new.items) }
-    ensures past { IfOk result (λ there. 1 < there) }
+) -> Result<(), Error>
+    ensures written { OnOk result (WasWritten (block_bytes V.Numbers.geometry.shape) bytes.now number passes.old.items passes.new.items) }
 {
     match place_of(passes.as_slice(), number) {
         Some(place) => {
             let pass = &mut passes.as_mut_slice()[place];
-            write_all(rt, alloc, volume, pass, bytes, now)?;
-            Ok(number)
+            write_all(rt, alloc, volume, pass, bytes, now)
         }
-        None => write_new(rt, alloc, volume, passes, bytes, now),
+        None => Err(Error::NoFile),
     }
 }
 
@@ -128,9 +130,10 @@ fn write_new<V: VolumeName, M: Meta, B: Block + Drop, R: Wait>(
     bytes: &[u8],
     now: u64,
 ) -> Result<u32, Error>
-    requires folder { (folder : File) × (file_at 1 passes.old.items ≡ Some folder) }
+    requires folder { IsThere passes.old.items 1 }
     ensures written { IfOk result (λ number. WasWritten (block_bytes V.Numbers.geometry.shape) bytes.now number passes.old.items passes.new.items) }
     ensures past { IfOk result (λ number. 1 < number) }
+    ensures made { IfOk result (λ number. file_at number passes.old.items ≡ None) }
 {
     let mut pass = volume.create(rt, Kind::File)?;
     let number = pass.number();
@@ -141,31 +144,4 @@ fn write_new<V: VolumeName, M: Meta, B: Block + Drop, R: Wait>(
     write_all(rt, alloc, volume, &mut pass, bytes, now)?;
     passes.push(pass)?;
     Ok(number)
-}
-
-// The row of a name tells this file and how many bytes it has; where there is none it is put behind all.
-fn renew(
-    alloc: Global,
-    entries: &mut Vec<Entry>,
-    row: Option<usize>,
-    name: &str,
-    number: u32,
-    bytes: u64,
-) -> Result<(), Error>
-    requires within { IfSome row (λ place. place < length entries.old.items) }
-    requires some { IfSome row (λ place. IsRowPlace name.now (map row_of entries.old.items) place) }
-    requires none { IfNone row (HasNoRow name.now (map row_of entries.old.items)) }
-    ensures renewed { OnOk result (Renews (record { name = name.now; number = number; bytes = bytes }) (map row_of entries.old.items) (map row_of entries.new.items)) }
-    ensures rows { OnOk result (1 < number → All IsRow (map row_of entries.old.items) → All IsRow (map row_of entries.new.items)) }
-{
-    let entry = Entry {
-        name: String::from_str(alloc, name)?,
-        number,
-        bytes,
-    };
-    match row {
-        Some(place) => entries.as_mut_slice()[place] = entry,
-        None => entries.push(entry)?,
-    }
-    Ok(())
 }

@@ -1,12 +1,9 @@
 //! A file goes.
-ghost use Rattle.std.specs.Prelude.{◌≡◌, ◌≢◌, ◌<◌, ℕ, List, All, length, map, OnOk};
-ghost use Rattle.tool_files.specs.Folder.{Row, IsRow};
-ghost use Rattle.tool_files.specs.Names.{file_at, IsRowOf, IsRowPlace, Removes};
-ghost use Rattle.tool_files.specs.Rows.{row_of};
+ghost use Rattle.std.specs.Prelude.{◌≡◌, ◌≢◌, ℕ, None, OnOk};
+ghost use Rattle.tool_files.specs.Files.{file_at};
 
-use crate::entry::Entry;
 use crate::refusal::Refusal;
-use crate::walk::{place_of, read_folder, row_at, write_folder};
+use crate::walk::{place_of, read_folder, write_folder};
 use device::{Block, Meta};
 use file_cells::FilePass;
 use flash_volume::{Rights, Work};
@@ -14,6 +11,7 @@ use geometry::Error;
 use rights_names::VolumeName;
 use std::alloc::Global;
 use std::sync::Wait;
+use tool_folder::{row_at, take_row};
 use volume::Volume;
 
 /// Removes a name from the folder, and deletes its file.
@@ -27,11 +25,11 @@ pub struct Remove<'a> {
 impl<'a, M: Meta, B: Block + Drop> Work<M, B> for Remove<'a> {
     ghost use Rattle.std.specs.Prelude.{◌≡◌, MatchResult};
     ghost use Rattle.geometry.specs.Shape.{block_bytes};
-    ghost use Rattle.tool_files.specs.Names.{WasRemoved};
+    ghost use Rattle.tool_files.specs.Files.{WasRemoved};
 
     type Output = Result<(), Refusal>;
 
-    // The name is gone, and no file of another row changes; or nothing does.
+    // The name is gone and its file too, and no other file changes; or nothing does.
     ghost post = { λ remove geometry before output after. MatchResult output
         (λ _. WasRemoved (block_bytes geometry.shape) remove.name.now before after)
         (λ refusal. after ≡ before) };
@@ -57,19 +55,26 @@ impl<'a, M: Meta, B: Block + Drop> Work<M, B> for Remove<'a> {
     }
 }
 
-// Takes a row out, and answers the number of its file.
-fn take_row(entries: &mut Vec<Entry>, row: usize) -> u32
-    requires within { row < length entries.old.items }
-    ensures taken { (name : List ℕ) → IsRowPlace name (map row_of entries.old.items) row → (taken : Row) × (taken.number ≡ result) × IsRowOf name (map row_of entries.old.items) taken }
-    ensures removed { (name : List ℕ) → IsRowPlace name (map row_of entries.old.items) row → Removes name (map row_of entries.old.items) (map row_of entries.new.items) }
-    ensures rows { All IsRow (map row_of entries.old.items) → All IsRow (map row_of entries.new.items) }
-{
-    let entry = entries.remove(row);
-    entry.number
-}
-
 // Deletes the file of a number, where there is one.
 fn delete_file<V: VolumeName, M: Meta, B: Block + Drop, R: Wait>(
+    rt: &R,
+    volume: &Volume<V, M, B>,
+    passes: &mut Vec<FilePass<V>>,
+    number: u32,
+) -> Result<(), Error>
+    ensures others { OnOk result ((n : ℕ) → n ≢ number → file_at n passes.new.items ≡ file_at n passes.old.items) }
+    ensures gone { OnOk result (file_at number passes.new.items ≡ None) }
+{
+    delete_first(rt, volume, passes, number)?;
+    match place_of(passes.as_slice(), number) {
+        // Nothing says that the passes are of different files, so it is looked at; no other pass has the number.
+        Some(_) => Err(Error::NoFile),
+        None => Ok(()),
+    }
+}
+
+// Deletes the file of the first pass of a number, where there is one.
+fn delete_first<V: VolumeName, M: Meta, B: Block + Drop, R: Wait>(
     rt: &R,
     volume: &Volume<V, M, B>,
     passes: &mut Vec<FilePass<V>>,

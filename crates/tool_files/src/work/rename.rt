@@ -1,18 +1,13 @@
 //! A file gets another name.
-ghost use Rattle.std.specs.Prelude.{◌<◌, ℕ, List, All, length, map, OnOk};
-ghost use Rattle.tool_files.specs.Folder.{IsRow};
-ghost use Rattle.tool_files.specs.Names.{IsRowPlace, Renames};
-ghost use Rattle.tool_files.specs.Rows.{row_of};
-
-use crate::entry::{Entry, is_name};
 use crate::refusal::Refusal;
-use crate::walk::{read_folder, row_at, write_folder};
+use crate::walk::{read_folder, write_folder};
 use device::{Block, Meta};
 use flash_volume::{Rights, Work};
 use geometry::Error;
 use rights_names::VolumeName;
 use std::alloc::Global;
 use std::sync::Wait;
+use tool_folder::{is_name, rename_row, row_at};
 use volume::Volume;
 
 /// A file gets another name, which no file has.
@@ -27,7 +22,7 @@ pub struct Rename<'a> {
 impl<'a, M: Meta, B: Block + Drop> Work<M, B> for Rename<'a> {
     ghost use Rattle.std.specs.Prelude.{◌≡◌, MatchResult};
     ghost use Rattle.geometry.specs.Shape.{block_bytes};
-    ghost use Rattle.tool_files.specs.Names.{WasRenamed};
+    ghost use Rattle.tool_files.specs.Files.{WasRenamed};
 
     type Output = Result<(), Refusal>;
 
@@ -60,21 +55,4 @@ impl<'a, M: Meta, B: Block + Drop> Work<M, B> for Rename<'a> {
         write_folder(rt, alloc, volume, passes, entries.as_slice(), self.now)?;
         Ok(Ok(()))
     }
-}
-
-// A row gets another name.
-fn rename_row(alloc: Global, entries: &mut [Entry], row: usize, to: &str) -> Result<(), Error>
-    requires within { row < length entries.old }
-    ensures renamed { OnOk result ((name : List ℕ) → IsRowPlace name (map row_of entries.old) row → Renames name to.now (map row_of entries.old) (map row_of entries.new)) }
-    ensures rows { OnOk result (All IsRow (map row_of entries.old) → All IsRow (map row_of entries.new)) }
-{
-    let name = String::from_str(alloc, to)?;
-    let old = &entries[row];
-    let entry = Entry {
-        name,
-        number: old.number,
-        bytes: old.bytes,
-    };
-    entries[row] = entry;
-    Ok(())
 }

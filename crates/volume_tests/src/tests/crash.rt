@@ -93,7 +93,7 @@ fn crashed<R: Wait + Abort>(
     file: &[u8],
     crash: Crash,
 ) -> Result<Vec<u8>, Error> {
-    let fuse = Arc::new(alloc, Fuse::new(alloc, 1)?)?;
+    let fuse = Arc::new(alloc, Fuse::new(alloc))?;
     let device = with_fault(device_of(alloc, file)?, &fuse)?;
     let Crash { nth, late } = crash;
     let steps = [

@@ -163,13 +163,13 @@ fn failures_of(device: &FailingDevice) -> u64 {
 #[test]
 fn mount_passes_once_the_device_does_not_fail(rt: HostRuntime) -> Result<(), Fail> {
     let alloc = rt.alloc();
-    let fuse = Arc::new(alloc, Fuse::new(alloc, 1)?)?;
+    let fuse = Arc::new(alloc, Fuse::new(alloc))?;
     let file = base_file(alloc)?;
     let mut device = with_fuse(alloc, device_of(alloc, file.as_slice())?, &fuse)?;
     // The superblock is read, the first block lent for its length, and the area synced; then the first and the last number of
     // each pack are read, the body that counts, and the block of the one node.
     for nth in 1..10u32 {
-        assert!(rt; fuse.arm(nth, false));
+        assert!(rt; fuse.arm(nth, false).is_ok());
         device = refused(&rt, alloc, device, Error::Device);
         assert!(rt; failures_of(&device) == u64::from(nth), "at {nth}");
     }
@@ -199,7 +199,7 @@ fn mount_passes_once_the_device_does_not_fail(rt: HostRuntime) -> Result<(), Fai
 #[test]
 fn volume_is_wounded_by_a_close_that_writes_no_pack(rt: HostRuntime) -> Result<(), Fail> {
     let alloc = rt.alloc();
-    let fuse = Arc::new(alloc, Fuse::new(alloc, 1)?)?;
+    let fuse = Arc::new(alloc, Fuse::new(alloc))?;
     let file = base_file(alloc)?;
     let device = with_fuse(alloc, device_of(alloc, file.as_slice())?, &fuse)?;
     // The nodes are written by the checkpoint, so the next call of the device is the pack's.

@@ -1,9 +1,6 @@
 -- A mount leaves the blocks as they were: so work on the volume is work on what the parts held, and they can be mounted again.
-use Rattle.std.proofs.Common.{subst, sym, inl, inr}
-use Rattle.device.specs.Parts.{IsBlockRun}
-use Rattle.device.specs.declared.parts.Parts.{Parts}
-use Rattle.flash_volume.proofs.Same.{same_run}
-use Rattle.flash_volume.proofs.Results.{at_mount, err_both, err_then, ok_then}
+use Rattle.flash_volume.proofs.Same.{fault_run, refused_run}
+use Rattle.flash_volume.proofs.Results.{err_both, err_then, ok_then}
 use Rattle.flash_volume.proofs.Working.{left_run, worked_on}
 use Rattle.flash_volume.proofs.ladder.work_on.Goals as goal
 
@@ -26,25 +23,17 @@ returns-in-Ok-clause-again g c =
 
 pub returns-in-Ok-clause-after_fault : goal.returns-in-Ok-clause-after_fault
 returns-in-Ok-clause-after_fault g c =
-    let address_of = g.B.Block.address_of in
-    let content_of = g.B.Block.content_of in
     let found = c.in-Ok.ensures.parts in
-    let bytes = c.requires.run.0 in
-    let run = same_run address_of content_of bytes c.args.parts.blocks.items c.in-Ok.mounted.parts.blocks.items found.addresses found.contents c.requires.run.1 in
     err_both c.on_mounted.result _ _ _
-    (λ fault back given_up. elim (at_mount fault.stage) [
-      | inl is ↦ (bytes, subst (λ (parts : Parts g.row.M.Denot g.row.B.Denot). IsBlockRun address_of content_of bytes 1 parts.blocks.items) (sym (back is)) run)
-      | inr later ↦ (_, (given_up later).size.run)
-    ]) c.on_mounted.ensures.back c.on_mounted.ensures.given_up
+    (λ fault. fault_run g.M.Meta.seen g.M.Meta.may_leave g.B.Block.address_of g.B.Block.content_of c.in-Ok.mounted.geometry c.requires.run.0 c.args.parts.blocks.items c.in-Ok.mounted.parts
+    fault.parts fault.stage found.addresses found.contents c.requires.run.1)
+    c.on_mounted.ensures.back c.on_mounted.ensures.given_up
 
 pub returns-in-Ok-clause-given_up : goal.returns-in-Ok-clause-given_up
 returns-in-Ok-clause-given_up g c = err_then c.on_mounted.result _ _ (λ fault given_up later. (c.in-Ok.mounted.geometry, c.in-Ok.ensures.front, given_up later)) c.on_mounted.ensures.given_up
 
 pub returns-in-Err-clause-after_fault : goal.returns-in-Err-clause-after_fault
 returns-in-Err-clause-after_fault g c =
-    let address_of = g.B.Block.address_of in
-    let content_of = g.B.Block.content_of in
     let back = c.in-Err.ensures.back in
-    let bytes = c.requires.run.0 in
-    let run = same_run address_of content_of bytes c.args.parts.blocks.items c.in-Err.fault.parts.blocks.items back.addresses back.contents c.requires.run.1 in
-    (bytes, subst (λ (parts : Parts g.row.M.Denot g.row.B.Denot). IsBlockRun address_of content_of bytes 1 parts.blocks.items) (sym c.unmounted.ensures.parts) run)
+    refused_run g.M.Meta.seen g.M.Meta.may_leave g.B.Block.address_of g.B.Block.content_of c.requires.run.0 c.args.parts.blocks.items c.in-Err.fault.parts c.unmounted.result.parts
+    back.addresses back.contents c.requires.run.1 c.unmounted.ensures.parts

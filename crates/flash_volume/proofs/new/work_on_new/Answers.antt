@@ -1,8 +1,8 @@
 -- A mount of what the format left finds a volume of the same numbers and without files, and is refused for want of memory or by a
 -- failing device alone.
 use Rattle.std.proofs.Common.{inl, inr}
-use Rattle.flash_volume.proofs.Results.{at_mount, err_both, ok_then}
-use Rattle.flash_volume.proofs.Same.{same_size, size_given_up}
+use Rattle.flash_volume.proofs.Results.{err_both, ok_then}
+use Rattle.flash_volume.proofs.Same.{size_back}
 use Rattle.flash_volume.proofs.Working.{worked_on_new}
 use Rattle.flash_volume.proofs.new.work_on_new.Goals as goal
 
@@ -35,9 +35,6 @@ returns-in-Ok-clause-size_back g c =
     let parts = c.in-Ok.parts in
     let made = c.in-Ok.ensures.mountable in
     let found = c.mount_law.ensures.at_once c.args.geometry _ parts made in
-    let front = made.front (seen parts.meta) found.area in
     err_both c.work_on.result _ _ _
-    (λ fault same given_up. elim (at_mount fault.stage) [
-      | inl is ↦ same_size seen g.B.Block.address_of g.B.Block.content_of c.args.geometry parts fault.parts (same is) made.size
-      | inr later ↦ size_given_up seen g.B.Block.address_of g.B.Block.content_of g.M.Meta.may_leave c.args.geometry parts fault.parts front (given_up later)
-    ]) c.work_on.ensures.same c.work_on.ensures.given_up
+    (λ fault. size_back seen g.M.Meta.may_leave g.B.Block.address_of g.B.Block.content_of c.args.geometry parts fault.parts fault.stage (made.front (seen parts.meta) found.area) made.size)
+    c.work_on.ensures.same c.work_on.ensures.given_up

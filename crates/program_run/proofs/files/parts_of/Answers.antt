@@ -32,3 +32,6 @@ returns-clause-device c =
       };
       bytes = ap₂ (λ (xs ys : List ℕ). xs ++ ys) area (c.in_ok-blocks.ensures.bytes ∙ split.back ∙ ap (λ n. drop n file) cut) ∙ take-append-drop (meta_bytes geometry) file;
     }
+
+pub returns-clause-whole : goal.returns-clause-whole
+returns-clause-whole c = (c.in_ok-geometry.geometry, c.in_ok-geometry.ensures.geometry, c.in_ok-geometry.ensures.held.size)

@@ -15,12 +15,12 @@ loop-left-init g c =
     (c.format_law.ensures.no_file c.args.geometry went.geometry went.image c.in-Ok.parts c.in-Ok.parts made (c.mount_law.ensures.at_once c.args.geometry _ c.in-Ok.parts made) went.front went.held)
 
 pub run_mounted-requires : goal.run_mounted-requires
-run_mounted-requires g c = (search, (search, (search, (search, (_, c.in-Ok.ensures.mountable.size.run)))))
+run_mounted-requires g c = (search, (search, (search, (search, (search, (_, c.in-Ok.ensures.mountable.size.run))))))
 
 pub run_mounted-requires-in-loop-left : goal.run_mounted-requires-in-loop-left
 run_mounted-requires-in-loop-left g c =
     let contents = g.W.Write.contents in
-    (search, (search, (search, (search, run_of_gone g.M.Meta.seen g.B.Block.address_of g.B.Block.content_of c.args.steps.now c.loop-left.rest.now c.loop-left.left (contents c.args.out.now) (contents c.loop-left.out) c.loop-left-test.true c.loop-left.invariant))))
+    (search, (search, (search, (search, (search, run_of_gone g.M.Meta.seen g.B.Block.address_of g.B.Block.content_of c.args.steps.now c.loop-left.rest.now c.loop-left.left (contents c.args.out.now) (contents c.loop-left.out) c.loop-left-test.true c.loop-left.invariant)))))
 
 pub loop-left-preserved : goal.loop-left-preserved
 loop-left-preserved g c =

@@ -2,9 +2,9 @@ use Rattle.std.proofs.Common.{◌≡◌, ◌≢◌, ◌∙◌, ◌++◌, ◌<◌
 use Rattle.std.proofs.lemmas.List.{length-map}
 use Rattle.geometry.specs.Shape.{block_bytes}
 use Rattle.tool_files.specs.Content.{all_bytes, HasBytes}
-use Rattle.tool_files.specs.Names.{HasFolder, IsPlace}
-use Rattle.tool_files.specs.Rows.{row_of}
-use Rattle.tool_files.proofs.Cases.{on_ok}
+use Rattle.tool_files.specs.Files.{HasFolder, IsPlace}
+use Rattle.tool_folder.specs.Rows.{row_of}
+use Rattle.tool_folder.proofs.Cases.{on_ok}
 use Rattle.tool_files.proofs.Places.{number_at_place}
 use Rattle.tool_files.proofs.Updates.{set_file, set_other}
 use Rattle.tool_files.proofs.walk.write_folder.Goals as goal

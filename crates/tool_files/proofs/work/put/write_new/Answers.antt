@@ -1,8 +1,8 @@
 use Rattle.std.proofs.Common.{◌≡◌, ◌∙◌, ◌++◌, [], ◌∷◌, None, false, ap, sym, rules}
 use Rattle.std.specs.Option.{is_some}
 use Rattle.geometry.specs.Shape.{block_bytes}
-use Rattle.tool_files.specs.Names.{file_at}
-use Rattle.tool_files.proofs.Cases.{none_unless}
+use Rattle.tool_files.specs.Files.{file_at}
+use Rattle.tool_folder.proofs.Cases.{none_unless}
 use Rattle.tool_files.proofs.Updates.{written_new}
 use Rattle.tool_files.proofs.work.put.write_new.Goals as goal
 

@@ -1,5 +1,5 @@
 use Rattle.std.proofs.Common.{◌≡◌, ◌∙◌, Some, get_or, ap, sym, subst, refl, rules}
-use Rattle.tool_files.specs.Names.{file_at, IsPlace}
+use Rattle.tool_files.specs.Files.{file_at, IsPlace}
 use Rattle.tool_files.proofs.Places.{file_at_place}
 use Rattle.tool_files.proofs.work.get.GetNumberWork.run.Goals as goal
 

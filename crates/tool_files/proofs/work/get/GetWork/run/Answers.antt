@@ -1,10 +1,11 @@
 use Rattle.std.proofs.Common.{◌≡◌, ◌∙◌, Some, map, take, get_or, ap, sym, subst, refl, rules}
 use Rattle.geometry.specs.Shape.{block_bytes}
 use Rattle.tool_files.specs.Content.{all_bytes}
-use Rattle.tool_files.specs.Names.{file_at, HasFolder, IsPlace, IsRowOf, IsRowPlace}
-use Rattle.tool_files.specs.Rows.{row_of}
-use Rattle.tool_files.proofs.Cases.{some_of}
-use Rattle.tool_files.proofs.Entries.{found_row}
+use Rattle.tool_files.specs.Files.{file_at, HasFolder, IsPlace}
+use Rattle.tool_folder.specs.Names.{IsRowOf, IsRowPlace}
+use Rattle.tool_folder.specs.Rows.{row_of}
+use Rattle.tool_folder.proofs.Cases.{some_of}
+use Rattle.tool_folder.proofs.Entries.{found_row}
 use Rattle.tool_files.proofs.Places.{file_at_place}
 use Rattle.tool_files.proofs.work.get.GetWork.run.Goals as goal
 

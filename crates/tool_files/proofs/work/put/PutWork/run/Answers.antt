@@ -1,10 +1,12 @@
-use Rattle.std.proofs.Common.{◌≡◌, ◌≢◌, ◌∙◌, ◌++◌, ℕ, All, length, map, take, drop, ap, rules}
+use Rattle.std.proofs.Common.{◌≡◌, ◌≢◌, ◌∙◌, ◌++◌, ℕ, List, All, IfSome, IfNone, length, map, take, drop, ap, rules}
 use Rattle.std.proofs.lemmas.List.{take_at}
 use Rattle.geometry.specs.Shape.{block_bytes}
-use Rattle.tool_files.specs.Folder.{IsRow}
-use Rattle.tool_files.specs.Names.{file_at, HasFolder, Renews, WasPut}
-use Rattle.tool_files.specs.Rows.{row_of}
-use Rattle.tool_files.proofs.Cases.{into, some_of}
+use Rattle.tool_folder.specs.Folder.{Row, IsRow}
+use Rattle.tool_files.specs.Files.{file_at, HasFolder, IsNumberFor, IsThere, WasPut}
+use Rattle.tool_folder.specs.Names.{HasNoRow, IsRowOf, IsRowPlace, Renews}
+use Rattle.tool_folder.specs.Rows.{row_of}
+use Rattle.tool_folder.proofs.Cases.{into, some_of}
+use Rattle.tool_files.proofs.Rows.{number_for}
 use Rattle.tool_files.proofs.Works.{was_put}
 use Rattle.tool_files.proofs.work.put.PutWork.run.Goals as goal
 
@@ -35,8 +37,8 @@ write_folder-requires g c =
     let entries = c.in-Some.entries.items in
     let folder : HasFolder size slice (map row_of entries)
     = some_of (λ found. HasFolder size slice (map row_of found.items)) c.in_ok-entries.field-0 c.in-Some.entries c.in-Some.is c.in_ok-entries.ensures.some in
-    let rows : All IsRow (map row_of c.renew.new.entries.items) = c.in_ok-renew.ensures.rows c.in_ok-number.ensures.past folder.spelled.are_rows in
-    record { rows = into (λ es. All IsRow (map row_of es)) c.as_slice-3.result.now c.renew.new.entries.items (search rules) rows }
+    let rows : All IsRow (map row_of c.put_row.new.entries.items) = c.in_ok-put_row.ensures.rows c.in_ok-number.ensures.past folder.spelled.are_rows in
+    record { rows = into (λ es. All IsRow (map row_of es)) c.as_slice-5.result.now c.put_row.new.entries.items (search rules) rows }
 
 pub returns : goal.returns
 returns g c =
@@ -52,13 +54,25 @@ returns g c =
     let had : HasFolder size before rows = into (λ ps. HasFolder size ps rows) before slice (search rules) folder in
     let between = c.write_row.new.passes.items in
     let number = c.in_ok-number.number in
-    let renewed = map row_of c.renew.new.entries.items in
+    let renewed = map row_of c.put_row.new.entries.items in
     let after = c.write_folder.new.passes in
     let renews : Renews (record { name = name; number = number; bytes = length bytes }) rows renewed
-    = into (λ n. Renews (record { name = name; number = number; bytes = n }) rows renewed) (length bytes) _ (search rules) c.in_ok-renew.ensures.renewed in
+    = into (λ n. Renews (record { name = name; number = number; bytes = n }) rows renewed) (length bytes) _ (search rules) c.in_ok-put_row.ensures.renewed in
     let has : HasFolder size after renewed
-    = into (λ es. HasFolder size after (map row_of es)) c.renew.new.entries.items c.as_slice-3.result.now (search rules) c.in_ok-write_folder.ensures.folder in
+    = into (λ es. HasFolder size after (map row_of es)) c.put_row.new.entries.items c.as_slice-5.result.now (search rules) c.in_ok-write_folder.ensures.folder in
     let same_between : c.as_mut_slice-passes.result.now ≡ between = search rules in
     let others : (n : ℕ) → n ≢ 1 → file_at n after ≡ file_at n between = λ n other. c.in_ok-write_folder.ensures.others n other ∙ ap (file_at n) same_between in
+    let row = c.row_at-row.result in
+    let there_slice : All (λ (row : Row). IsThere c.as_slice-2.result.now row.number) rows
+    = into (λ es. All (λ (row : Row). IsThere c.as_slice-2.result.now row.number) (map row_of es)) entries c.as_slice-3.result.now (search rules) (c.are_there.ensures (search rules)) in
+    let there : All (λ (row : Row). IsThere before row.number) rows
+    = into (λ ps. All (λ (row : Row). IsThere ps row.number) rows) before c.as_slice-2.result.now (search rules) there_slice in
+    let own : IsNumberFor name number rows before
+    = number_for name number rows before row
+    (into (λ es. IfSome row (λ place. IsRowPlace name (map row_of es) place)) entries c.as_slice-4.result.now (search rules) c.row_at-row.ensures.some)
+    (into (λ es. IfNone row (HasNoRow name (map row_of es))) entries c.as_slice-4.result.now (search rules) c.row_at-row.ensures.none)
+    (into (λ es. IfSome row (λ place. (other : List ℕ) → IsRowPlace other (map row_of es) place → (found : Row) × IsRowOf other (map row_of es) found × (found.number ≡ number)))
+    entries c.as_slice-held.result.now (search rules) c.in_ok-number.ensures.kept)
+    c.in_ok-number.ensures.made there in
     into (WasPut size name bytes number before) (take c.write_row.new.passes.len (after ++ drop (length after) between)) after (take_at after (drop (length after) between) c.write_row.new.passes.len (search rules))
-    (was_put size name bytes number before between after rows renewed had c.in_ok-number.ensures.written c.in_ok-number.ensures.past renews has others)
+    (was_put size name bytes number before between after rows renewed had own c.in_ok-number.ensures.written c.in_ok-number.ensures.past renews has others)

@@ -1,10 +1,12 @@
 use Rattle.std.proofs.Common.{◌≡◌, ◌≢◌, ◌∙◌, ◌++◌, ℕ, All, length, map, take, drop, ap, subst, sym, rules}
 use Rattle.std.proofs.lemmas.List.{take_at}
 use Rattle.geometry.specs.Shape.{block_bytes}
-use Rattle.tool_files.specs.Folder.{IsRow}
-use Rattle.tool_files.specs.Names.{file_at, HasFolder, IsRowPlace, WasRemoved}
-use Rattle.tool_files.specs.Rows.{row_of}
-use Rattle.tool_files.proofs.Cases.{into, some_of}
+use Rattle.tool_folder.specs.Folder.{IsRow}
+use Rattle.tool_files.specs.Files.{file_at, HasFolder, WasRemoved}
+use Rattle.tool_folder.specs.Names.{IsRowPlace}
+use Rattle.tool_folder.specs.Rows.{row_of}
+use Rattle.tool_folder.proofs.Cases.{into, some_of}
+use Rattle.tool_files.proofs.Rows.{is_row_of}
 use Rattle.tool_files.proofs.Works.{was_removed}
 use Rattle.tool_files.proofs.work.remove.RemoveWork.run.Goals as goal
 
@@ -39,4 +41,5 @@ returns g c =
     let same_between : c.as_mut_slice-passes.result.now ≡ between = search rules in
     let others : (n : ℕ) → n ≢ 1 → file_at n after ≡ file_at n between = λ n other. c.in_ok-write_folder.ensures.others n other ∙ ap (file_at n) same_between in
     into (WasRemoved size name before) (take c.delete_file.new.passes.len (after ++ drop (length after) between)) after (take_at after (drop (length after) between) c.delete_file.new.passes.len (search rules))
-    (was_removed size name before between after rows left taken.0 had taken.2 (c.take_row-number.ensures.removed name here) deleted has others)
+    (was_removed size name before between after rows left taken.0 had taken.2 (is_row_of name rows taken.0 folder.spelled.are_rows taken.2).not_folder
+    (c.take_row-number.ensures.removed name here) (ap (λ n. file_at n between) taken.1 ∙ c.in_ok-delete_file.ensures.gone) deleted has others)

@@ -1,10 +1,11 @@
 use Rattle.std.proofs.Common.{◌≡◌, ◌≢◌, ◌∙◌, ◌++◌, ℕ, All, length, map, take, drop, ap, subst, sym, rules}
 use Rattle.std.proofs.lemmas.List.{take_at}
 use Rattle.geometry.specs.Shape.{block_bytes}
-use Rattle.tool_files.specs.Folder.{IsRow}
-use Rattle.tool_files.specs.Names.{file_at, HasFolder, IsRowPlace, Renames, WasRenamed}
-use Rattle.tool_files.specs.Rows.{row_of}
-use Rattle.tool_files.proofs.Cases.{into, some_of}
+use Rattle.tool_folder.specs.Folder.{IsRow}
+use Rattle.tool_files.specs.Files.{file_at, HasFolder, WasRenamed}
+use Rattle.tool_folder.specs.Names.{IsRowPlace, Renames}
+use Rattle.tool_folder.specs.Rows.{row_of}
+use Rattle.tool_folder.proofs.Cases.{into, some_of}
 use Rattle.tool_files.proofs.Works.{was_renamed}
 use Rattle.tool_files.proofs.work.rename.RenameWork.run.Goals as goal
 

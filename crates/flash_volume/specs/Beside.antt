@@ -1,0 +1,42 @@
+-- Works that were done side by side, each with the passes of files of its own.
+use Rattle.std.specs.Prelude.{◌≡◌, ℕ, ◌==◌, not, Bool, List, [], ◌∷◌, ◌++◌, map, filter}
+use Rattle.std.specs.List.{AllZip, flat_map, list_any}
+use Rattle.file_cells.specs.Pass.{Pass}
+use Rattle.flash_volume.specs.declared.beside.Beside.{Beside}
+use Rattle.geometry.specs.declared.geometry.Geometry.{Geometry}
+
+-- whether the number is one of these
+abbrev pub is_named : List ℕ → ℕ → Bool
+is_named files number = list_any (λ file. file == number) files
+
+-- the passes of these files, and those of all others
+abbrev pub passes_named : List ℕ → List Pass → List Pass
+passes_named files passes = filter (λ pass. is_named files pass.number) passes
+
+abbrev pub passes_unnamed : List ℕ → List Pass → List Pass
+passes_unnamed files passes = filter (λ pass. not (is_named files pass.number)) passes
+
+-- one after the other was given the passes of its files, as far as those before had left them, and these are left
+abbrev pub AreDealt : List (List ℕ) → List Pass → List (List Pass) → List Pass → Type 0
+AreDealt [] passes [] rest = rest ≡ passes
+AreDealt [] passes (given ∷ all) rest = ⊥
+AreDealt (files ∷ works) passes [] rest = ⊥
+AreDealt (files ∷ works) passes (given ∷ all) rest =
+    (given ≡ passes_named files passes) × AreDealt works (passes_unnamed files passes) all rest
+
+-- the passes that a work was given, what it answered, and the passes with which it ended
+pub record Share (O : Type 0) : Type 0 where
+  pub given : List Pass
+  pub output : O
+  pub back : List Pass
+
+module _ {W O : Type 0} (post : W → Geometry → List Pass → O → List Pass → Type 0) where
+  -- each of the works had its share of these passes, and kept what it promises of it; they answered this, and the passes with which
+  -- they ended stand behind those that none was given
+  pub record AreDoneBeside (geometry : Geometry) (works : List (Beside W)) (before : List Pass) (outputs : List O) (after : List Pass) : Type 0 where
+    pub shares : List (Share O)
+    pub rest : List Pass
+    pub dealt : AreDealt (map (λ beside. beside.files.items) works) before (map (λ share. share.given) shares) rest
+    pub kept : AllZip (λ beside share. post beside.work geometry share.given share.output share.back) works shares
+    pub answered : outputs ≡ map (λ share. share.output) shares
+    pub joined : after ≡ rest ++ flat_map (λ share. share.back) shares

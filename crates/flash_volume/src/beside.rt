@@ -1,0 +1,107 @@
+//! One of the works that are done side by side, and what each of them is given.
+ghost use Rattle.std.specs.Prelude.{◌≡◌, [], map, IfOk, OnOk};
+ghost use Rattle.file_cells.specs.Pass.{Pass};
+ghost use Rattle.flash_volume.specs.Beside.{AreDealt, is_named, passes_named, passes_unnamed};
+
+use crate::rights::Rights;
+use file_cells::FilePass;
+use file_readers::Seat;
+use geometry::Error;
+use rights_names::VolumeName;
+use std::alloc::Global;
+use std::mem;
+
+/// One of the works that are done side by side, each on a thread of its own, and the numbers of the files whose passes it is given:
+/// those that are there, and that no work before it is given.
+#[derive(Drop)]
+pub struct Beside<W> {
+    pub work: W,
+    pub files: Vec<u32>,
+}
+
+impl<W> Beside<W> {
+    /// A work that is given no pass. It can make files of its own.
+    pub fn new(alloc: Global, work: W) -> Beside<W>
+        ensures work { result.work ≡ work }
+        ensures files { result.files.items ≡ [] }
+    {
+        Beside {
+            work,
+            files: Vec::new(alloc),
+        }
+    }
+}
+
+// A work, and the rights that it is given.
+#[derive(Drop)]
+pub(crate) struct Duty<V: VolumeName, W> {
+    pub(crate) work: W,
+    pub(crate) rights: Rights<V>,
+}
+
+// Gives each work its share of the rights, one after the other: the passes of its files, and as many seats as any other.
+pub(crate) fn deal<V: VolumeName, W: Drop>(
+    alloc: Global,
+    rights: &mut Rights<V>,
+    works: Vec<Beside<W>>,
+) -> Result<Vec<Duty<V, W>>, Error>
+    ensures works { IfOk result (λ duties. map (λ duty. duty.work) duties.items ≡ map (λ beside. beside.work) works.items) }
+    ensures passes { IfOk result (λ duties. AreDealt (map (λ beside. beside.files.items) works.items) rights.old.passes.items (map (λ duty. duty.rights.passes.items) duties.items) rights.new.passes.items) }
+{
+    let each = match works.len() {
+        0 => 0,
+        count => rights.seats.len() / count,
+    };
+    let mut duties = Vec::new(alloc);
+    for beside in works {
+        let Beside { work, files } = beside;
+        let passes = take_passes(alloc, &mut rights.passes, files.as_slice())?;
+        let seats = take_seats(alloc, &mut rights.seats, each)?;
+        let rights = Rights { seats, passes };
+        duties.push(Duty { work, rights })?;
+    }
+    Ok(duties)
+}
+
+// Takes the passes of these files out of the others. Their order stays.
+fn take_passes<V: VolumeName>(
+    alloc: Global,
+    passes: &mut Vec<FilePass<V>>,
+    files: &[u32],
+) -> Result<Vec<FilePass<V>>, Error>
+    ensures taken { IfOk result (λ taken. taken.items ≡ passes_named files.now passes.old.items) }
+    ensures rest { OnOk result (passes.new.items ≡ passes_unnamed files.now passes.old.items) }
+{
+    let mut taken = Vec::new(alloc);
+    let mut rest = Vec::new(alloc);
+    for pass in mem::replace(passes, Vec::new(alloc)) {
+        if is_among(files, pass.number()) {
+            taken.push(pass)?;
+        } else {
+            rest.push(pass)?;
+        }
+    }
+    *passes = rest;
+    Ok(taken)
+}
+
+fn is_among(files: &[u32], number: u32) -> bool
+    ensures { result ≡ is_named files.now number }
+{
+    files.contains(&number)
+}
+
+// Takes so many seats out of the others, as far as there are so many.
+fn take_seats<V: VolumeName>(
+    alloc: Global,
+    seats: &mut Vec<Seat<V>>,
+    count: usize,
+) -> Result<Vec<Seat<V>>, Error> {
+    let mut taken = Vec::new(alloc);
+    for _ in 0..count {
+        if let Some(seat) = seats.pop() {
+            taken.push(seat)?;
+        }
+    }
+    Ok(taken)
+}

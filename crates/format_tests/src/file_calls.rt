@@ -1,0 +1,160 @@
+//! What is written to the parts of a device, and what its file has then.
+use device::{Block, DeviceError, MemDevice, Meta, Parts};
+use file_device::{FileFault, Settled, Store, Written, create_image, keep_in, open_image};
+use geometry::{Error, Geometry, Shape};
+use std::convert::AsSlice;
+use std::fs::{File, OpenOptions};
+use std::sync::Arc;
+use std::sync::atomic::{AtomicU64, Ordering};
+use std::test::Fail;
+use std::{fs, io};
+
+// A store whose calls fail from the one of this number on, counted from 0.
+#[derive(Drop)]
+struct Failing {
+    calls: Arc<AtomicU64>,
+    first: u64,
+}
+
+impl Failing {
+    fn call(&self) -> Result<(), DeviceError> {
+        if self.calls.fetch_add(1, Ordering::SeqCst) >= self.first {
+            return Err(DeviceError);
+        }
+        Ok(())
+    }
+}
+
+impl Store for Failing {
+    fn put<'a>(&self, at: u64, bytes: &'a [u8]) -> Result<Written<'a>, DeviceError> {
+        self.call()?;
+        Ok(Written::claim(at, bytes))
+    }
+
+    fn settle(&self) -> Result<Settled, DeviceError> {
+        self.call()?;
+        Ok(Settled::claim())
+    }
+}
+
+const PATH: &str = "file_device_tests.img";
+
+const MADE: &str = "file_device_made.img";
+
+#[test]
+fn an_image_file_has_what_was_written(rt: HostRuntime) -> Result<(), Fail> {
+    let geometry = Geometry::new(Shape::TINY, 16, 1, 4, 32)?;
+    let device = MemDevice::new(rt.alloc(), &geometry)?;
+    let file = OpenOptions::new()
+        .read(true)
+        .write(true)
+        .create(true)
+        .truncate(true)
+        .open(&rt, PATH)?;
+    let Parts {
+        mut meta,
+        mut blocks,
+    } = keep_in(rt.alloc(), device, &geometry, file)?;
+    assert!(rt; meta.write(3, b"meta").is_ok());
+    let mut block = [7u8; 64];
+    assert!(rt; blocks.as_mut_slice()[1].write(&block).is_ok());
+    let lease = blocks.as_mut_slice()[1].lend()?;
+    block[0] = 8;
+    assert!(rt; blocks.as_mut_slice()[1].write(&block).is_ok());
+    assert!(rt; meta.sync().is_ok());
+    assert_eq!(rt; lease.as_slice()[0], 7);
+    drop((meta, blocks));
+    let bytes = fs::read(&rt, PATH)?;
+    let at = geometry.meta_bytes() as usize;
+    assert!(rt; bytes.as_slice().get(3..7) == Some(b"meta".as_slice()));
+    assert!(rt; bytes.as_slice().get(at + 64..at + 128) == Some(block.as_slice()));
+    assert_eq!(rt; bytes.len(), at + 128);
+    fs::remove_file(&rt, PATH)?;
+    Ok(())
+}
+
+#[test]
+fn no_sync_is_ok_after_a_write_that_failed(rt: HostRuntime) -> Result<(), Fail> {
+    let geometry = Geometry::new(Shape::TINY, 16, 1, 4, 32)?;
+    let device = MemDevice::new(rt.alloc(), &geometry)?;
+    let calls = Arc::new(rt.alloc(), AtomicU64::new(0))?;
+    let store = Failing {
+        calls: Arc::try_clone(&calls)?,
+        first: 2,
+    };
+    let Parts {
+        mut meta,
+        mut blocks,
+    } = keep_in(rt.alloc(), device, &geometry, store)?;
+    assert!(rt; meta.write(0, b"a").is_ok());
+    assert!(rt; meta.sync().is_ok());
+    assert!(rt; meta.write(0, b"b").is_err());
+    assert!(rt; meta.sync().is_err());
+    assert!(rt; blocks.as_mut_slice()[0].write(&[1u8; 64]).is_err());
+    assert_eq!(rt; meta.failures(), 2);
+    assert_eq!(rt; blocks.as_slice()[0].failures(), 1);
+    let mut read = [9u8; 64];
+    assert!(rt; blocks.as_mut_slice()[0].read(&mut read).is_ok());
+    assert_eq!(rt; read, [0u8; 64]);
+    Ok(())
+}
+
+// A file that is there is not made again, one that is open is not opened again, and what was written is read by the next.
+#[test]
+fn an_image_file_is_made_once_and_opened_again(rt: HostRuntime) -> Result<(), Fail> {
+    let alloc = rt.alloc();
+    let geometry = Geometry::new(Shape::TINY, 16, 1, 4, 32)?;
+    let _gone = fs::remove_file(&rt, MADE);
+    let made = create_image(&rt, alloc, MADE, &geometry);
+    let Ok(
+        Parts {
+            mut meta,
+            mut blocks,
+        },
+    ) = made
+    else {
+        return Err("not made".into());
+    };
+    assert!(rt; matches!(open_image(&rt, alloc, MADE), Err(FileFault::Busy)));
+    assert!(rt;
+        matches!(
+            create_image(&rt, alloc, MADE, &geometry),
+            Err(FileFault::Io(_))
+        )
+    );
+    // The superblock of this geometry.
+    let front = b"F2SEG001\x01\0\0\0\0\0\0\0\x10\0\0\0\x01\0\0\0\x04\0\0\0\x20\0\0\0";
+    assert!(rt; meta.write(0, front).is_ok());
+    assert_eq!(rt; blocks.len(), 128);
+    assert!(rt; blocks.as_mut_slice()[127].write(&[9u8; 64]).is_ok());
+    assert!(rt; meta.sync().is_ok());
+    drop((meta, blocks));
+    let Ok(Parts { meta, mut blocks }) = open_image(&rt, alloc, MADE) else {
+        return Err("not opened".into());
+    };
+    assert_eq!(rt; meta.len(), geometry.meta_bytes());
+    assert_eq!(rt; blocks.len(), 128);
+    let lease = blocks.as_mut_slice()[127].lend()?;
+    assert!(rt; lease.as_slice() == [9u8; 64].as_slice());
+    drop((meta, blocks));
+    for (length, wanted) in [
+        (geometry.meta_bytes() + 128 * 64 + 1, Error::BadImage(1)),
+        (geometry.meta_bytes() + 128 * 64 - 1, Error::BadImage(1)),
+        (63, Error::BadGeometry),
+        (0, Error::BadGeometry),
+    ] {
+        OpenOptions::new()
+            .write(true)
+            .open(&rt, MADE)?
+            .set_len(length)?;
+        let refused = match open_image(&rt, alloc, MADE) {
+            Err(FileFault::Refused(error)) => Some(error),
+            _ => None,
+        };
+        assert_eq!(rt; refused, Some(wanted), "{length}");
+    }
+    assert!(rt; matches!(open_image(&rt, alloc, "."), Err(FileFault::NoFile)));
+    fs::remove_file(&rt, MADE)?;
+    assert!(rt; matches!(open_image(&rt, alloc, MADE), Err(FileFault::Io(_))));
+    Ok(())
+}

@@ -1,0 +1,47 @@
+//! Lawful images that are damaged.
+use crate::fault::Fault;
+use crate::play::play;
+use program_workers::OpenGate;
+use std::alloc::Global;
+use std::sync::Wait;
+use std::thread::Threads;
+use test_support::{base_file, file_of_format_one};
+
+/// The bytes of a lawful image file.
+#[derive(Drop)]
+pub struct Lawful {
+    pub bytes: Vec<u8>,
+}
+
+/// The bytes of the meta area of each: 32 segments of 8 blocks of 64 bytes lie behind them.
+pub const AREA: usize = 6_136;
+
+// A file whose blocks hang on each kind of node, another one, and two packs.
+const DEEP: &str = "format TINY 32 1 4 64\n\
+    create file\n\
+    create dir\n\
+    write 1 0 11\n\
+    write 1 2 12\n\
+    write 1 3 13\n\
+    write 1 22 14\n\
+    write 1 23 15\n\
+    write 1 222 16\n\
+    write 1 223 17\n\
+    fill 2 0 5 22\n\
+    sync\n\
+    write 1 1222 18\n\
+    cut 2 3\n";
+
+/// Two that were built by hand, and one that a script leaves.
+pub fn lawful_images<R: Threads + Wait + Sync>(
+    rt: &R,
+    alloc: Global,
+) -> Result<Vec<Lawful>, Fault> {
+    let mut saved = Vec::new(alloc);
+    let _told = play(rt, alloc, DEEP, Some(&mut saved), &OpenGate);
+    let mut images = Vec::new(alloc);
+    for bytes in [base_file(alloc)?, file_of_format_one(alloc)?, saved] {
+        images.push(Lawful { bytes })?;
+    }
+    Ok(images)
+}

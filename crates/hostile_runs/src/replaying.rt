@@ -1,0 +1,167 @@
+//! Random calls of a volume whose device is recorded and fails now and then: each call of the device is a step of the core machine of
+//! the crash law, and what a crash leaves is mounted to the files of a checkpoint.
+use crate::acts::Acts;
+use crate::around::{Around, inside};
+use crate::chance::Chance;
+use crate::fault::Fault;
+use crate::machine::{Counts, Machine};
+use crate::mounting::Nothing;
+use device::MemDevice;
+use file_device::read_device;
+use flash_volume::{Leave, Stage, work_on, work_on_new};
+use geometry::{Error, Geometry, Shape};
+use std::alloc::Global;
+use std::io;
+use std::rt::Runtime;
+use std::sync::Wait;
+
+// So often a script's device is mounted, and so many calls are made each time.
+const MOUNTS: u32 = 4;
+
+const CALLS: u32 = 100;
+
+/// Replays so many scripts, and prints how many steps of each kind they took.
+pub fn replay_all<R: Runtime + Wait>(rt: &R, alloc: Global, count: u32) -> Result<(), Fault> {
+    let mut counts = Counts::NONE;
+    for seed in 0..count {
+        if seed.is_multiple_of(100) {
+            let _ = eprintln!(rt; "machine: script {seed} of {count}");
+        }
+        counts = match replay_script(rt, alloc, seed, counts) {
+            Ok(counts) => counts,
+            Err(Fault::Wrong(what)) => {
+                return Err(Fault::Wrong(format!(in alloc; "script {seed}: {what}")?));
+            }
+            Err(fault) => return Err(fault),
+        };
+    }
+    println!(rt;
+        "{count} scripts: {} appends, {} in holes, {} moved, {} spoiled; {} releases, {} segments opened, {} packs, {} crashes",
+        counts.appends,
+        counts.holes,
+        counts.migrations,
+        counts.spoils,
+        counts.releases,
+        counts.openings,
+        counts.packs,
+        counts.crashes
+    )?;
+    Ok(())
+}
+
+// A volume that is formatted, worked on, left or lost, and mounted again.
+fn replay_script<R: Wait>(
+    rt: &R,
+    alloc: Global,
+    seed: u32,
+    counts: Counts,
+) -> Result<Counts, Fault> {
+    let Ok(geometry) = Geometry::new(Shape::TINY, 16, 1, 4, 32) else {
+        return Err(Fault::Wrong(String::from_str(alloc, "no geometry")?));
+    };
+    let mut chance = Chance::of(seed);
+    let mut machine = Machine::new(alloc, geometry, counts)?;
+    let mut file = format(rt, alloc, geometry)?;
+    for _mount in 0..MOUNTS {
+        machine.mount(file.as_slice())?;
+        file = work(rt, alloc, file.as_slice(), &mut machine, &mut chance)?;
+        tear(&machine, &mut file, &mut chance);
+    }
+    machine.mount(file.as_slice())?;
+    Ok(machine.counts)
+}
+
+// The bytes of a new volume.
+fn format<R: Wait>(rt: &R, alloc: Global, geometry: Geometry) -> Result<Vec<u8>, Fault> {
+    let Ok(device) = MemDevice::new(alloc, &geometry) else {
+        return Err(no_memory());
+    };
+    let parts = device.split();
+    match work_on_new(rt, alloc, parts, geometry, Leave::Discard, Nothing) {
+        Ok(done) => bytes_of(alloc, &MemDevice::join(done.parts)),
+        Err(fault) => Err(Fault::Wrong(format!(in alloc; "no volume: {}", fault.error)?)),
+    }
+}
+
+fn bytes_of(alloc: Global, device: &MemDevice) -> Result<Vec<u8>, Fault> {
+    let mut file = Vec::new(alloc);
+    match device.append_to(&mut file) {
+        Ok(()) => Ok(file),
+        Err(_) => Err(no_memory()),
+    }
+}
+
+fn no_memory() -> Fault {
+    Fault::Failed(io::Error::from(io::ErrorKind::OutOfMemory))
+}
+
+// Mounts a device with these bytes, makes calls, and leaves it with a checkpoint or without. Answers its bytes.
+fn work<R: Wait>(
+    rt: &R,
+    alloc: Global,
+    file: &[u8],
+    machine: &mut Machine,
+    chance: &mut Chance,
+) -> Result<Vec<u8>, Fault> {
+    let mut input = file;
+    let Ok((_, device)) = read_device(alloc, &mut input) else {
+        return Err(no_memory());
+    };
+    let around = Around::new(alloc)?;
+    let parts = around.put_around(alloc, device)?;
+    let leave = if chance.below(2) == 0 {
+        Leave::Close
+    } else {
+        Leave::Discard
+    };
+    let crowded = chance.below(2) == 0;
+    let acts = Acts {
+        machine,
+        chance,
+        recorder: &around.recorder,
+        meta: &around.meta,
+        blocks: &around.blocks,
+        count: CALLS,
+        crowded,
+    };
+    let parts = match work_on(rt, alloc, parts, leave, acts) {
+        Ok(done) => {
+            done.output?;
+            done.parts
+        }
+        Err(fault) => {
+            let is_refused = matches!(fault.error, Error::Device | Error::Wounded | Error::NoSpace);
+            let closes = fault.stage == Stage::Close && is_refused;
+            machine.must(closes, "a volume that can't be mounted or closed")?;
+            fault.parts
+        }
+    };
+    machine.hear(around.recorder.take().as_slice())?;
+    bytes_of(alloc, &inside(alloc, parts)?)
+}
+
+// A crash: where something was written that no sync settled, any bytes stand, or what was written.
+fn tear(machine: &Machine, file: &mut Vec<u8>, chance: &mut Chance) {
+    let area = machine.geometry.meta_bytes() as usize;
+    let bytes = machine.geometry.shape.block_bytes() as usize;
+    for (at, length) in &machine.loose_area {
+        tear_range(file, *at as usize, *length, chance);
+    }
+    for (place, loose) in machine.loose.iter().enumerate() {
+        if *loose {
+            let at = area.saturating_add(place.saturating_mul(bytes));
+            tear_range(file, at, bytes, chance);
+        }
+    }
+}
+
+fn tear_range(file: &mut Vec<u8>, at: usize, length: usize, chance: &mut Chance) {
+    let filling = chance.below(3);
+    for byte in file.as_mut_slice().iter_mut().skip(at).take(length) {
+        match filling {
+            0 => *byte = 0,
+            1 => *byte = chance.byte(),
+            _ => {}
+        }
+    }
+}

@@ -1,0 +1,4 @@
+pub mod Folder
+pub mod Name
+pub mod Names
+pub mod Rows

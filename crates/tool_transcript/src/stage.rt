@@ -1,0 +1,139 @@
+//! What stands ready for the next words, and what a line does.
+use crate::input::Input;
+use crate::text::{word_at, words_of};
+use std::alloc::Global;
+use std::fs::{File, Files, OpenOptions};
+use std::io::Write;
+use std::os::unix::fs::FileExt;
+use std::rt::Runtime;
+use std::sync::Wait;
+use std::{fs, io};
+use tool_words::{Screen, run_words};
+
+/// The input of the next words, and the file that is locked.
+#[derive(Drop)]
+pub struct Stage {
+    input: Vec<u8>,
+    fails: bool,
+    locked: Option<File>,
+}
+
+impl Stage {
+    pub fn new(alloc: Global) -> Stage {
+        Stage {
+            input: Vec::new(alloc),
+            fails: false,
+            locked: None,
+        }
+    }
+
+    /// Prints a line, and does what it says: `# ..` does nothing; `input WORD`, `many N` and `failing N` make the input of the words
+    /// that follow; `copy FROM TO`, `cut FILE N`, `spoil FILE N` (the byte at N becomes 2), `protect FILE`, `lock FILE` and `unlock FILE` do something to a file;
+    /// `rusziveg ..` are the tool's words.
+    pub fn step<R: Runtime + AllocGlobal + Wait + Files<File = File>, O: Write>(
+        &mut self,
+        rt: &R,
+        line: &str,
+        out: &mut O,
+    ) -> io::Result<()> {
+        writeln!(out, "{line}")?;
+        let words = words_of(rt.alloc(), line)?;
+        let words = words.as_slice();
+        let first = word_at(words, 1);
+        match word_at(words, 0) {
+            "rusziveg" => self.obey(rt, words, out),
+            "input" => self.take_input(rt.alloc(), first.as_bytes(), false),
+            "many" => self.take_many(rt.alloc(), first, false),
+            "failing" => self.take_many(rt.alloc(), first, true),
+            "lock" => self.lock(rt, first),
+            "unlock" => {
+                self.locked = None;
+                Ok(())
+            }
+            verb => prepare(rt, verb, first, word_at(words, 2)),
+        }
+    }
+
+    // Runs the tool's words, and prints what they said.
+    fn obey<R: Runtime + AllocGlobal + Wait + Files<File = File>, O: Write>(
+        &mut self,
+        rt: &R,
+        words: &[String],
+        out: &mut O,
+    ) -> io::Result<()> {
+        let screen = Screen {
+            progress: false,
+            colours: false,
+        };
+        let mut input = Input {
+            rest: self.input.as_slice(),
+            fails: self.fails,
+        };
+        let mut told = Vec::new(rt.alloc());
+        let mut errors = Vec::new(rt.alloc());
+        let status = run_words(rt, screen, words, &mut input, &mut told, &mut errors);
+        print_lines(out, "", told.as_slice())?;
+        print_lines(out, "| ", errors.as_slice())?;
+        if status != 0 {
+            writeln!(out, "status {status}")?;
+        }
+        Ok(())
+    }
+
+    fn take_input(&mut self, alloc: Global, bytes: &[u8], fails: bool) -> io::Result<()> {
+        self.input = Vec::from_slice(alloc, bytes)?;
+        self.fails = fails;
+        Ok(())
+    }
+
+    fn take_many(&mut self, alloc: Global, count: &str, fails: bool) -> io::Result<()> {
+        let count = count.parse::<u16>().unwrap_or(0);
+        self.input = vec![in alloc; b'm'; count as usize]?;
+        self.fails = fails;
+        Ok(())
+    }
+
+    fn lock<R: Files<File = File>>(&mut self, rt: &R, path: &str) -> io::Result<()> {
+        let file = File::open(rt, path)?;
+        file.lock()?;
+        self.locked = Some(file);
+        Ok(())
+    }
+}
+
+// Prints lines, each behind a mark; of bytes that are no text, how many there are.
+fn print_lines<O: Write>(out: &mut O, mark: &str, bytes: &[u8]) -> io::Result<()> {
+    let Ok(text) = str::from_utf8(bytes) else {
+        return writeln!(out, "({} bytes)", bytes.len());
+    };
+    if text.contains('\0') {
+        return writeln!(out, "({} bytes)", bytes.len());
+    }
+    for line in text.lines() {
+        writeln!(out, "{mark}{line}")?;
+    }
+    Ok(())
+}
+
+// Does something to a file before the words meet it.
+fn prepare<R: Files<File = File>>(rt: &R, verb: &str, path: &str, other: &str) -> io::Result<()> {
+    let number = other.parse::<u64>().unwrap_or(0);
+    match verb {
+        "copy" => {
+            fs::copy(rt, path, other)?;
+            Ok(())
+        }
+        "cut" => written(rt, path)?.set_len(number),
+        "spoil" => written(rt, path)?.write_all_at(&[2], number),
+        "protect" => {
+            let mut permissions = fs::metadata(rt, path)?.permissions();
+            permissions.set_readonly(true);
+            fs::set_permissions(rt, path, permissions)
+        }
+        _ => Ok(()),
+    }
+}
+
+fn written<R: Files<File = File>>(rt: &R, path: &str) -> io::Result<File> {
+    OpenOptions::new().read(true).write(true).open(rt, path)
+}

@@ -1,0 +1,183 @@
+//! What each command does.
+use crate::check::check;
+use crate::command_line::{Numbers, Task, Words};
+use crate::draw::draw;
+use crate::fault::Fault;
+use crate::folders::{dump, import};
+use crate::image_run::{now, put_making_room, read_image, run};
+use crate::screen::Screen;
+use crate::stat::{list, stat};
+use crate::svg::draw_svg;
+use file_device::{create_image, open_image};
+use flash_volume::{Geometry, Leave, Shape, work_on_new};
+use std::fs;
+use std::fs::{File, Files};
+use std::io::{BufWriter, Read, Write};
+use std::rt::Runtime;
+use std::sync::Wait;
+use tool_files::{Clean, Get, GetNumber, MakeFolder, Policy, Put, Refusal, Remove, Rename};
+use tool_folder::is_name;
+
+/// Does what the words ask for, and answers the exit status.
+pub fn obey<R: Runtime + AllocGlobal + Wait + Files<File = File>, I: Read, O: Write, E: Write>(
+    rt: &R,
+    screen: Screen,
+    words: &Words<'_>,
+    input: &mut I,
+    out: &mut O,
+    errors: &mut E,
+) -> Result<u8, Fault> {
+    let image = words.image;
+    match words.task {
+        Task::Check => return check(rt, image, out),
+        Task::Format(numbers) => make(rt, image, numbers, out)?,
+        Task::Put { name } => {
+            screen.tell(errors, "put", name);
+            let told = put(rt, image, name, input, out);
+            screen.clear(errors);
+            told?;
+        }
+        Task::Get { name, number } => get(rt, image, name, number, out)?,
+        Task::Remove { name } => run(rt, image, Leave::Close, Remove { name, now: now(rt) })??,
+        Task::Rename { name, to } => {
+            run(
+                rt,
+                image,
+                Leave::Close,
+                Rename {
+                    name,
+                    to,
+                    now: now(rt),
+                },
+            )??;
+        }
+        Task::List { json } => list(rt, image, json, out)?,
+        Task::Clean { background } => clean(rt, screen, image, background, out, errors)?,
+        Task::Stat { json } => stat(rt, image, json, out)?,
+        Task::Map { svg } => map(rt, screen, image, svg, out)?,
+        Task::Dump { folder } => dump(rt, screen, image, folder, errors)?,
+        Task::Import { folder } => import(rt, screen, image, folder, errors)?,
+    }
+    Ok(0)
+}
+
+fn make<R: AllocGlobal + Wait + Files<File = File>, O: Write>(
+    rt: &R,
+    image: &str,
+    numbers: Numbers,
+    out: &mut O,
+) -> Result<(), Fault> {
+    let shape = if numbers.is_tiny {
+        Shape::TINY
+    } else {
+        Shape::KERNEL
+    };
+    let Numbers {
+        is_tiny: _,
+        segments,
+        per_section,
+        files,
+        nodes,
+    } = numbers;
+    let geometry = Geometry::new(shape, segments, per_section, files, nodes)?;
+    let parts = create_image(rt, rt.alloc(), image, &geometry)?;
+    work_on_new(rt, rt.alloc(), parts, geometry, Leave::Close, MakeFolder)?;
+    let bytes = u64::from(geometry.blocks()).saturating_mul(u64::from(shape.block_bytes()));
+    writeln!(
+        out,
+        "made {image}: {segments} segments, {bytes} bytes, at most {files} files"
+    )?;
+    Ok(())
+}
+
+fn put<R: Runtime + AllocGlobal + Wait + Files<File = File>, I: Read, O: Write>(
+    rt: &R,
+    image: &str,
+    name: &str,
+    input: &mut I,
+    out: &mut O,
+) -> Result<(), Fault> {
+    if !is_name(name) {
+        return Err(Fault::Name(Refusal::BadName));
+    }
+    let length = fs::metadata(rt, image).map_err(Fault::Image)?.len();
+    // No file is as long as the image.
+    let mut bytes = Vec::new(rt.alloc());
+    input.by_ref().take(length).read_to_end(&mut bytes)?;
+    if bytes.len() as u64 >= length {
+        return Err(Fault::TooLong);
+    }
+    let parts = open_image(rt, rt.alloc(), image)?;
+    let work = Put {
+        name,
+        bytes: bytes.as_slice(),
+        now: now(rt),
+    };
+    let (_parts, number) = put_making_room(rt, parts, work)?;
+    writeln!(out, "file {} has {} bytes: {name}", number?, bytes.len())?;
+    Ok(())
+}
+
+fn get<R: AllocGlobal + Wait + Files<File = File>, O: Write>(
+    rt: &R,
+    image: &str,
+    name: Option<&str>,
+    number: u32,
+    out: &mut O,
+) -> Result<(), Fault> {
+    let bytes = match name {
+        Some(name) => run(rt, image, Leave::Discard, Get { name })??,
+        None => run(rt, image, Leave::Discard, GetNumber { number })??,
+    };
+    out.write_all(bytes.as_slice())?;
+    Ok(())
+}
+
+fn clean<R: Runtime + AllocGlobal + Wait + Files<File = File>, O: Write, E: Write>(
+    rt: &R,
+    screen: Screen,
+    image: &str,
+    background: bool,
+    out: &mut O,
+    errors: &mut E,
+) -> Result<(), Fault> {
+    screen.tell(errors, "clean", image);
+    let work = Clean {
+        policy: if background {
+            Policy::Background
+        } else {
+            Policy::Foreground
+        },
+        most: if background { 1 } else { 4096 },
+        now: now(rt),
+    };
+    let tidied = run(rt, image, Leave::Close, work);
+    screen.clear(errors);
+    let tidied = tidied?;
+    writeln!(
+        out,
+        "cleaned {} sections, moved {} blocks",
+        tidied.sections, tidied.moved
+    )?;
+    Ok(())
+}
+
+fn map<R: AllocGlobal + Files<File = File>, O: Write>(
+    rt: &R,
+    screen: Screen,
+    path: &str,
+    svg: Option<&str>,
+    out: &mut O,
+) -> Result<(), Fault> {
+    let (geometry, image) = read_image(rt, path)?;
+    match svg {
+        Some(svg) => {
+            let file = File::create_new(rt, svg).map_err(Fault::of_new_file)?;
+            let mut file = BufWriter::new(rt.alloc(), file)?;
+            draw_svg(&geometry, &image, &mut file)?;
+            file.flush()?;
+        }
+        None => draw(&geometry, &image, screen, out)?,
+    }
+    Ok(())
+}

@@ -1,0 +1,83 @@
+//! Work on the volume of an image file.
+ghost use Rattle.std.specs.Prelude.{ℕ, IfOk};
+ghost use Rattle.device.specs.Parts.{IsBlockRun};
+
+use crate::fault::Fault;
+use file_device::{FileBlock, FileMeta, open_image};
+use flash_volume::{Block, Error, Geometry, Leave, Meta, Parts, Stage, Work, work_on};
+use image::Image;
+use packs_format::ReadImage;
+use std::fs;
+use std::fs::{File, Files};
+use std::io::Read;
+use std::sync::Wait;
+use std::time::{Clock, SystemTime};
+use tool_files::{Clean, Policy, Put, Refusal};
+
+/// The most sections that are cleaned to make room.
+const MOST_SECTIONS: u32 = 4096;
+
+/// Does work on the volume of an image file, and leaves it. The file is locked meanwhile.
+pub fn run<
+    R: AllocGlobal + Wait + Files<File = File>,
+    W: Work<FileMeta<File>, FileBlock<File>> + Drop,
+>(rt: &R, image: &str, leave: Leave, work: W) -> Result<W::Output, Fault> {
+    let parts = open_image(rt, rt.alloc(), image)?;
+    let done = work_on(rt, rt.alloc(), parts, leave, work)?;
+    Ok(done.output)
+}
+
+/// Puts a file. Where the log is full the volume is cleaned, and then it is tried once more. The parts come back.
+pub fn put_making_room<M: Meta + Drop, B: Block + Drop, R: AllocGlobal + Wait>(
+    rt: &R,
+    parts: Parts<M, B>,
+    put: Put<'_>,
+) -> Result<(Parts<M, B>, Result<u32, Refusal>), Fault>
+    requires run { (bytes : ℕ) × IsBlockRun B.address_of B.content_of bytes 1 parts.blocks.items }
+    ensures run { IfOk result (λ done. (bytes : ℕ) × IsBlockRun B.address_of B.content_of bytes 1 done.0.blocks.items) }
+{
+    match work_on(rt, rt.alloc(), parts, Leave::Close, put) {
+        Ok(done) => Ok((done.parts, done.output)),
+        Err(fault) => {
+            if fault.stage != Stage::Work || fault.error != Error::NoSpace {
+                return Err(Fault::from(fault));
+            }
+            let clean = Clean {
+                policy: Policy::Foreground,
+                most: MOST_SECTIONS,
+                now: put.now,
+            };
+            let cleaned = work_on(rt, rt.alloc(), fault.parts, Leave::Close, clean)?;
+            let done = work_on(rt, rt.alloc(), cleaned.parts, Leave::Close, put)?;
+            Ok((done.parts, done.output))
+        }
+    }
+}
+
+/// Reads an image file and what its last checkpoint has, and changes nothing.
+pub fn read_image<R: AllocGlobal + Files<File = File>>(
+    rt: &R,
+    path: &str,
+) -> Result<(Geometry, Image), Fault> {
+    if !fs::metadata(rt, path).map_err(Fault::Image)?.is_file() {
+        return Err(Fault::NotAFile);
+    }
+    let mut file = File::open(rt, path).map_err(Fault::Image)?;
+    if file.try_lock_shared().is_err() {
+        return Err(Fault::Busy);
+    }
+    let mut bytes = Vec::new(rt.alloc());
+    file.read_to_end(&mut bytes).map_err(Fault::Image)?;
+    Ok(Image::read(rt.alloc(), bytes.as_slice())?)
+}
+
+/// The seconds since 1970, 0 where the clock fails.
+pub fn now<R: Clock>(rt: &R) -> u64 {
+    match SystemTime::now(rt) {
+        Ok(now) => match now.duration_since(SystemTime::UNIX_EPOCH) {
+            Ok(since) => since.as_secs(),
+            Err(_) => 0,
+        },
+        Err(_) => 0,
+    }
+}
