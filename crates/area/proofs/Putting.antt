@@ -4,8 +4,8 @@ use Rattle.std.proofs.Common.{◌≡◌, ℕ, zero, suc, ◌+◌, ◌<◌, ◌�
 use Rattle.std.specs.Prelude.{All, remove}
 use Rattle.std.proofs.lemmas.List.{length-append}
 use Rattle.atomic_table.specs.Seated.{TableId}
-use Rattle.sums.specs.Weights.{weigh}
-use Rattle.sums.proofs.Indexing.{each_push}
+use Rattle.geometry.specs.Weights.{weigh}
+use Rattle.geometry.proofs.Indexing.{each_push}
 use Rattle.words.specs.Tokens.{FreeSegment}
 use Rattle.pool.specs.declared.law.Account.{Account}
 use Rattle.pool.specs.Law.{put_ordinary, put_reserve}

@@ -7,7 +7,7 @@ use Rattle.device.specs.Parts.{IsBlockRun}
 use Rattle.geometry.specs.declared.shape.Shape.{Shape}
 use Rattle.geometry.specs.Shape.{segment_blocks, block_bytes}
 use Rattle.geometry.specs.Address.{address_of}
-use Rattle.sums.proofs.Indexing.{each_front, each_last, each_push, each_reverse}
+use Rattle.geometry.proofs.Indexing.{each_front, each_last, each_push, each_reverse}
 use Rattle.sit.specs.Room.{RoomOf}
 use Rattle.atomic_table.specs.Seated.{TableId}
 use Rattle.rights_books.specs.Accounts.{SegmentView}

@@ -1,7 +1,7 @@
 -- What becomes of the slips of free segments.
 use Rattle.std.specs.Prelude.{◌≡◌, ◌⊎◌, ℕ, ◌+◌, ◌<◌, List, length, All, Option, None, Some}
 use Rattle.atomic_table.specs.Seated.{TableId}
-use Rattle.sums.specs.Weights.{weigh}
+use Rattle.geometry.specs.Weights.{weigh}
 use Rattle.words.specs.Tokens.{FreeSegment, OpenSegment}
 use Rattle.pool.specs.declared.law.Account.{Account}
 use Rattle.pool.specs.Law.{took_ordinary, took_reserve}

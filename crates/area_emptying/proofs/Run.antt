@@ -9,7 +9,7 @@ use Rattle.geometry.specs.declared.geometry.Geometry.{Geometry}
 use Rattle.geometry.specs.declared.shape.Shape.{Shape}
 use Rattle.geometry.specs.Shape.{segment_blocks, block_bytes}
 use Rattle.geometry.specs.Address.{address_of}
-use Rattle.sums.proofs.Indexing.{each_front, each_last, each_reverse}
+use Rattle.geometry.proofs.Indexing.{each_front, each_last, each_reverse}
 use Rattle.sit.specs.Registered.{Registered}
 use Rattle.sit.specs.ShownBlocks.{ShowsBlocks}
 use Rattle.area_emptying.specs.Rows.{IsEmpty, AreEmpty, AreEmptyFalling}

@@ -1,178 +1,92 @@
-//! How long the steps of the ghost accounts take.
+//! What calls, steps and reads cost: seven measurements, each on what it makes in memory.
 //!
-//! There are five pairs of calls, each of which leaves all as it was: `pin and unpin` (a segment's word), `mark and clear`
-//! (the books), `enter and leave` (the turnstile's channel), `enter and leave by rests`, and `take and put` (the pool of free segments). With no argument each
-//! pair is done ten times on one thread, and ten times on each of two, and counted. With `--measure` each is done a million times on one thread, and a million times on
-//! each of two threads that share the tables, and the nanoseconds a pair are told, beside those of a bare addition and
-//! subtraction. The time of a run has the making of its tables and threads in it.
+//! - `pairs`: how long steps on the ghost accounts' tables take, beside a bare addition and subtraction.
+//! - `images`: how long the read of an image file takes, also of one that was made to mislead.
+//! - `calls`: how long appends, overwrites, reads and readers take on one thread, at each depth of the index tree.
+//! - `threads`: how long an overwrite takes where threads write side by side.
+//! - `checkpoints`: how long checkpoints take, a close and a mount.
+//! - `cleaning`: how many blocks a clean moves for each block that is written.
+//! - `mounts`: how long a mount takes of an image with very many nodes, beside a check of the same bytes.
+//!
+//! With no word all are done small, and what was done is counted. With `--measure` volumes have the kernel's shape, and times are
+//! told. A measurement's word picks that one alone.
 #![tactic(auto)]
 
-ghost use Rattle.std.specs.Prelude.{◌≤◌, IfOk, IsOkUnless};
-ghost use Rattle.geometry.specs.declared.error.Error.TheVariants.{NoMemory};
+mod again;
+mod calls;
+mod checkpoints;
+mod cleans;
+mod depth;
+mod desk;
+mod fault;
+mod images;
+mod measurement;
+mod mounts;
+mod pairs;
+mod places;
+mod report;
+mod request;
+mod threads;
+mod timed;
 
-mod bare;
-mod marks;
-mod pins;
-mod slips;
-mod turns;
-
-use geometry::Error;
+use measurement::{MEASUREMENTS, Measurement};
+use request::{Request, read_request};
 use std::alloc::Global;
-use std::fmt::Write;
-use std::io;
 use std::rt::Runtime;
 use std::sync::Wait;
 use std::thread::Threads;
-use std::time::{Duration, Instant};
-use test_support::is_measure;
-use turns::Way;
-
-const SHOWN: u32 = 10;
-
-const MEASURED: u32 = 1_000_000;
-
-// A pair of calls that leaves all as it was.
-#[derive(Clone, Copy)]
-enum Pair {
-    PinAndUnpin,
-    MarkAndClear,
-    EnterAndLeave,
-    EnterAndLeaveByRests,
-    TakeAndPut,
-}
-
-const PAIRS: [Pair; 5] = [
-    Pair::PinAndUnpin,
-    Pair::MarkAndClear,
-    Pair::EnterAndLeave,
-    Pair::EnterAndLeaveByRests,
-    Pair::TakeAndPut,
-];
-
-impl Pair {
-    fn name(self) -> &'static str {
-        match self {
-            Pair::PinAndUnpin => "pin and unpin",
-            Pair::MarkAndClear => "mark and clear",
-            Pair::EnterAndLeave => "enter and leave",
-            Pair::EnterAndLeaveByRests => "enter and leave by rests",
-            Pair::TakeAndPut => "take and put",
-        }
-    }
-
-    // So many on one thread, and how many were done.
-    fn on_one<R: Wait>(self, rt: &R, alloc: Global, pairs: u32) -> Result<u32, Error>
-        ensures count { IfOk result (λ done. done ≤ pairs) }
-        ensures memory { IsOkUnless result NoMemory }
-    {
-        match self {
-            Pair::PinAndUnpin => pins::on_one(alloc, pairs),
-            Pair::MarkAndClear => marks::on_one(alloc, pairs),
-            Pair::EnterAndLeave => turns::on_one(rt, alloc, Way::Channel, pairs),
-            Pair::EnterAndLeaveByRests => turns::on_one(rt, alloc, Way::Rests, pairs),
-            Pair::TakeAndPut => slips::on_one(rt, alloc, pairs),
-        }
-    }
-
-    // So many on each of two threads, and how many were done on each.
-    fn on_two<R: Threads + Wait + Sync>(
-        self,
-        rt: &R,
-        alloc: Global,
-        pairs: u32,
-    ) -> Result<(u32, u32), Error>
-        ensures counts { IfOk result (λ done. (done.0 ≤ pairs) × (done.1 ≤ pairs)) }
-        ensures memory { IsOkUnless result NoMemory }
-    {
-        match self {
-            Pair::PinAndUnpin => pins::on_two(rt, alloc, pairs),
-            Pair::MarkAndClear => marks::on_two(rt, alloc, pairs),
-            Pair::EnterAndLeave => turns::on_two(rt, alloc, Way::Channel, pairs),
-            Pair::EnterAndLeaveByRests => turns::on_two(rt, alloc, Way::Rests, pairs),
-            Pair::TakeAndPut => slips::on_two(rt, alloc, pairs),
-        }
-    }
-}
+use std::{env, io};
 
 fn main(rt: HostRuntime) -> io::Result<()> {
     let alloc = rt.alloc();
-    let told = if is_measure(&rt)? {
-        measured(&rt, alloc)?
-    } else {
-        shown(&rt, alloc)
-    };
-    match told {
-        Ok(text) => rt.print(text.as_str()),
+    let mut words = Vec::new(alloc);
+    for word in env::args(&rt)? {
+        words.push(word)?;
+    }
+    match read_request(alloc, words.as_slice()) {
+        Ok(request) => measure_all(&rt, alloc, request),
         Err(error) => {
-            let number = error.number();
-            println!(rt; "refused {number} {error:?}")
+            error.print(&rt)?;
+            if error.use_stderr() {
+                return Err(io::Error::from(io::ErrorKind::InvalidInput));
+            }
+            Ok(())
         }
     }
 }
 
-// How many of ten pairs of each kind were done on one thread, and on each of two.
-fn shown<R: Threads + Wait + Sync>(rt: &R, alloc: Global) -> Result<String, Error>
-    ensures { IsOkUnless result NoMemory }
-{
-    let mut text = String::new(alloc);
-    for pair in PAIRS {
-        let name = pair.name();
-        let done = pair.on_one(rt, alloc, SHOWN)?;
-        let (first, second) = pair.on_two(rt, alloc, SHOWN)?;
-        write!(text, "{name} {done}, {first} and {second}\n")?;
-    }
-    Ok(text)
-}
-
-// The times of the bare pairs, and of each kind of pairs.
-fn measured<R: Runtime + Threads + Wait + Sync>(
+// Does the measurement that is asked for, or one after the other.
+fn measure_all<R: Runtime + Threads + Wait + Sync>(
     rt: &R,
     alloc: Global,
-) -> io::Result<Result<String, Error>> {
-    let mut text = String::new(alloc);
-    let start = Instant::now(rt)?;
-    bare::on_one(MEASURED);
-    let one = start.elapsed(rt)?;
-    let start = Instant::now(rt)?;
-    bare::on_two(rt, MEASURED);
-    let two = start.elapsed(rt)?;
-    if let Err(error) = tell(&mut text, "a bare pair", one, two) {
-        return Ok(Err(error));
+    request: Request,
+) -> io::Result<()> {
+    let Request { is_measure, only } = request;
+    if let Some(measurement) = only {
+        return measure(rt, alloc, measurement, is_measure);
     }
-    for pair in PAIRS {
-        let start = Instant::now(rt)?;
-        let done = pair.on_one(rt, alloc, MEASURED);
-        let one = start.elapsed(rt)?;
-        let start = Instant::now(rt)?;
-        let done_by_two = pair.on_two(rt, alloc, MEASURED);
-        let two = start.elapsed(rt)?;
-        if let Err(error) = done {
-            return Ok(Err(error));
-        }
-        if let Err(error) = done_by_two {
-            return Ok(Err(error));
-        }
-        if let Err(error) = tell(&mut text, pair.name(), one, two) {
-            return Ok(Err(error));
-        }
+    for measurement in MEASUREMENTS {
+        measure(rt, alloc, measurement, is_measure)?;
     }
-    Ok(Ok(text))
-}
-
-// A line with the nanoseconds a pair on one thread, and on each of two.
-fn tell(text: &mut String, name: &str, one: Duration, two: Duration) -> Result<(), Error>
-    ensures { IsOkUnless result NoMemory }
-{
-    let alone = nanoseconds(one);
-    let shared = nanoseconds(two);
-    write!(
-        text,
-        "{name}: {alone} ns on one thread, {shared} ns on two\n"
-    )?;
     Ok(())
 }
 
-// The nanoseconds of one measured pair.
-fn nanoseconds(all: Duration) -> u128 {
-    all.as_nanos() / u128::from(MEASURED)
+// Prints the name of a measurement, does it on one thing after the other, and prints the lines of each as soon as it is done.
+fn measure<R: Runtime + Threads + Wait + Sync>(
+    rt: &R,
+    alloc: Global,
+    measurement: Measurement,
+    is_measure: bool,
+) -> io::Result<()> {
+    let name = measurement.name();
+    println!(rt; "{name}:")?;
+    match measurement {
+        Measurement::Pairs => pairs::measure_all(rt, alloc, is_measure),
+        Measurement::Images => images::measure_all(rt, alloc, is_measure),
+        Measurement::Calls => calls::measure_all(rt, alloc, is_measure),
+        Measurement::Threads => threads::measure_all(rt, alloc, is_measure),
+        Measurement::Checkpoints => checkpoints::measure_all(rt, alloc, is_measure),
+        Measurement::Cleaning => cleans::measure_all(rt, alloc, is_measure),
+        Measurement::Mounts => mounts::measure_all(rt, alloc, is_measure),
+    }
 }

@@ -2,8 +2,8 @@
 -- and the blocks it names weigh what those of the state do.
 use Rattle.std.proofs.Common.{◌≡◌, ℕ, zero, suc, ◌+◌, ◌<◌, List, [], ◌∷◌, ◌++◌, map, Option, Some, None, refl, sym, ap, ◌∙◌, subst, arith}
 use Rattle.std.specs.List.{flat_map}
-use Rattle.sums.specs.Weights.{weigh}
-use Rattle.sums.proofs.Weighing.{weigh-append}
+use Rattle.geometry.specs.Weights.{weigh}
+use Rattle.geometry.proofs.Weighing.{weigh-append}
 use Rattle.geometry.specs.declared.owner.Mark.{Mark}
 use Rattle.geometry.specs.declared.owner.Owner.TheVariants.{Data}
 use Rattle.image.specs.Walk.{data_names}

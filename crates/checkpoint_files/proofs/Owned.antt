@@ -10,7 +10,7 @@ use Rattle.geometry.specs.declared.owner.Owner.TheVariants.{Data}
 use Rattle.geometry.specs.declared.path.Path.{Path}
 use Rattle.geometry.specs.declared.path.Path.TheVariants.{Inode, Direct, Indirect, Double}
 use Rattle.geometry.specs.Path.{inode_entries, node_entries, largest_length, path}
-use Rattle.sums.specs.Weights.{weigh}
+use Rattle.geometry.specs.Weights.{weigh}
 use Rattle.tickets.specs.Placed.{Placed}
 use Rattle.tree.specs.declared.branch.Branch.{Branch}
 use Rattle.tree.specs.Tree.{entry_at}

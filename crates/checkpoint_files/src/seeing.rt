@@ -1,6 +1,6 @@
 //! What is true of each file's tree.
 ghost use Rattle.std.specs.Prelude.{◌≡◌, ◌≤◌, ℕ, map};
-ghost use Rattle.sums.specs.Weights.{weigh};
+ghost use Rattle.geometry.specs.Weights.{weigh};
 ghost use Rattle.geometry.specs.declared.geometry.Geometry.{Geometry};
 ghost use Rattle.geometry.specs.declared.owner.Mark.{Mark};
 ghost use Rattle.geometry.specs.File.{Block as Bytes};

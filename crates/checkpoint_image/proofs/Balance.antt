@@ -3,7 +3,7 @@
 use Rattle.std.proofs.Common.{◌≡◌, refl, ◌∙◌, subst, ℕ, suc, ◌+◌, List, [], ◌∷◌, map, arith}
 use Rattle.std.specs.Prelude.{Option, Some, slice_get}
 use Rattle.geometry.specs.declared.geometry.Geometry.{Geometry}
-use Rattle.sums.specs.Weights.{weigh}
+use Rattle.geometry.specs.Weights.{weigh}
 use Rattle.rights_books.specs.declared.claim.Copied.{Copied}
 use Rattle.rights_books.specs.Rules.{Balanced as AreSettled}
 use Rattle.nat.specs.Shard.{ShardNodes}

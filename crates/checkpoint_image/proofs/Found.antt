@@ -9,7 +9,7 @@ use Rattle.geometry.specs.declared.owner.Mark.{Mark}
 use Rattle.geometry.specs.Shape.{segment_blocks}
 use Rattle.geometry.specs.Address.{address_of}
 use Rattle.geometry.proofs.Addresses.{address_of-next}
-use Rattle.sums.specs.Weights.{weigh}
+use Rattle.geometry.specs.Weights.{weigh}
 use Rattle.rights_books.specs.declared.claim.Entry.{Entry}
 use Rattle.rights_books.specs.declared.claim.Copied.{Copied}
 use Rattle.rights_books.specs.Lists.{times}

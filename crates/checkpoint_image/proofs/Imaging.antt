@@ -9,7 +9,7 @@ use Rattle.geometry.specs.declared.geometry.Geometry.{Geometry}
 use Rattle.image.specs.declared.image.NodeEntry.{NodeEntry}
 use Rattle.image.specs.Node.{Node}
 use Rattle.image.specs.Image.{Image, no_node, no_entry, entry_of, node_of}
-use Rattle.sums.specs.Weights.{weigh}
+use Rattle.geometry.specs.Weights.{weigh}
 use Rattle.image_law.specs.Items.{Among}
 use Rattle.image_law.specs.Parts.{Token, Stored, FileTree, each, stored_of, token_at, tokens_of, found, Parts, shard_at, file_at, PartsLaw, Balanced, IsImageOf}
 use Rattle.image_law.proofs.Weighing.{among_of_weigh, among-map, of_among-map, among-flat_map, place_of, among_at, among_split, weigh-map, weigh-flat_map, weigh_same_among, weigh_by_index}

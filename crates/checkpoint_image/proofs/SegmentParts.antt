@@ -8,7 +8,7 @@ use Rattle.geometry.specs.declared.state.State.TheVariants.{Free, Open, Sealed, 
 use Rattle.geometry.specs.declared.owner.Owner.{Owner}
 use Rattle.geometry.specs.Shape.{segment_blocks}
 use Rattle.geometry.specs.Address.{address_of}
-use Rattle.sums.specs.Weights.{weigh}
+use Rattle.geometry.specs.Weights.{weigh}
 use Rattle.sit.specs.Summaries.{marks_from as marked_from}
 use Rattle.sit.specs.Segment.{Segment, IsFitting}
 use Rattle.image_law.specs.Parts.{SegmentLaw, marks_from}

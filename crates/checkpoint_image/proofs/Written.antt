@@ -4,8 +4,8 @@ use Rattle.std.proofs.Common.{◌≡◌, ◌≢◌, refl, sym, ◌∙◌, ap, su
 use Rattle.std.specs.Prelude.{Option, Some, None, IfSome, slice_get}
 use Rattle.geometry.specs.declared.geometry.Geometry.{Geometry}
 use Rattle.geometry.specs.File.{Block}
-use Rattle.sums.specs.Weights.{weigh}
-use Rattle.sums.proofs.Weighing.{weigh-append}
+use Rattle.geometry.specs.Weights.{weigh}
+use Rattle.geometry.proofs.Weighing.{weigh-append}
 use Rattle.rights_books.specs.declared.claim.Entry.{Entry}
 use Rattle.rights_books.specs.declared.claim.Copied.{Copied}
 use Rattle.rights_books.specs.Lists.{times}

@@ -1,7 +1,7 @@
 -- What a settled audit has learned of all that lies in the locks, by weight.
 use Rattle.std.specs.Prelude.{◌≡◌, ℕ, ◌+◌, List}
 use Rattle.geometry.specs.declared.owner.Mark.{Mark}
-use Rattle.sums.specs.Weights.{weigh}
+use Rattle.geometry.specs.Weights.{weigh}
 use Rattle.rights_books.specs.declared.claim.Entry.{Entry}
 use Rattle.rights_books.specs.declared.claim.Copied.{Copied}
 use Rattle.rights_books.specs.Weights.{of_entry, marks_copied, tickets_copied, taken_copied, tokens_copied}

@@ -6,7 +6,7 @@ use Rattle.geometry.specs.declared.state.State.TheVariants.{Free, Open, Sealed, 
 use Rattle.geometry.specs.declared.owner.Mark.{Mark}
 use Rattle.geometry.specs.declared.shape.Shape.{Shape}
 use Rattle.geometry.specs.Shape.{segment_blocks}
-use Rattle.sums.specs.Weights.{weigh}
+use Rattle.geometry.specs.Weights.{weigh}
 use Rattle.rights_books.specs.Lists.{times}
 use Rattle.rights_books.specs.Sameness.{same_entry}
 use Rattle.rights_books.specs.declared.claim.Entry.{Entry}

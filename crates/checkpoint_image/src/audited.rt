@@ -1,6 +1,6 @@
 //! What holds an account of the books beside what it is of, as the guard of a lock does.
 ghost use Rattle.std.specs.Prelude.{◌≡◌, ◌∷◌, List};
-ghost use Rattle.sums.specs.Weights.{weigh};
+ghost use Rattle.geometry.specs.Weights.{weigh};
 ghost use Rattle.rights_books.specs.declared.claim.Copied.TheVariants.{FileCopy, ShardCopy};
 ghost use Rattle.rights_books.specs.Accounts.{FileView};
 ghost use Rattle.rights_books.specs.Weights.{segment_copy, file_copy, shard_copy, past};

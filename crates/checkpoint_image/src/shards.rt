@@ -1,6 +1,6 @@
 //! The audit learns all shards.
 ghost use Rattle.std.specs.Prelude.{◌≡◌, ℕ, map};
-ghost use Rattle.sums.specs.Weights.{weigh};
+ghost use Rattle.geometry.specs.Weights.{weigh};
 ghost use Rattle.rights_books.specs.Weights.{shard_copy};
 ghost use Rattle.checkpoint_image.specs.Learning.{AreShardsOf, HaveLearnedShards};
 

@@ -16,7 +16,7 @@ use Rattle.checkpoint_files.proofs.Contents.{is_state_of}
 use Rattle.checkpoint_files.specs.FileParts.{filed_of, IsFlushedOrNone}
 use Rattle.checkpoint_files.proofs.Filing.{filed}
 use Rattle.file_cells.specs.Cell.{CellView}
-use Rattle.checkpoint_flush.specs.Held.{IsWrittenCell, AreWritten}
+use Rattle.checkpoint_sync.specs.Held.{IsWrittenCell, AreWritten}
 use Rattle.checkpoint_locks.specs.Held.{AreHeldFiles, HasTrees}
 use Rattle.checkpoint_locks.proofs.Laws.{shown_by}
 use Rattle.checkpoint.specs.Files.{IsStateOf}

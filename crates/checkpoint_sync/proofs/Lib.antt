@@ -1,2 +1,4 @@
+pub mod Serving
+pub mod Seen
 pub mod Laws
 pub mod Lending

@@ -7,8 +7,8 @@ ghost use Rattle.checkpoint_locks.specs.Held.{HasTrees};
 ghost use Rattle.checkpoint.specs.Files.{files_of};
 ghost use Rattle.checkpoint_sync.specs.Lent.{shown_by};
 
+use crate::HeldFile;
 use checkpoint::Taken;
-use checkpoint_flush::HeldFile;
 use device::Block;
 use file_cells::FilePass;
 use image::Image;

@@ -5,14 +5,14 @@ ghost use Rattle.image.specs.Rules.{IsLawful};
 ghost use Rattle.image.specs.View.{image_view};
 ghost use Rattle.checkpoint.specs.Files.{files_of};
 ghost use Rattle.rights_permits.specs.Turns.{at_home};
-ghost use Rattle.checkpoint_flush.specs.Held.{AreWritten};
+ghost use Rattle.checkpoint_sync.specs.Held.{AreWritten};
 ghost use Rattle.checkpoint_sync.specs.Lent.{shown_by};
 
 use crate::area_image::take_image;
 use crate::lent::add_files;
+use crate::{HeldFile, flush_files, release_files};
 use area::MainArea;
 use checkpoint::Taken;
-use checkpoint_flush::{HeldFile, flush_files, release_files};
 use device::Block;
 use file_cells::{FileCell, FilePass};
 use geometry::Error;

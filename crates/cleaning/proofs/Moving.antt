@@ -6,7 +6,7 @@ use Rattle.geometry.specs.declared.owner.Owner.{Owner}
 use Rattle.geometry.specs.Path.{inode_entries, node_entries, largest_length, path}
 use Rattle.tree.specs.declared.branch.Branch.{Branch}
 use Rattle.std.proofs.lemmas.Bool.{cases_eq}
-use Rattle.sums.specs.Weights.{weigh}
+use Rattle.geometry.specs.Weights.{weigh}
 use Rattle.geometry.specs.Shape.{block_bytes}
 use Rattle.rights_books.specs.Accounts.{HandView}
 use Rattle.rights_books.specs.declared.claim.Entry.{Entry}

@@ -20,7 +20,7 @@ use area::{Log, MainArea};
 use device::Block;
 use geometry::{Error, Mark, Owner};
 use nodes::FileState;
-use nodes_seek::index_of;
+use nodes_walks::index_of;
 use rights_books::Permit;
 use rights_names::VolumeName;
 use std::sync::Wait;

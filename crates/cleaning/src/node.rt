@@ -19,7 +19,7 @@ use area::{Log, MainArea, log_for};
 use device::Block;
 use geometry::{Class, Error, Kind, Mark, Owner};
 use nodes::FileState;
-use nodes_seek::visit_node;
+use nodes_walks::visit_node;
 use rights_books::Permit;
 use rights_names::VolumeName;
 use std::sync::Wait;

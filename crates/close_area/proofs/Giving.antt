@@ -4,9 +4,9 @@ use Rattle.std.proofs.Common.{◌≡◌, ◌≢◌, ℕ, zero, suc, ◌+◌, ◌
 use Rattle.std.specs.Prelude.{is_some, slice_get, ◌⊎◌}
 use mathlib.Core.Logic.{dite}
 use native.Mathlib.Decide.{ℕ_discrete}
-use Rattle.sums.specs.Weights.{weigh}
-use Rattle.sums.proofs.Weighing.{weigh-set, weigh-at, weigh-take}
-use Rattle.sums.proofs.Indexing.{EachAt, each_reverse, each_last, each_front}
+use Rattle.geometry.specs.Weights.{weigh}
+use Rattle.geometry.proofs.Weighing.{weigh-set, weigh-at, weigh-take}
+use Rattle.geometry.proofs.Indexing.{EachAt, each_reverse, each_last, each_front}
 use Rattle.std.proofs.lemmas.Option.{slice_get-get_or}
 use Rattle.image_law.specs.Items.{Among}
 use Rattle.nodes.specs.declared.file.FileState.{FileState}

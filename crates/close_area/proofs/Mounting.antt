@@ -27,7 +27,7 @@ use Rattle.checkpoint_files.specs.FileParts.{filed_of, IsFlushed, IsFlushedOrNon
 use Rattle.checkpoint_files.proofs.Filing.{filed}
 use Rattle.file_cells.specs.Cell.{CellView}
 use Rattle.file_cells.specs.Pass.{Pass}
-use Rattle.checkpoint_flush.specs.Held.{AreWritten}
+use Rattle.checkpoint_sync.specs.Held.{AreWritten}
 use Rattle.checkpoint_sync.specs.TakenFrom.{IsTakenFrom, cells_with}
 use Rattle.close_files.specs.HeldTokens.{HoldTokens}
 use Rattle.close_area.specs.Returned.{IsFileOf}

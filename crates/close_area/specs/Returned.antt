@@ -1,6 +1,6 @@
 -- Files whose passes were spent, and what they had is given back.
 use Rattle.std.specs.Prelude.{◌≡◌, ◌⊎◌, ℕ, ◌+◌, List, Some, is_some, slice_get, if◌then◌else◌}
-use Rattle.sums.specs.Weights.{weigh}
+use Rattle.geometry.specs.Weights.{weigh}
 use Rattle.geometry.specs.File.{Block}
 use Rattle.image_law.specs.Items.{Among}
 use Rattle.checkpoint.specs.Files.{HoldContents}

@@ -4,7 +4,7 @@ ghost use Rattle.device.specs.Parts.{IsBlockRun};
 ghost use Rattle.checkpoint_files.specs.FileParts.{filed_of};
 ghost use Rattle.geometry.specs.Area.{block_count};
 ghost use Rattle.geometry.specs.Shape.{block_bytes};
-ghost use Rattle.checkpoint_flush.specs.Held.{AreWritten};
+ghost use Rattle.checkpoint_sync.specs.Held.{AreWritten};
 ghost use Rattle.image.specs.Files.{files as files_of};
 ghost use Rattle.image.specs.Reading.{read_nodes};
 ghost use Rattle.image.specs.View.{image_view};

@@ -4,7 +4,7 @@ ghost use Rattle.geometry.specs.declared.error.Error.TheVariants.{Device};
 ghost use Rattle.packs_format.specs.Holding.{HoldsTables};
 ghost use Rattle.device.specs.Disk.{Leaves};
 ghost use Rattle.checkpoint_files.specs.FileParts.{filed_of};
-ghost use Rattle.checkpoint_flush.specs.Held.{AreWritten};
+ghost use Rattle.checkpoint_sync.specs.Held.{AreWritten};
 ghost use Rattle.image.specs.Rules.{IsLawful};
 ghost use Rattle.image.specs.View.{image_view};
 ghost use Rattle.checkpoint_sync.specs.TakenFrom.{IsTakenFrom};

@@ -4,12 +4,12 @@ ghost use Rattle.geometry.specs.declared.error.Error.TheVariants.{NoSpace, Devic
 ghost use Rattle.nodes.specs.File.{file_of};
 ghost use Rattle.rights_permits.specs.Turns.{at_home};
 ghost use Rattle.file_cells.specs.Cell.{IsLodged};
-ghost use Rattle.checkpoint_flush.specs.Held.{IsWrittenCell};
+ghost use Rattle.checkpoint_sync.specs.Held.{IsWrittenCell};
 
 use area::MainArea;
 use checkpoint_files::copy_tree;
-use checkpoint_flush::flush_cell;
 use checkpoint_image::{AuditedFile, HoldsFile};
+use checkpoint_sync::flush_cell;
 use device::Block;
 use file_cells::{FileCell, FilePass};
 use file_flush::FlushBuffer;
@@ -30,7 +30,7 @@ pub struct WrittenFile<V: VolumeName, B: Block + Drop> {
 
 impl<V: VolumeName, B: Block + Drop> Model for WrittenFile<V, B> {
     ghost use Rattle.file_cells.specs.Cell.{CellView};
-    ghost use Rattle.checkpoint_flush.specs.Held.{IsWrittenCell};
+    ghost use Rattle.checkpoint_sync.specs.Held.{IsWrittenCell};
 
     ghost Value = { CellView B B.Lease };
 

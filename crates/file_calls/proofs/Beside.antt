@@ -1,7 +1,7 @@
 -- The hand has the tokens of the file and of the nodes beside it: one that is planted goes from the one to the other,
 -- so the hand stays, and those left over are given back from it.
 use Rattle.std.proofs.Common.{◌≡◌, ℕ, ◌+◌, ◌<◌, ◌≤◌, refl, sym, ap, subst, ◌∙◌, arith}
-use Rattle.sums.specs.Weights.{weigh}
+use Rattle.geometry.specs.Weights.{weigh}
 use Rattle.geometry.specs.Path.{node_entries, largest_length}
 use Rattle.rights_books.specs.Accounts.{HandView}
 use Rattle.rights_books.specs.declared.claim.Entry.{Entry}

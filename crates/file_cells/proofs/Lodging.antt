@@ -5,7 +5,7 @@ use Rattle.std.specs.Prelude.{is_some, MatchOption, unwrap_or, replicate}
 use Rattle.tickets.specs.Placed.{Placed}
 use Rattle.nodes.proofs.Files.{shows_file_of}
 use Rattle.atomic_table.specs.Seated.{TableId}
-use Rattle.sums.specs.Weights.{weigh}
+use Rattle.geometry.specs.Weights.{weigh}
 use Rattle.geometry.specs.declared.geometry.Geometry.{Geometry}
 use Rattle.geometry.specs.declared.kind.Kind.{Kind}
 use Rattle.geometry.specs.File.{File, bytes_at, new_file}

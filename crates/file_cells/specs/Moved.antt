@@ -1,7 +1,7 @@
 -- What a move of one block does to what is lodged in its file's account (Rosenblum and Ousterhout 1991: cleaning moves a block
 -- and changes who names it).
 use Rattle.std.specs.Prelude.{◌≡◌, ◌≢◌, ◌+◌, ℕ}
-use Rattle.sums.specs.Weights.{weigh}
+use Rattle.geometry.specs.Weights.{weigh}
 use Rattle.geometry.specs.declared.owner.Mark.{Mark}
 use Rattle.geometry.specs.declared.owner.Owner.{Owner}
 use Rattle.geometry.specs.declared.owner.Owner.TheVariants.{Data, Node}

@@ -1,6 +1,6 @@
 //! What a checkpoint looks at in a file's lock.
 ghost use Rattle.std.specs.Prelude.{◌≡◌, ◌∷◌, Some};
-ghost use Rattle.sums.specs.Weights.{weigh};
+ghost use Rattle.geometry.specs.Weights.{weigh};
 ghost use Rattle.rights_books.specs.declared.claim.Copied.TheVariants.{FileCopy};
 ghost use Rattle.rights_books.specs.Weights.{file_copy, past};
 ghost use Rattle.nodes.specs.File.{file_of};

@@ -1,15 +1,19 @@
 //! Image files of the operating system: made, and opened.
-ghost use Rattle.std.specs.Prelude.{◌≡◌, IfOk};
+ghost use Rattle.std.specs.Prelude.{◌≡◌, map, IfOk};
 ghost use Rattle.device.specs.Parts.{HasSize};
+ghost use Rattle.file_device.specs.Held.{is_kept};
+ghost use Rattle.file_device.specs.Named.{FlagNamed};
 ghost use Rattle.geometry.specs.declared.geometry.Geometry.{Geometry as Numbers};
 ghost use Rattle.packs_format.specs.Grammar.{HasSuper};
 
 use crate::block::FileBlock;
 use crate::fault::FileFault;
 use crate::meta::FileMeta;
-use crate::reading::read_device;
-use crate::whole::{keep_in, place_of};
-use device::{Block, MemDevice, Meta, Parts};
+use crate::named::flag_named;
+use crate::opening::parts_over;
+use crate::reading::read_area;
+use crate::whole::place_of;
+use device::{Block, Meta, Parts};
 use geometry::{Error, Geometry};
 use std::alloc::Global;
 use std::fs::{File, Files, OpenOptions};
@@ -30,7 +34,8 @@ pub fn create_image<R: Files<File = File>>(
 ) -> Result<FileParts, FileFault>
     ensures size { IfOk result (λ parts. HasSize ⟦<FileMeta<File> as Meta>⟧.seen ⟦<FileBlock<File> as Block>⟧.address_of ⟦<FileBlock<File> as Block>⟧.content_of geometry.now parts) }
 {
-    let device = MemDevice::new(alloc, geometry)?;
+    let area = vec![in alloc; 0u8; geometry.meta_bytes() as usize]?;
+    let named = vec![in alloc; false; geometry.blocks() as usize]?;
     let file = OpenOptions::new()
         .read(true)
         .write(true)
@@ -40,11 +45,12 @@ pub fn create_image<R: Files<File = File>>(
     file.set_len(file_bytes(geometry))?;
     file.sync_all()?;
     settle_folder(rt, path)?;
-    Ok(keep_in(alloc, device, geometry, file)?)
+    parts_over(alloc, geometry, area, named.as_slice(), file)
 }
 
-/// Opens the image file that is there: what an earlier run wrote is settled first, and then all of it is read. Nobody else may open
-/// it while the parts live. Whether it holds a volume is seen where it is mounted.
+/// Opens the image file that is there: what an earlier run wrote is settled first, and then its meta area is read, and each block
+/// that its tables name. A block that they don't name is shown as zeros, and takes no memory. Nobody else may open the file while
+/// the parts live. Whether it holds a volume is seen where it is mounted.
 ///
 /// Answers `Refused(BadGeometry)` where the file begins with no superblock, `Refused(BadImage(1))` where it has another size than
 /// its superblock tells, `NoFile` where it is no ordinary file, and `Busy` where somebody else has it open. The file is as it was.
@@ -55,6 +61,9 @@ pub fn open_image<R: Files<File = File>>(
 ) -> Result<FileParts, FileFault>
     ensures parts { IfOk result (λ parts. (geometry : Numbers) × HasSuper geometry (⟦<FileMeta<File> as Meta>⟧.seen parts.meta)
         × HasSize ⟦<FileMeta<File> as Meta>⟧.seen ⟦<FileBlock<File> as Block>⟧.address_of ⟦<FileBlock<File> as Block>⟧.content_of geometry parts) }
+    // What the tables name is read.
+    ensures read { IfOk result (λ parts. (geometry : Numbers) × HasSuper geometry (⟦<FileMeta<File> as Meta>⟧.seen parts.meta)
+        × FlagNamed geometry (⟦<FileMeta<File> as Meta>⟧.seen parts.meta) (map (λ block. is_kept block.kept.held) parts.blocks.items)) }
 {
     // A pipe would keep who opens it waiting.
     if !std::fs::metadata(rt, path)?.is_file() {
@@ -63,11 +72,13 @@ pub fn open_image<R: Files<File = File>>(
     let mut file = OpenOptions::new().read(true).write(true).open(rt, path)?;
     lock(&file)?;
     file.sync_all()?;
-    let (geometry, device) = read_device(alloc, &mut file)?;
+    let (geometry, area) = read_area(alloc, &mut file)?;
     if file.metadata()?.len() != file_bytes(&geometry) {
         return Err(FileFault::Refused(Error::BadImage(1)));
     }
-    Ok(keep_in(alloc, device, &geometry, file)?)
+    let named = flag_named(alloc, &geometry, area.as_slice())?;
+    let parts = parts_over(alloc, &geometry, area, named.as_slice(), file)?;
+    Ok(parts)
 }
 
 // The bytes of an image file of a volume of these numbers.

@@ -3,6 +3,7 @@ ghost use Rattle.std.specs.Prelude.{◌≡◌, ◌≤◌, drop, length, take, If
 ghost use Rattle.std.specs.List.{flat_map};
 ghost use Rattle.std.specs.Io.KnownBytes.{Consumes};
 ghost use Rattle.device.specs.Parts.{HasSize, IsBlockRun, image_file};
+ghost use Rattle.geometry.specs.Area.{meta_bytes};
 ghost use Rattle.packs_format.specs.Grammar.{HasSuper};
 
 use crate::fault::FileFault;
@@ -26,13 +27,7 @@ pub fn read_device<R: Read>(
     ensures size { IfOk result (λ read. HasSize ⟦<MemMeta as Meta>⟧.seen ⟦<MemBlock as Block>⟧.address_of ⟦<MemBlock as Block>⟧.content_of read.0 read.1.parts) }
     ensures bytes { IfOk result (λ read. Consumes (R.remaining input.old) (R.remaining input.new) (image_file ⟦<MemMeta as Meta>⟧.seen ⟦<MemBlock as Block>⟧.content_of read.1.parts)) }
 {
-    let mut front = [0u8; 64];
-    if let Err(error) = input.read_exact(&mut front) {
-        return Err(fault_of(error, Error::BadGeometry));
-    }
-    let geometry = read_super(&front)?;
-    let mut area = Vec::from_slice(alloc, &front)?;
-    read_more(input, &mut area, geometry.meta_bytes() as usize)?;
+    let (geometry, area) = read_area(alloc, input)?;
     let blocks = read_blocks(
         alloc,
         input,
@@ -46,8 +41,27 @@ pub fn read_device<R: Read>(
     Ok((geometry, MemDevice::join(parts)))
 }
 
+/// Reads the superblock of an image file, and the meta area whose size it tells.
+pub(crate) fn read_area<R: Read>(
+    alloc: Global,
+    input: &mut R,
+) -> Result<(Geometry, Vec<u8>), FileFault>
+    ensures front { IfOk result (λ read. HasSuper read.0 read.1.items) }
+    ensures length { IfOk result (λ read. length read.1.items ≡ meta_bytes read.0) }
+    ensures bytes { IfOk result (λ read. Consumes (R.remaining input.old) (R.remaining input.new) read.1.items) }
+{
+    let mut front = [0u8; 64];
+    if let Err(error) = input.read_exact(&mut front) {
+        return Err(fault_of(error, Error::BadGeometry));
+    }
+    let geometry = read_super(&front)?;
+    let mut area = Vec::from_slice(alloc, &front)?;
+    read_more(input, &mut area, geometry.meta_bytes() as usize)?;
+    Ok((geometry, area))
+}
+
 // An input that ends too early has another size than it should have.
-fn fault_of(error: io::Error, early: Error) -> FileFault {
+pub(crate) fn fault_of(error: io::Error, early: Error) -> FileFault {
     match error.kind() {
         io::ErrorKind::UnexpectedEof => FileFault::Refused(early),
         _ => FileFault::from(error),

@@ -1,10 +1,12 @@
 //! A whole device over an image file.
 ghost use Rattle.std.specs.Prelude.{◌≡◌, map, All, IfOk, IfErr};
 ghost use Rattle.device.specs.Parts.{HasSize, image_file};
+ghost use Rattle.file_device.specs.Held.{content_in};
 ghost use Rattle.file_device.specs.Place.{block_place};
 ghost use Rattle.geometry.specs.declared.error.Error.TheVariants.{NoMemory};
 
 use crate::block::FileBlock;
+use crate::kept::Kept;
 use crate::meta::FileMeta;
 use crate::store::Store;
 use device::{Block, MemBlock, MemDevice, MemMeta, Meta, Parts};
@@ -25,7 +27,7 @@ pub fn keep_in<S: Store + Drop>(
     ensures front { IfOk result (λ parts. ⟦<FileMeta<S> as Meta>⟧.seen parts.meta ≡ ⟦<MemMeta as Meta>⟧.seen device.parts.meta) }
     ensures bytes { IfOk result (λ parts. image_file ⟦<FileMeta<S> as Meta>⟧.seen ⟦<FileBlock<S> as Block>⟧.content_of parts
         ≡ image_file ⟦<MemMeta as Meta>⟧.seen ⟦<MemBlock as Block>⟧.content_of device.parts) }
-    ensures places { IfOk result (λ parts. All (λ block. block.kept.at ≡ block_place geometry.now (⟦<MemBlock as Block>⟧.address_of block.kept.block)) parts.blocks.items) }
+    ensures places { IfOk result (λ parts. All (λ block. block.kept.at ≡ block_place geometry.now block.kept.address) parts.blocks.items) }
     ensures error { IfErr result (λ error. error ≡ NoMemory) }
 {
     wrap(alloc, device, geometry, store)
@@ -38,8 +40,9 @@ fn wrap<S: Store + Drop>(
     store: S,
 ) -> Result<Parts<FileMeta<S>, FileBlock<S>>, Error>
     ensures meta { IfOk result (λ parts. parts.meta.kept.area ≡ device.parts.meta) }
-    ensures blocks { IfOk result (λ parts. map (λ block. block.kept.block) parts.blocks.items ≡ device.parts.blocks.items) }
-    ensures places { IfOk result (λ parts. All (λ block. block.kept.at ≡ block_place geometry.now (⟦<MemBlock as Block>⟧.address_of block.kept.block)) parts.blocks.items) }
+    ensures addresses { IfOk result (λ parts. map (λ block. block.kept.address) parts.blocks.items ≡ map ⟦<MemBlock as Block>⟧.address_of device.parts.blocks.items) }
+    ensures contents { IfOk result (λ parts. map (λ block. content_in block.kept.held) parts.blocks.items ≡ map ⟦<MemBlock as Block>⟧.content_of device.parts.blocks.items) }
+    ensures places { IfOk result (λ parts. All (λ block. block.kept.at ≡ block_place geometry.now block.kept.address) parts.blocks.items) }
     ensures error { IfErr result (λ error. error ≡ NoMemory) }
 {
     let store = match Arc::new(alloc, store) {
@@ -51,7 +54,8 @@ fn wrap<S: Store + Drop>(
     let mut kept = Vec::with_capacity(alloc, blocks.len())?;
     for block in blocks {
         let at = place_of(geometry, block.address());
-        kept.push_reserved(FileBlock::of(block, Arc::try_clone(&store)?, at));
+        let block = Kept::of_block(alloc, at, block);
+        kept.push_reserved(FileBlock::of(block, Arc::try_clone(&store)?));
     }
     Ok(Parts { meta, blocks: kept })
 }

@@ -1,6 +1,6 @@
 -- What a flush makes of a file and of what is in hand.
 use Rattle.std.specs.Prelude.{◌≡◌, ◌≤◌, ℕ, ◌+◌}
-use Rattle.sums.specs.Weights.{weigh, SameItems}
+use Rattle.geometry.specs.Weights.{weigh, SameItems}
 use Rattle.rights_books.specs.declared.claim.Entry.{Entry}
 use Rattle.rights_books.specs.Accounts.{HandView}
 use Rattle.tickets.specs.Placed.{Placed}

@@ -1,7 +1,7 @@
 -- What the writing of a node's block asks, and what it leaves in hand (Linux filesystems/f2fs, node pages at a checkpoint).
 use Rattle.std.specs.Prelude.{◌≡◌, ◌<◌, ◌≤◌, ◌⊎◌, ℕ, ◌+◌}
 use Rattle.atomic_table.specs.Seated.{TableId}
-use Rattle.sums.specs.Weights.{weigh, SameItems}
+use Rattle.geometry.specs.Weights.{weigh, SameItems}
 use Rattle.geometry.specs.declared.shape.Shape.{Shape}
 use Rattle.geometry.specs.declared.kind.Kind.TheVariants.{File}
 use Rattle.geometry.specs.Shape.{block_bytes}

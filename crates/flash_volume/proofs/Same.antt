@@ -10,7 +10,7 @@ use Rattle.flash_volume.proofs.Results.{at_mount}
 use Rattle.flash_volume.specs.Worked.{AreGivenUp}
 use Rattle.flash_volume.specs.declared.leave.Stage.{Stage}
 use Rattle.flash_volume.specs.declared.leave.Stage.TheVariants.{Mount}
-use Rattle.image_unique_law.proofs.Same.{one_geometry}
+use Rattle.packs_format.proofs.Same.{one_geometry}
 use Rattle.mount_reading.specs.Held.{AreSameParts}
 use Rattle.packs_format.specs.Grammar.{HasSuper}
 

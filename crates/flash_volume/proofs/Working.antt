@@ -12,7 +12,7 @@ use Rattle.geometry.specs.declared.geometry.Geometry.{Geometry}
 use Rattle.image.specs.Files.{files}
 use Rattle.image.specs.Image.{Image}
 use Rattle.image_codec.specs.Blocks.{bytes_at}
-use Rattle.mount_law.specs.Lawful.{HoldsLawfulVolume}
+use Rattle.volume_law.specs.Lawful.{HoldsLawfulVolume}
 
 abbrev pair : Pass → ℕ × File
 pair pass = (pass.number, pass.file)

@@ -16,7 +16,7 @@ use Rattle.image.specs.Files.{files}
 use Rattle.image.specs.Image.{Image}
 use Rattle.image_codec.specs.Blocks.{bytes_at}
 use Rattle.image_law.specs.Items.{Among}
-use Rattle.mount_law.specs.Lawful.{HoldsLawfulVolume}
+use Rattle.volume_law.specs.Lawful.{HoldsLawfulVolume}
 use Rattle.volume.specs.Leaving.{IsLeftOut}
 use Rattle.volume_format.specs.Mountable.{IsMountable}
 

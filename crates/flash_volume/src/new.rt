@@ -14,11 +14,11 @@ use crate::side_by_side::work_side_by_side;
 use crate::work::Work;
 use device::{Block, Meta, Parts};
 use geometry::Geometry;
-use mount_law::{format_law, mount_law};
 use std::alloc::Global;
 use std::sync::Wait;
 use std::thread::Threads;
 use volume_format::{FormatFault, format};
+use volume_law::{format_law, mount_law};
 
 /// Writes a volume without files to the parts of a device that has the size of the geometry, mounts it, does the work on it, and
 /// leaves it, as `work_on`: the work begins with no pass.

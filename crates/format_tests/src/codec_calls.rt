@@ -32,27 +32,15 @@ fn node_block(alloc: Global, size: usize, class: u32) -> Result<Vec<u8>, AllocEr
     Ok(block)
 }
 
-// The node of a block, and the block that is written of it.
-fn there_and_back(
-    alloc: Global,
-    shape: Shape,
-    block: &[u8],
-) -> Result<Option<(Node, Vec<u8>)>, AllocError> {
-    let Some(node) = decode_node(alloc, shape, block)? else {
-        return Ok(None);
-    };
-    let mut written = vec![in alloc; 7; shape.block_bytes() as usize]?;
-    encode_node(shape, &node, &mut written);
-    Ok(Some((node, written)))
-}
-
 fn is_none(alloc: Global, shape: Shape, block: &[u8]) -> Result<bool, AllocError> {
     Ok(decode_node(alloc, shape, block)?.is_none())
 }
 
 #[test]
 fn inode_of_one_block(rt: HostRuntime) -> Result<(), Fail> {
-    let (node, written) = there_and_back(rt.alloc(), Shape::TINY, &INODE)?.ok_or("no node")?;
+    let node = decode_node(rt.alloc(), Shape::TINY, &INODE)?.ok_or("no node")?;
+    let mut written = [7; 64];
+    encode_node(Shape::TINY, &node, &mut written);
     assert_eq!(rt; (node.nid, node.inode, node.length), (1, 1, 1));
     assert_eq!(rt; node.class, Class::Inode);
     assert_eq!(rt; node.kind, Kind::File);
@@ -70,8 +58,10 @@ fn direct_and_indirect<R: Abort + AllocGlobal>(
 ) -> Result<(), Fail>
     requires { 64 ≤ size }
 {
+    let mut written = vec![in rt.alloc(); 7; shape.block_bytes() as usize]?;
     let block = node_block(rt.alloc(), size, 1)?;
-    let (node, written) = there_and_back(rt.alloc(), shape, &block)?.ok_or("no direct node")?;
+    let node = decode_node(rt.alloc(), shape, &block)?.ok_or("no direct node")?;
+    encode_node(shape, &node, &mut written);
     assert_eq!(rt; (node.nid, node.inode, node.length), (70, 3, 0));
     assert_eq!(rt; node.class, Class::Direct);
     assert_eq!(rt; (node.addresses.len(), node.children.len()), (entries, 0));
@@ -80,7 +70,8 @@ fn direct_and_indirect<R: Abort + AllocGlobal>(
     assert_eq!(rt; written.as_slice(), block.as_slice());
 
     let block = node_block(rt.alloc(), size, 2)?;
-    let (node, written) = there_and_back(rt.alloc(), shape, &block)?.ok_or("no indirect node")?;
+    let node = decode_node(rt.alloc(), shape, &block)?.ok_or("no indirect node")?;
+    encode_node(shape, &node, &mut written);
     assert_eq!(rt; node.class, Class::Indirect);
     assert_eq!(rt; (node.addresses.len(), node.children.len()), (0, entries));
     assert_eq!(rt; node.children.last().copied(), Some(1_000));

@@ -2,8 +2,12 @@
 use device::{Block, DeviceError, MemDevice, Meta, Parts};
 use file_device::{FileFault, Settled, Store, Written, create_image, keep_in, open_image};
 use geometry::{Error, Geometry, Shape};
+use image::{Image, NodeEntry};
+use packs_format::{encode, write_super};
+use std::alloc::Global;
 use std::convert::AsSlice;
-use std::fs::{File, OpenOptions};
+use std::fs::{File, Files, OpenOptions};
+use std::os::unix::fs::FileExt;
 use std::sync::Arc;
 use std::sync::atomic::{AtomicU64, Ordering};
 use std::test::Fail;
@@ -99,7 +103,54 @@ fn no_sync_is_ok_after_a_write_that_failed(rt: HostRuntime) -> Result<(), Fail> 
     Ok(())
 }
 
-// A file that is there is not made again, one that is open is not opened again, and what was written is read by the next.
+// Writes the superblock of a geometry, and a pack of version 1 whose tables name two blocks: the last as valid, the fifth as a node's.
+fn write_tables<M: Meta>(alloc: Global, geometry: &Geometry, meta: &mut M) -> Result<(), Error> {
+    let mut image = Image::empty(alloc, geometry)?;
+    if let Some(bit) = image.sit.get_mut(15).and_then(|info| info.bits.get_mut(7)) {
+        *bit = true;
+    }
+    if let Some(entry) = image.nat.get_mut(0) {
+        *entry = NodeEntry {
+            inode: 1,
+            address: 5,
+        };
+    }
+    let body = encode(alloc, geometry, &image)?;
+    let mut front = [0u8; 64];
+    write_super(geometry, &mut front);
+    let mut bytes = Vec::from_slice(alloc, &front)?;
+    bytes.resize(64 + geometry.pack_bytes() as usize, 0)?;
+    bytes.extend_from_slice(body.as_slice())?;
+    bytes.extend_from_slice(&[1, 0, 0, 0])?;
+    if bytes.len() as u64 > meta.len() {
+        return Err(Error::BadGeometry);
+    }
+    meta.write(0, bytes.as_slice())?;
+    Ok(())
+}
+
+// Whether a block of the image file is full of a byte, once the file is opened.
+fn shows<R: Files<File = File>>(rt: &R, alloc: Global, place: usize, byte: u8) -> bool {
+    let Ok(
+        Parts {
+            meta: _,
+            mut blocks,
+        },
+    ) = open_image(rt, alloc, MADE)
+    else {
+        return false;
+    };
+    match blocks.get_mut(place) {
+        Some(block) => match block.lend() {
+            Ok(lease) => lease.as_slice() == [byte; 64].as_slice(),
+            Err(_) => false,
+        },
+        None => false,
+    }
+}
+
+// A file that is there is not made again, one that is open is not opened again, and the next reads what was written to the blocks
+// that the tables name.
 #[test]
 fn an_image_file_is_made_once_and_opened_again(rt: HostRuntime) -> Result<(), Fail> {
     let alloc = rt.alloc();
@@ -122,21 +173,21 @@ fn an_image_file_is_made_once_and_opened_again(rt: HostRuntime) -> Result<(), Fa
             Err(FileFault::Io(_))
         )
     );
-    // The superblock of this geometry.
-    let front = b"F2SEG001\x01\0\0\0\0\0\0\0\x10\0\0\0\x01\0\0\0\x04\0\0\0\x20\0\0\0";
-    assert!(rt; meta.write(0, front).is_ok());
+    write_tables(alloc, &geometry, &mut meta)?;
     assert_eq!(rt; blocks.len(), 128);
     assert!(rt; blocks.as_mut_slice()[127].write(&[9u8; 64]).is_ok());
     assert!(rt; meta.sync().is_ok());
     drop((meta, blocks));
-    let Ok(Parts { meta, mut blocks }) = open_image(&rt, alloc, MADE) else {
-        return Err("not opened".into());
-    };
-    assert_eq!(rt; meta.len(), geometry.meta_bytes());
-    assert_eq!(rt; blocks.len(), 128);
-    let lease = blocks.as_mut_slice()[127].lend()?;
-    assert!(rt; lease.as_slice() == [9u8; 64].as_slice());
-    drop((meta, blocks));
+    let file = OpenOptions::new().write(true).open(&rt, MADE)?;
+    for place in [4, 126] {
+        file.write_all_at(&[9u8; 64], geometry.meta_bytes() + place * 64)?;
+    }
+    drop(file);
+    // The tables name two of them, and the third is shown as zeros.
+    assert!(rt; shows(&rt, alloc, 4, 9));
+    assert!(rt; shows(&rt, alloc, 126, 0));
+    assert!(rt; shows(&rt, alloc, 127, 9));
+    assert!(rt; !shows(&rt, alloc, 128, 0));
     for (length, wanted) in [
         (geometry.meta_bytes() + 128 * 64 + 1, Error::BadImage(1)),
         (geometry.meta_bytes() + 128 * 64 - 1, Error::BadImage(1)),

@@ -1,3 +1,5 @@
+pub mod Weighing
+pub mod Indexing
 pub mod Addresses
 pub mod MarkTests
 pub mod Summaries

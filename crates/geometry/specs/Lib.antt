@@ -1,3 +1,4 @@
+pub mod Weights
 pub mod Shape
 pub mod Limits
 pub mod Refusal

@@ -2,6 +2,8 @@
 //!
 //! A volume is a device of equal blocks. A segment is a run of blocks, a section a run of segments. Blocks have
 //! addresses from 1 on, and address 0 means none.
+//!
+//! For laws that count there are sums over lists too: what a list weighs when each of its items has a weight.
 #![tactic(auto)]
 
 pub mod class;

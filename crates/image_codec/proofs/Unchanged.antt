@@ -4,9 +4,9 @@ use Rattle.std.proofs.Common.{◌≡◌, ℕ, zero, suc, ◌+◌, ◌-◌, ◌<�
 use Rattle.std.specs.Prelude.{is_some, IfSome, IfErr, Result, Ok, Err}
 use Rattle.std.proofs.lemmas.Bool.{cases_lt}
 use Rattle.std.proofs.lemmas.List.{length-map, get_or-map, get_or_past, get_or_append_left, get_or-append_right}
-use Rattle.sums.specs.Weights.{weigh}
-use Rattle.sums.proofs.Indexing.{each_set}
-use Rattle.sums.proofs.Weighing.{weigh-set}
+use Rattle.geometry.specs.Weights.{weigh}
+use Rattle.geometry.proofs.Indexing.{each_set}
+use Rattle.geometry.proofs.Weighing.{weigh-set}
 use Rattle.device.specs.Parts.{IsBlockRun}
 use Rattle.geometry.specs.declared.shape.Shape.{Shape}
 use Rattle.geometry.specs.File.{Block as Bytes}

@@ -9,7 +9,7 @@ ghost use Rattle.image.specs.Node.{Spells};
 ghost use Rattle.image.specs.Reading.{node_at as node_of_address, read_nodes as nodes_of_table};
 ghost use Rattle.image.specs.View.{node_view, node_or_none};
 ghost use Rattle.image_codec.specs.Blocks.{bytes_at};
-ghost use Rattle.sums.specs.Weights.{weigh};
+ghost use Rattle.geometry.specs.Weights.{weigh};
 
 use crate::decode_node;
 use device::Block;

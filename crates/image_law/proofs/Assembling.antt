@@ -20,7 +20,7 @@ use Rattle.geometry.specs.Summary.{summary_of}
 use Rattle.image.specs.Walk.{walk, names, inodes, is_taken, up_to, misfits}
 use Rattle.image.specs.Files.{data_address}
 use Rattle.image.specs.Rules.{IsPlace, IsEntry, HasRange, IsInRange, AreApart, IsNodeOf, TableHoldsNodes, NodesFit, NodesAreMet, MarkedIsNamed, NumbersAgree, IsLawful}
-use Rattle.sums.specs.Weights.{weigh}
+use Rattle.geometry.specs.Weights.{weigh}
 use Rattle.image_law.specs.Items.{sum_below, Among}
 use Rattle.image_law.specs.Parts.{SegmentState, owner_at, is_named, summary_in, info, Stored, FileTree, inode_stored, stored_of, ticket_at, Parts, segment_at, file_at, PartsLaw, Balanced, IsImageOf}
 use Rattle.image_law.proofs.Weighing.{place_of, among-flat_map}

@@ -3,7 +3,7 @@
 use Rattle.geometry.specs.declared.owner.Mark.{Mark}
 use Rattle.std.proofs.Common.{◌≡◌, ℕ, suc, ◌+◌, ◌<◌, List, [], ◌∷◌, length, get_or, arith}
 use Rattle.std.specs.Prelude.{Option, None}
-use Rattle.sums.specs.Weights.{weigh}
+use Rattle.geometry.specs.Weights.{weigh}
 use Rattle.image_law.specs.Parts.{SegmentState, FileTree, Token, each, tickets_of, tokens_of, node_ticket, Parts, shard_at, file_at, Balanced}
 
 -- lists that weigh the same item by item

@@ -14,3 +14,8 @@ pub mod Balancing
 pub mod Sharding
 pub mod Replacing
 pub mod PartsExample
+pub mod Invariant
+pub mod Keeping
+pub mod Mounting
+pub mod Law
+pub mod CrashExample

@@ -8,7 +8,7 @@ use Rattle.std.proofs.lemmas.Bool.{and_parts}
 use Rattle.std.proofs.lemmas.Bool.Decides.{eqb_tells}
 use Rattle.geometry.specs.declared.geometry.Geometry.{Geometry}
 use Rattle.image.specs.Image.{Image, no_entry, entry_of}
-use Rattle.sums.specs.Weights.{weigh}
+use Rattle.geometry.specs.Weights.{weigh}
 use Rattle.image_law.specs.Items.{Among}
 use Rattle.geometry.specs.declared.kind.Kind.TheVariants.{File}
 use Rattle.image_law.specs.Parts.{Token, found, Tree, Stored, each, top, stored_in, stored_below, Subtree, subtrees, FileTree, stored_of, token_at, tokens_of, Parts, shard_at, file_at, PartsLaw, Balanced, IsImageOf}

@@ -16,7 +16,7 @@ use Rattle.geometry.specs.Address.{address_of}
 use Rattle.geometry.specs.Area.{block_count}
 use Rattle.image.specs.Image.{Image, SegmentInfo, no_summary, no_segment, info_of, is_marked, summary_at}
 use Rattle.image.proofs.Shapes.{is_shape}
-use Rattle.sums.specs.Weights.{weigh}
+use Rattle.geometry.specs.Weights.{weigh}
 use Rattle.image_law.specs.Items.{sum_below}
 use Rattle.image_law.specs.Parts.{SegmentState, no_state, owner_at, is_named, summary_in, marks_from, info, summaries_in, Parts, segment_at, PartsLaw, IsImageOf}
 use Rattle.image_law.proofs.Weighing.{sum_same, sum_front, weigh_by_index, sum_of_sums}

@@ -10,7 +10,7 @@ use Rattle.geometry.specs.declared.owner.Mark.{Mark}
 use Rattle.geometry.specs.Mark.{same_mark}
 use Rattle.geometry.proofs.MarkTests.{mark_eq, mark_self}
 use Rattle.image.specs.Rules.{HaveOwnAddresses}
-use Rattle.sums.specs.Weights.{weigh}
+use Rattle.geometry.specs.Weights.{weigh}
 use Rattle.image_law.specs.Items.{sum_below, Among}
 use Rattle.image_law.proofs.Weighing.{weigh_among, among_of_weigh, among_at, among-map, place_of, sum_at, sum_some}
 use Rattle.image_law.proofs.Marking.{owned}

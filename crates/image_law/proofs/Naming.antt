@@ -13,10 +13,10 @@ use Rattle.geometry.specs.declared.geometry.Geometry.{Geometry}
 use Rattle.image.specs.Image.{Image, entry_of}
 use Rattle.geometry.specs.declared.owner.Owner.TheVariants.{Node as OfNode}
 use Rattle.image.specs.Walk.{walk, names, is_taken, up_to}
-use Rattle.sums.specs.Weights.{weigh}
+use Rattle.geometry.specs.Weights.{weigh}
 use Rattle.image_law.specs.Items.{sum_below, Among}
 use Rattle.image_law.specs.Parts.{Stored, each, FileTree, inode_stored, stored_of, tickets_at, tickets_of, token_at, tokens_of, node_ticket, SegmentState, Parts, file_at, PartsLaw, Balanced, IsImageOf}
-use Rattle.sums.proofs.Weighing.{weigh-append}
+use Rattle.geometry.proofs.Weighing.{weigh-append}
 use Rattle.image_law.proofs.Weighing.{weigh_plus, weigh_same_among, weigh_by_index, place_of}
 use Rattle.image_law.proofs.Trees.{names_at, file_named}
 use Rattle.image_law.proofs.Linking.{file_held, taken_owned}

@@ -13,7 +13,7 @@ use Rattle.image.specs.Node.{node_bytes, IsNode, Spells}
 use Rattle.geometry.specs.declared.kind.Kind.TheVariants.{File}
 use Rattle.geometry.specs.declared.owner.Owner.TheVariants.{Node, Data}
 use Rattle.image.specs.Rules.{AreApart}
-use Rattle.sums.specs.Weights.{weigh}
+use Rattle.geometry.specs.Weights.{weigh}
 use Rattle.image_law.specs.Items.{Among}
 use Rattle.image_law.specs.Parts.{SegmentState, no_state, SegmentLaw, Token, ShardLaw, Tree, tree_node, FileTree, inode_node, Stored, stored_of, FileLaw, data_in, slot_of, direct_at, indirect_at, ticket_on, ticket_at, Parts, segment_at, PartsLaw, Balanced}
 use Rattle.image_law.specs.Assembled.{assembled, AreSpelled}

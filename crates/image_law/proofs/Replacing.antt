@@ -6,9 +6,9 @@ use Rattle.std.specs.Prelude.{Option, None}
 use Rattle.std.specs.List.{flat_map}
 use Rattle.geometry.specs.declared.owner.Owner.TheVariants.{Data}
 use Rattle.image.specs.Walk.{data_names}
-use Rattle.sums.specs.Weights.{weigh}
+use Rattle.geometry.specs.Weights.{weigh}
 use Rattle.image_law.specs.Parts.{Token, Slots, Tree, Stored, each, top, stored_in, tickets_at, token_at}
-use Rattle.sums.proofs.Weighing.{weigh-append}
+use Rattle.geometry.proofs.Weighing.{weigh-append}
 use Rattle.image_law.proofs.Weighing.{weigh-map, weigh-flat_map}
 
 -- what the ticket in a slot weighs

@@ -7,7 +7,7 @@ use Rattle.image.specs.Image.{Image}
 use Rattle.image.specs.Walk.{names}
 use Rattle.image.specs.Files.{files}
 use Rattle.image.specs.Rules.{IsLawful}
-use Rattle.sums.specs.Weights.{weigh}
+use Rattle.geometry.specs.Weights.{weigh}
 use Rattle.image_law.specs.Parts.{SegmentState, Parts, PartsLaw, Balanced}
 use Rattle.image_law.specs.Contents.{contents}
 use Rattle.image_law.specs.Assembled.{assembled, AreSpelled}

@@ -4,3 +4,6 @@ pub mod Contents
 pub mod Assembled
 pub mod AssemblyLaw
 pub mod ShardSlots
+pub mod Core
+pub mod Disk
+pub mod Crash

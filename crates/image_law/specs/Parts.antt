@@ -20,7 +20,7 @@ use Rattle.image.specs.Image.{Image, SegmentInfo, no_entry, no_node, no_summary,
 use Rattle.geometry.specs.declared.owner.Owner.TheVariants.{Node as OfNode}
 use Rattle.image.specs.Walk.{data_names, class_at}
 use Rattle.image.specs.Rules.{AreApart}
-use Rattle.sums.specs.Weights.{weigh, SameItems}
+use Rattle.geometry.specs.Weights.{weigh, SameItems}
 use Rattle.image_law.specs.Items.{Among}
 use Rattle.geometry.specs.Shape.{segment_blocks}
 

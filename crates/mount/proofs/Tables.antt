@@ -3,8 +3,8 @@
 use Rattle.std.proofs.Common.{◌≡◌, ℕ, zero, suc, ◌+◌, ◌-◌, ◌<◌, List, [], ◌∷◌, length, get_or, replicate, reverse, Option, Some, None, refl, sym, ap, ◌∙◌, arith}
 use Rattle.std.specs.Prelude.{slice_get}
 use Rattle.std.proofs.lemmas.List.{length-reverse}
-use Rattle.sums.specs.Weights.{weigh}
-use Rattle.sums.proofs.Indexing.{EachAt, each_reverse}
+use Rattle.geometry.specs.Weights.{weigh}
+use Rattle.geometry.proofs.Indexing.{EachAt, each_reverse}
 use Rattle.atomic_table.specs.Seated.{TableId}
 use Rattle.geometry.specs.declared.shape.Shape.{Shape}
 use Rattle.rights_books.specs.Accounts.{SegmentView, FileView, AreEmptySegments, AreEmptyFiles}

@@ -1,6 +1,6 @@
 -- What a mount puts into the pool.
 use Rattle.std.specs.Prelude.{◌≡◌, ℕ, ◌+◌, [], if◌then◌else◌}
-use Rattle.sums.specs.Weights.{weigh}
+use Rattle.geometry.specs.Weights.{weigh}
 use Rattle.geometry.specs.declared.geometry.Geometry.{Geometry}
 use Rattle.image.specs.Image.{Image}
 use Rattle.image.specs.Files.{below}

@@ -15,7 +15,7 @@ ghost use Rattle.mount.specs.Lodged.{HaveLodged};
 ghost use Rattle.mount_trees.specs.Loaded.{of_rights};
 ghost use Rattle.mount_trees.specs.Goods.{in_place};
 ghost use Rattle.nodes.specs.File.{weight_of};
-ghost use Rattle.sums.specs.Weights.{weigh};
+ghost use Rattle.geometry.specs.Weights.{weigh};
 ghost use Rattle.tickets.specs.Placed.{Placed};
 ghost use Rattle.rights_books.specs.declared.claim.Entry.{Entry};
 

@@ -5,7 +5,7 @@ ghost use Rattle.device.specs.Parts.{IsBlockRun, HasSize};
 ghost use Rattle.mount_reading.specs.Held.{HoldsImage, IsPartsRefusal, AreSameParts, KeepsPack, KeepsBetween};
 ghost use Rattle.geometry.specs.declared.error.Error.TheVariants.{NoMemory, Device};
 ghost use Rattle.image.specs.Rules.{IsLawful};
-ghost use Rattle.sums.specs.Weights.{weigh};
+ghost use Rattle.geometry.specs.Weights.{weigh};
 ghost use Rattle.packs_format.specs.Grammar.{HasSuper};
 ghost use Rattle.packs_format.specs.Holding.{HoldsTables};
 

@@ -4,8 +4,8 @@ use Rattle.std.proofs.Common.{◌≡◌, ℕ, ◌+◌, ◌-◌, ◌*◌, ◌<◌
 use Rattle.std.specs.Prelude.{IfSome}
 use Rattle.std.proofs.lemmas.Bool.{cases_lt}
 use Rattle.std.proofs.lemmas.List.{length-append, get_or-map, get_or_past}
-use Rattle.sums.specs.Weights.{weigh}
-use Rattle.sums.proofs.Indexing.{each_front, each_last}
+use Rattle.geometry.specs.Weights.{weigh}
+use Rattle.geometry.proofs.Indexing.{each_front, each_last}
 use Rattle.atomic_table.specs.Seated.{TableId}
 use Rattle.geometry.specs.declared.geometry.Geometry.{Geometry}
 use Rattle.geometry.specs.declared.shape.Shape.{Shape}

@@ -4,9 +4,9 @@ use Rattle.std.proofs.Common.{◌≡◌, ℕ, zero, suc, ◌+◌, ◌%◌, ◌<�
 use Rattle.std.proofs.lemmas.Bool.{cases_eq}
 use Rattle.std.proofs.lemmas.List.{length-set, get_or-set_same, get_or-set_other}
 use Rattle.atomic_table.specs.Seated.{TableId}
-use Rattle.sums.specs.Weights.{weigh}
-use Rattle.sums.proofs.Weighing.{weigh-append}
-use Rattle.sums.proofs.Indexing.{each_set}
+use Rattle.geometry.specs.Weights.{weigh}
+use Rattle.geometry.proofs.Weighing.{weigh-append}
+use Rattle.geometry.proofs.Indexing.{each_set}
 use Rattle.rights_books.specs.declared.claim.Entry.{Entry}
 use Rattle.nat.specs.Shard.{ShardNodes}
 use Rattle.nat.specs.Table.{IsShardAt, all_taken}

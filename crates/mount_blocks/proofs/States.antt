@@ -6,9 +6,9 @@ use borrow.Author.Tests.{lt-ltb, le-ltb}
 use Rattle.std.proofs.lemmas.Bool.{cases_eq, cases_lt}
 use Rattle.std.proofs.lemmas.List.{length-append, length-set, get_or_past, get_or-set_same, get_or-set_other}
 use Rattle.atomic_table.specs.Seated.{TableId}
-use Rattle.sums.specs.Weights.{weigh}
-use Rattle.sums.proofs.Weighing.{weigh-append}
-use Rattle.sums.proofs.Indexing.{each_push}
+use Rattle.geometry.specs.Weights.{weigh}
+use Rattle.geometry.proofs.Weighing.{weigh-append}
+use Rattle.geometry.proofs.Indexing.{each_push}
 use Rattle.rights_books.proofs.Lists.{weigh_le}
 use Rattle.rights_books.proofs.Learning.{weigh_ones}
 use Rattle.geometry.specs.declared.geometry.Geometry.{Geometry}

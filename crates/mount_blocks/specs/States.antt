@@ -1,7 +1,7 @@
 -- The segments of a volume that is mounted, as an image shows them (Linux filesystems/f2fs, segment information table).
 use Rattle.std.specs.Prelude.{◌≡◌, ◌≢◌, ℕ, ◌+◌, ◌-◌, ◌<◌, ◌≤◌, List, length, Option, Some, None, slice_index_or, nat_lt, if◌then◌else◌}
 use Rattle.atomic_table.specs.Seated.{TableId}
-use Rattle.sums.specs.Weights.{weigh}
+use Rattle.geometry.specs.Weights.{weigh}
 use Rattle.geometry.specs.declared.geometry.Geometry.{Geometry}
 use Rattle.geometry.specs.declared.owner.Owner.{Owner}
 use Rattle.geometry.specs.declared.state.State.{State}

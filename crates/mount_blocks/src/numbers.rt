@@ -12,7 +12,7 @@ ghost use Rattle.mount_trees.specs.Goods.{ArePlaced, in_place};
 ghost use Rattle.nat.specs.Shard.{HasOwnNodes, ShardNodes};
 ghost use Rattle.nat.specs.Table.{all_taken};
 ghost use Rattle.nat.specs.Taken.{IsFree};
-ghost use Rattle.sums.specs.Weights.{weigh};
+ghost use Rattle.geometry.specs.Weights.{weigh};
 ghost use Rattle.tickets.specs.Placed.{Placed};
 ghost use Rattle.mount_blocks.specs.Table.{AreTicketsPast};
 ghost use Rattle.mount_blocks.specs.Goods.{AreGoods, AreShards};

@@ -8,7 +8,7 @@ ghost use Rattle.image.specs.Rules.{IsLawful};
 ghost use Rattle.image.specs.View.{image_view};
 ghost use Rattle.image.specs.Walk.{names};
 ghost use Rattle.mount_trees.specs.Goods.{in_place};
-ghost use Rattle.sums.specs.Weights.{weigh};
+ghost use Rattle.geometry.specs.Weights.{weigh};
 ghost use Rattle.mount_blocks.specs.Rights.{AreRights};
 ghost use Rattle.mount_blocks.specs.Table.{AreTicketsPast, HaveBytes};
 ghost use Rattle.mount_blocks.specs.States.{AreSegmentsFrom};

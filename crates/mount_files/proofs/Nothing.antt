@@ -1,6 +1,6 @@
 -- A stock of which nothing is left weighs nothing.
 use Rattle.std.proofs.Common.{◌≡◌, ℕ, List, [], ◌∷◌, Option, None, Some, refl, arith}
-use Rattle.sums.specs.Weights.{weigh}
+use Rattle.geometry.specs.Weights.{weigh}
 use Rattle.rights_books.specs.declared.claim.Entry.{Entry}
 use Rattle.mount_trees.specs.Goods.{Goods, in_place, goods_weight}
 

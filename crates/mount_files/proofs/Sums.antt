@@ -7,7 +7,7 @@ use Rattle.std.specs.FinMap.{FinMap, get, len, get-empty, len-empty, len-insert}
 use Rattle.std.proofs.lemmas.Cmp.{nat_cmp_total}
 use Rattle.std.proofs.lemmas.Nat.{div-mul-add, mod-mul-add}
 use borrow.Author.Tests.{lt-ltb, le-ltb}
-use Rattle.sums.specs.Weights.{weigh}
+use Rattle.geometry.specs.Weights.{weigh}
 use Rattle.rights_books.specs.Lists.{sum_below}
 use Rattle.geometry.specs.Path.{inode_entries, node_entries, largest_length}
 use Rattle.geometry.specs.File.{Block}

@@ -5,8 +5,8 @@ use Rattle.std.specs.Prelude.{filter}
 use Rattle.std.specs.List.{flat_map}
 use Rattle.std.proofs.lemmas.Bool.{cases_lt}
 use Rattle.std.proofs.lemmas.List.Elements.{filter-append}
-use Rattle.sums.specs.Weights.{weigh}
-use Rattle.sums.proofs.Weighing.{weigh-append}
+use Rattle.geometry.specs.Weights.{weigh}
+use Rattle.geometry.proofs.Weighing.{weigh-append}
 use Rattle.geometry.specs.declared.owner.Mark.{Mark}
 use Rattle.image.specs.Image.{Image, entry_of}
 use Rattle.image.specs.Walk.{walk, is_taken, up_to}

@@ -8,7 +8,7 @@ ghost use Rattle.mount_trees.specs.Goods.{in_place};
 ghost use Rattle.mount_trees.specs.Loaded.{of_rights};
 ghost use Rattle.nodes.specs.File.{weight_of};
 ghost use Rattle.nodes.specs.Held.{AreHeld};
-ghost use Rattle.sums.specs.Weights.{weigh};
+ghost use Rattle.geometry.specs.Weights.{weigh};
 ghost use Rattle.tickets.specs.Placed.{Placed};
 ghost use Rattle.mount_blocks.specs.Goods.{AreGoods};
 ghost use Rattle.mount_files.specs.Files.{AreFiles};

@@ -12,7 +12,7 @@ ghost use Rattle.mount_trees.specs.Goods.{in_place, goods_weight};
 ghost use Rattle.mount_trees.specs.Loaded.{of_rights};
 ghost use Rattle.nat.specs.Shard.{ShardNodes};
 ghost use Rattle.nodes.specs.File.{weight_of};
-ghost use Rattle.sums.specs.Weights.{weigh};
+ghost use Rattle.geometry.specs.Weights.{weigh};
 ghost use Rattle.tickets.specs.Placed.{Placed};
 ghost use Rattle.mount_blocks.specs.Rights.{AreRights};
 ghost use Rattle.mount_blocks.specs.States.{AreSegmentsFrom};

@@ -6,7 +6,7 @@ use Rattle.device.proofs.Moments.{started, joined, quiet_moments}
 use Rattle.geometry.specs.declared.geometry.Geometry.{Geometry}
 use Rattle.image.specs.Image.{Image}
 use Rattle.image.proofs.Picking.{settled_picks}
-use Rattle.image_unique_law.proofs.Same.{one_geometry}
+use Rattle.packs_format.proofs.Same.{one_geometry}
 use Rattle.packs.specs.Area.{reading_of}
 use Rattle.packs.specs.Device.{KeepsArea}
 use Rattle.packs.specs.Pack.{slots_in, picked, Between}

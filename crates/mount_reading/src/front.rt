@@ -6,7 +6,7 @@ ghost use Rattle.geometry.specs.declared.error.Error.TheVariants.{Device, BadGeo
 ghost use Rattle.geometry.specs.declared.geometry.Geometry.{Geometry as Numbers};
 ghost use Rattle.geometry.specs.Area.{block_count, meta_bytes};
 ghost use Rattle.geometry.specs.Shape.{block_bytes};
-ghost use Rattle.sums.specs.Weights.{weigh};
+ghost use Rattle.geometry.specs.Weights.{weigh};
 ghost use Rattle.packs_format.specs.Grammar.{HasSuper};
 
 use device::{Block, Meta};

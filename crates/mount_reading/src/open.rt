@@ -10,7 +10,7 @@ ghost use Rattle.image.specs.Rules.{IsLawful};
 ghost use Rattle.image.specs.View.{image_view};
 ghost use Rattle.packs.specs.Device.{IsSameArea};
 ghost use Rattle.checkpoint.specs.Holding.{AreWhole};
-ghost use Rattle.sums.specs.Weights.{weigh};
+ghost use Rattle.geometry.specs.Weights.{weigh};
 ghost use Rattle.packs_format.specs.Grammar.{HasSuper};
 ghost use Rattle.packs_format.specs.Holding.{HoldsTables};
 ghost use Rattle.image_codec.specs.Blocks.{AreBlocks, bytes_at};

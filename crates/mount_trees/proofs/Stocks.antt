@@ -1,8 +1,8 @@
 -- A right stands at one place only, that of its address or number: so where a stock weighs a name its right is there,
 -- and taking it out takes just that weight away.
 use Rattle.std.proofs.Common.{rules, IsSome, ◌&&◌, ◌≡◌, ℕ, zero, suc, ◌+◌, ◌<◌, ◌≤◌, ◌==◌, Bool, true, false, List, [], ◌∷◌, length, get_or, set, Option, Some, None, if◌then◌else◌, refl, sym, ap, subst, ◌∙◌, ne_eqb, arith}
-use Rattle.sums.specs.Weights.{weigh}
-use Rattle.sums.proofs.Weighing.{weigh-some}
+use Rattle.geometry.specs.Weights.{weigh}
+use Rattle.geometry.proofs.Weighing.{weigh-some}
 use Rattle.geometry.specs.declared.owner.Mark.{Mark}
 use Rattle.geometry.specs.declared.owner.Owner.{Owner}
 use Rattle.geometry.specs.declared.owner.Owner.TheVariants.{Node, Data}

@@ -2,7 +2,7 @@
 -- it is a file, and clean.
 use Rattle.std.proofs.Common.{◌≡◌, ◌≢◌, ℕ, zero, suc, ◌+◌, ◌<◌, ◌≤◌, true, false, List, [], ◌∷◌, length, Option, Some, None, refl, sym, ap, subst, ◌∙◌, arith}
 use Rattle.std.specs.Prelude.{slice_index, slice_index_or}
-use Rattle.sums.specs.Weights.{weigh}
+use Rattle.geometry.specs.Weights.{weigh}
 use Rattle.geometry.specs.declared.owner.Owner.{Owner}
 use Rattle.geometry.specs.Path.{node_entries, path}
 use Rattle.tickets.specs.Placed.{Placed}

@@ -6,7 +6,7 @@ ghost use Rattle.tickets.specs.Placed.{Placed};
 ghost use Rattle.image.specs.View.{image_view};
 ghost use Rattle.nodes.specs.File.{weight_of};
 ghost use Rattle.mount_trees.specs.Goods.{ArePlaced, goods_weight, marks_weight};
-ghost use Rattle.sums.specs.Weights.{weigh};
+ghost use Rattle.geometry.specs.Weights.{weigh};
 ghost use Rattle.image.specs.Walk.{child};
 ghost use Rattle.mount_trees.specs.Loaded.{weigh_from, IsRoomFor, AreLoaded, of_rights};
 ghost use Rattle.mount_trees.specs.FileLoaded.{FitsFile, IsFileRoom, IsLoadedFile, file_names};

@@ -1,6 +1,6 @@
 //! What a lawful image has of a file.
 ghost use Rattle.std.specs.Prelude.{◌≡◌, ◌≢◌, ◌<◌, ◌≤◌, ℕ, true};
-ghost use Rattle.sums.specs.Weights.{weigh};
+ghost use Rattle.geometry.specs.Weights.{weigh};
 ghost use Rattle.geometry.specs.declared.owner.Mark.{Mark};
 ghost use Rattle.image.specs.Image.{node_of};
 ghost use Rattle.image.specs.Walk.{is_taken, walk};

@@ -91,7 +91,7 @@ impl<L> Stock<L> {
     }
 }
 
-ghost use Rattle.sums.specs.Weights.{weigh};
+ghost use Rattle.geometry.specs.Weights.{weigh};
 ghost use Rattle.mount_trees.specs.Goods.{in_place};
 
 /// Frees a table where nothing stands.

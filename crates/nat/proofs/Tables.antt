@@ -7,8 +7,8 @@ use Rattle.std.proofs.lemmas.Option.{slice_get_read, slice_get-get_or}
 use mathlib.Core.Logic.{dite}
 use native.Mathlib.Decide.{ℕ_discrete}
 use Rattle.atomic_table.specs.Seated.{TableId}
-use Rattle.sums.specs.Weights.{weigh, SameItems}
-use Rattle.sums.proofs.Weighing.{weigh-append}
+use Rattle.geometry.specs.Weights.{weigh, SameItems}
+use Rattle.geometry.proofs.Weighing.{weigh-append}
 use Rattle.rights_books.specs.declared.claim.Entry.{Entry}
 use Rattle.rights_books.specs.Lists.{times, without}
 use Rattle.rights_books.specs.Sameness.{same_entry}

@@ -1,7 +1,7 @@
 -- One of the 16 shards of a node address table: shard k has the numbers that leave k by 16.
 use Rattle.std.specs.Prelude.{◌≡◌, ℕ, ◌<◌, ◌≤◌, ◌+◌, ◌*◌, ◌%◌, List, length, Option, None, slice_index_or}
 use Rattle.atomic_table.specs.Seated.{TableId}
-use Rattle.sums.specs.Weights.{SameItems}
+use Rattle.geometry.specs.Weights.{SameItems}
 use Rattle.rights_books.specs.declared.claim.Entry.{Entry}
 use Rattle.rights_books.specs.Accounts.{ShardView}
 use Rattle.nat.specs.Taken.{AreNodes, entries_of}

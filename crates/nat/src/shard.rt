@@ -6,7 +6,7 @@ ghost use Rattle.geometry.specs.Mark.{same_mark};
 ghost use Rattle.rights_books.specs.Lists.{times, without};
 ghost use Rattle.rights_books.specs.Sameness.{same_entry};
 ghost use Rattle.rights_books.specs.Rules.{bare_entry, moved_to, with_lodged};
-ghost use Rattle.sums.specs.Weights.{weigh};
+ghost use Rattle.geometry.specs.Weights.{weigh};
 ghost use Rattle.rights_books.specs.Weights.{shard_copy, past};
 ghost use Rattle.rights_books.specs.declared.claim.Copied.TheVariants.{ShardCopy};
 ghost use Rattle.nat.specs.Taken.{IsFree, IsTaken, IsLocated, placed_of};

@@ -3,7 +3,7 @@ ghost use Rattle.std.specs.Prelude.{◌≡◌, ℕ, ◌<◌, ◌≤◌, ◌%◌,
 ghost use Rattle.geometry.specs.declared.error.Error.TheVariants.{NoMemory, NoFile, NoNode};
 ghost use Rattle.geometry.specs.declared.owner.Owner.TheVariants as owner;
 ghost use Rattle.geometry.specs.Mark.{same_mark};
-ghost use Rattle.sums.specs.Weights.{SameItems};
+ghost use Rattle.geometry.specs.Weights.{SameItems};
 ghost use Rattle.rights_books.specs.Accounts.{AreEmptyShards};
 ghost use Rattle.rights_books.specs.Lists.{times, without};
 ghost use Rattle.rights_books.specs.Sameness.{same_entry};

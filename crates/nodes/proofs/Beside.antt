@@ -1,7 +1,7 @@
 -- The hand has the tokens of the file, of the spare nodes and of others: a spare that is made, planted or given back
 -- moves between these sums, and the whole follows the hand.
 use Rattle.std.proofs.Common.{◌≡◌, ℕ, ◌+◌, ◌<◌, ◌≤◌, List, ◌∷◌, if◌then◌else◌, ap, arith}
-use Rattle.sums.specs.Weights.{weigh}
+use Rattle.geometry.specs.Weights.{weigh}
 use Rattle.geometry.specs.declared.owner.Mark.{Mark}
 use Rattle.rights_books.specs.declared.claim.Entry.{Entry}
 use Rattle.rights_books.specs.Lists.{times, without}

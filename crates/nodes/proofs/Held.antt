@@ -1,7 +1,7 @@
 -- A call's change adds to the file's weight what comes in and takes away what goes out; the hand beside it does the
 -- same, so what went out of the file is in hand and can be spent.
 use Rattle.std.proofs.Common.{◌≡◌, ℕ, ◌+◌, ◌<◌, List, [], ◌∷◌, Some, None, if◌then◌else◌, refl, ap, arith}
-use Rattle.sums.specs.Weights.{weigh}
+use Rattle.geometry.specs.Weights.{weigh}
 use Rattle.geometry.specs.declared.owner.Mark.{Mark}
 use Rattle.geometry.specs.Mark.{same_mark}
 use Rattle.geometry.proofs.MarkTests.{mark_self}

@@ -3,7 +3,7 @@ use Rattle.std.specs.Prelude.{◌≡◌, ℕ, ◌+◌, ◌-◌, ◌*◌, nat_lt,
 use Rattle.std.proofs.Common.{zero, suc}
 use Rattle.std.specs.Ordering.{nat_cmp}
 use Rattle.std.specs.FinMap.{FinMap, get, insert, empty}
-use Rattle.sums.specs.Weights.{weigh}
+use Rattle.geometry.specs.Weights.{weigh}
 use Rattle.geometry.specs.Path.{inode_entries, node_entries}
 use Rattle.geometry.specs.File.{File, Block}
 use Rattle.geometry.specs.declared.path.Path.{Path}

@@ -1,7 +1,7 @@
 -- A call marks each node that it changes: so a node without a mark after it was there before it as it is, and what held
 -- of its block holds still.
 use Rattle.std.proofs.Common.{◌≡◌, ◌⊎◌, inl, inr, ℕ, ◌<◌, Bool, true, false, List, if◌then◌else◌, Some, None, refl, sym, ap, subst, ◌∙◌, arith}
-use Rattle.sums.specs.Weights.{weigh}
+use Rattle.geometry.specs.Weights.{weigh}
 use Rattle.image_law.specs.Items.{Among}
 use Rattle.image_law.proofs.Weighing.{weigh_among, among_of_weigh}
 use Rattle.rights_books.specs.declared.claim.Entry.{Entry}

@@ -2,8 +2,8 @@
 -- and where it is 0 it is 0 for each node.
 use Rattle.std.proofs.Common.{◌≡◌, inl, inr, ℕ, ◌<◌, Bool, true, false, List, [], ◌∷◌, ◌++◌, if◌then◌else◌, Option, Some, None, refl, ap, ne_eqb, arith}
 use Rattle.std.specs.List.{flat_map}
-use Rattle.sums.specs.Weights.{weigh}
-use Rattle.sums.proofs.Weighing.{weigh-append, weigh-same}
+use Rattle.geometry.specs.Weights.{weigh}
+use Rattle.geometry.proofs.Weighing.{weigh-append, weigh-same}
 use Rattle.image_law.specs.Items.{Among}
 use Rattle.image_law.proofs.Weighing.{weigh-flat_map, weigh_among}
 use Rattle.rights_books.specs.declared.claim.Entry.{Entry}

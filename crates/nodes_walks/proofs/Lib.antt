@@ -1,3 +1,4 @@
 pub mod Flushed
 pub mod Search
 pub mod Ranges
+pub mod Finding

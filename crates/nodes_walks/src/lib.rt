@@ -1,13 +1,18 @@
-//! The walk over a file's marked nodes: each is lent to a writer, the inode first, parents before children.
-//! Where a file has data: the least index at or past one at which a block stands (Linux `lseek`, SEEK_DATA).
+//! Walks over a file's nodes. Over its marked nodes: each is lent to a writer, the inode first, parents before children.
+//! Over its data: the least index at or past one at which a block stands (Linux `lseek`, SEEK_DATA). And of a whole file a
+//! node is found by its number, and a block by the node and the entry that name it.
 #![tactic(auto)]
 
 mod data_walk;
 mod entries;
 mod file;
+mod index;
+mod visit;
 mod walk;
 
 pub use data_walk::SeekData;
 pub use entries::next_in;
 pub use file::next_data;
+pub use index::index_of;
+pub use visit::visit_node;
 pub use walk::flush_next;

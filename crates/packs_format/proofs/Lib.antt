@@ -11,3 +11,4 @@ pub mod PickLemmas
 pub mod FileLemmas
 pub mod Ranging
 pub mod Bodies
+pub mod Same

@@ -4,3 +4,4 @@ pub mod Parts
 pub mod Fields
 pub mod File
 pub mod Holding
+pub mod OneImage

@@ -5,8 +5,8 @@ use mathlib.Core.Option.{some, some-injective, some-ne-none}
 use lib.ListN.{get_elem?}
 use Rattle.crossbeam_queue.specs.Fifo.{Pushes, Pops, Forks, Merges, Learns}
 use Rattle.pool.specs.declared.law.Tally.{Tally}
-use Rattle.sums.specs.Weights.{weigh}
-use Rattle.sums.proofs.Weighing.{weigh-append}
+use Rattle.geometry.specs.Weights.{weigh}
+use Rattle.geometry.proofs.Weighing.{weigh-append}
 use Rattle.words.proofs.Counts.{sum-set, sum-in}
 use Rattle.pool.specs.Law.{all_parts, tally, idle, SlipLaw, Moment, Settled, with_put, with_taken, both}
 use Rattle.pool.proofs.Tallies.{idle_set, idle_snoc, total_whole}

@@ -2,7 +2,7 @@
 use Rattle.std.specs.Prelude.{◌≡◌, ℕ, ◌+◌, ◌≤◌, List, [], ◌∷◌, ◌++◌, length}
 use mathlib.Core.Option.{some}
 use lib.ListN.{get_elem?}
-use Rattle.sums.specs.Weights.{weigh, SameItems}
+use Rattle.geometry.specs.Weights.{weigh, SameItems}
 use Rattle.pool.specs.declared.law.Tally.{Tally}
 use Rattle.pool.specs.declared.law.Account.{Account}
 

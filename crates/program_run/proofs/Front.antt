@@ -10,7 +10,7 @@ use Rattle.packs_format.specs.File.{IsFileRefusal, file_bytes}
 use Rattle.image.specs.Image.{Image}
 use Rattle.packs_format.specs.Grammar.{HasSuper}
 use Rattle.std.proofs.lemmas.Bool.{cases_lt}
-use Rattle.image_unique_law.proofs.Same.{one_geometry}
+use Rattle.packs_format.proofs.Same.{one_geometry}
 use Rattle.program_run.specs.Checking.{HoldsLawfulImage}
 use Rattle.program_run.specs.Reading.{IsEnoughOf, IsTooLong, IsWhole}
 

@@ -21,7 +21,7 @@ use Rattle.program_script.specs.declared.script.Step.TheVariants.{Command as Com
 use Rattle.program_session.specs.Files.{ArePlaced, Files, IsOpened, no_files, open_count, passes_among}
 use Rattle.program_session.proofs.Placing.{nothing_there}
 use Rattle.packs_format.specs.Grammar.{HasSuper}
-use Rattle.image_unique_law.proofs.Same.{one_geometry}
+use Rattle.packs_format.proofs.Same.{one_geometry}
 use Rattle.program_run.specs.Ending.{AreLeft, LeftScript, LeftSome, WasLeft, WentOn, WentOnWith}
 use Rattle.program_run.specs.Run.{IsHalted, IsRemounted, StepWrites, StepsWrite, WroteSteps, first_opening, format_line, is_remount, mount_line, mounted_of, opening_line}
 use Rattle.mount_reading.specs.Held.{HoldsImage}

@@ -12,7 +12,7 @@ use Rattle.image.specs.Files.{files as files_of}
 use Rattle.image.specs.Image.{Image}
 use Rattle.image.specs.Rules.{IsLawful}
 use Rattle.image_codec.specs.Blocks.{bytes_at}
-use Rattle.image_unique_law.specs.OneImage.{HoldVolume}
+use Rattle.packs_format.specs.OneImage.{HoldVolume}
 use Rattle.program_script.specs.declared.script.Step.{Step}
 use Rattle.program_session.specs.Files.{ArePlaced, Files, no_files, passes_among}
 use Rattle.program_session.specs.Lines.{image_lines, unsynced_line}

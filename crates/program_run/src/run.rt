@@ -16,8 +16,7 @@ use crate::stop::Stop;
 use crate::telling::tell_parts;
 use device::{Block, MemDevice, Meta, Parts};
 use geometry::Geometry;
-use image_unique_law::one_image_law;
-use mount_law::{format_law, mount_law};
+use packs_format::one_image_law;
 use program_script::{Numbers, Script, Step};
 use program_workers::{Gate, SharedBlock};
 use std::alloc::Global;
@@ -25,6 +24,7 @@ use std::io::{Read, Write};
 use std::sync::Wait;
 use std::thread::Threads;
 use volume_format::format;
+use volume_law::{format_law, mount_law};
 
 /// Reads a script to its end, and runs it on a new volume in memory: each command writes its line to `out`. Behind the last
 /// one the readers that are open are closed, and the volume is closed with a checkpoint. A wounded volume has none: it is left

@@ -78,10 +78,10 @@ placed_still files place one placed is = record {
   ];
 }
 
-abbrev no_pass : Option Pass
+abbrev pub no_pass : Option Pass
 no_pass = None
 
-all_none : (n k : ℕ) → get_or (replicate n no_pass) k None ≡ None
+pub all_none : (n k : ℕ) → get_or (replicate n no_pass) k None ≡ None
 all_none n k = elim (cases_lt k n) [
   | inl lt ↦ get_or-replicate n k no_pass None lt
   | inr ge ↦ get_or_past (replicate n no_pass) k None (omega (arith, length-replicate n no_pass))

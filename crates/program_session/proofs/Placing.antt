@@ -7,6 +7,7 @@ use Rattle.std.proofs.lemmas.List.{ext_get_or, get_or-set_same, get_or-set_other
 use Rattle.image_law.specs.Items.{Among}
 use Rattle.file_cells.specs.Pass.{Pass}
 use Rattle.program_session.specs.Files.{StandInPlace, passes_among}
+use Rattle.program_session.proofs.Files.{no_pass, all_none}
 
 not_none : {A : Type 0} (x : A) → None ≡ Some x → ⊥
 not_none x is = cc
@@ -38,15 +39,6 @@ pub record PlacedSo (goal places : List (Option Pass)) (rest : List Pass) : Type
   pub count : length places ≡ length goal
   pub each : (k : ℕ) → IsAsGoal goal places rest k
   pub come : (p : Pass) → Among p rest → Among p (passes_among goal)
-
-abbrev no_pass : Option Pass
-no_pass = None
-
-all_none : (n k : ℕ) → get_or (replicate n no_pass) k None ≡ None
-all_none n k = elim (cases_lt k n) [
-  | inl lt ↦ get_or-replicate n k no_pass None lt
-  | inr ge ↦ get_or_past (replicate n no_pass) k None (omega (arith, length-replicate n no_pass))
-]
 
 pub none_yet : (goal : List (Option Pass)) → PlacedSo goal (replicate (length goal) None) (passes_among goal)
 none_yet goal = record {
@@ -108,3 +100,8 @@ pub nothing_there : {A : Type 0} (places : List (Option A)) → length (filter_m
 nothing_there [] none = refl
 nothing_there (None ∷ os) none = ap (λ xs. None ∷ xs) (nothing_there os none)
 nothing_there (Some x ∷ os) none = absurd (cc)
+
+-- the pass that comes next goes to the place of its number
+pub put_next : (files : ℕ) (goal places : List (Option Pass)) (pass : Pass) (rest later : List Pass) (place : ℕ) → StandInPlace files goal → place + 1 ≡ pass.number
+    → rest ≡ pass ∷ later → PlacedSo goal places rest → PlacedSo goal (set places place (Some pass)) later
+put_next files goal places pass rest later place stand is next so_far = one_more files goal places pass later place stand is (subst (PlacedSo goal places) next so_far)

@@ -1,8 +1,8 @@
 -- Whoever has all hands and accounts leaves nobody else anything to hold: so the copies in a census are all that is
 -- marked, lodged and taken, and the rule says that these balance.
 use Rattle.std.proofs.Common.{◌≡◌, ℕ, zero, suc, ◌+◌, ◌<◌, ◌≤◌, ◌==◌, Bool, true, false, List, [], ◌∷◌, if◌then◌else◌, refl, ◌∙◌, arith, eq-eqb, ne_eqb, Option}
-use Rattle.sums.specs.Weights.{weigh}
-use Rattle.sums.proofs.Weighing.{weigh-same}
+use Rattle.geometry.specs.Weights.{weigh}
+use Rattle.geometry.proofs.Weighing.{weigh-same}
 use Rattle.rights_claims.specs.Rules.{together, Follows}
 use Rattle.geometry.specs.declared.owner.Mark.{Mark}
 use Rattle.rights_books.specs.declared.claim.Entry.{Entry}

@@ -1,9 +1,9 @@
 -- Whoever has all 64 permits, with nothing in hand, has every hand there is, so all else is in the accounts; with 63,
 -- the last hand may have the ticket of a mark that no account has lodged.
 use Rattle.std.proofs.Common.{List, [], ◌∷◌, ◌++◌, refl, arith, None}
-use Rattle.sums.specs.Weights.{weigh}
+use Rattle.geometry.specs.Weights.{weigh}
 use Rattle.rights_claims.specs.Rules.{together}
-use Rattle.sums.proofs.Weighing.{weigh-append}
+use Rattle.geometry.proofs.Weighing.{weigh-append}
 use Rattle.rights_claims.proofs.Keeping.{same_weights}
 use Rattle.geometry.specs.declared.owner.Owner.TheVariants.{Node}
 use Rattle.geometry.specs.declared.owner.Mark.{Mark}

@@ -2,8 +2,8 @@
 -- nothing past the next item, and weighs what its front does.
 use Rattle.std.proofs.Common.{◌≡◌, ℕ, ◌+◌, ◌<◌, Bool, true, false, List, [], ◌∷◌, ◌++◌, take, get_or, slice_get, Some, length, nat_lt, if◌then◌else◌, refl, ap, ◌∙◌, arith, add-one, take-suc, ltb-true, lt-ltb}
 use Rattle.std.proofs.lemmas.Option.{slice_get_read}
-use Rattle.sums.specs.Weights.{weigh}
-use Rattle.sums.proofs.Weighing.{weigh-append}
+use Rattle.geometry.specs.Weights.{weigh}
+use Rattle.geometry.proofs.Weighing.{weigh-append}
 use Rattle.rights_books.specs.declared.claim.Copied.{Copied}
 use Rattle.rights_books.specs.declared.claim.Copied.TheVariants.{SegmentCopy, FileCopy, ShardCopy}
 use Rattle.rights_books.specs.Weights.{past, segment_copy, file_copy, shard_copy}

@@ -1,7 +1,7 @@
 -- An item counts 1 by its own weight, so it stands in a list as often as the list weighs by it, and once less without
 -- it; and lists of as many items that weigh no more weigh the same.
 use Rattle.std.proofs.Common.{◌≡◌, ℕ, zero, suc, ◌+◌, ◌<◌, ◌≤◌, ◌-◌, ◌*◌, ◌==◌, suc-mul, Bool, true, false, List, [], ◌∷◌, if◌then◌else◌, refl, sym, ap, ◌∙◌, arith, eqb-true, eq-eqb}
-use Rattle.sums.specs.Weights.{weigh}
+use Rattle.geometry.specs.Weights.{weigh}
 use Rattle.rights_books.specs.Lists.{times, without, sum_below}
 
 -- 1 for x, and 0 for all else

@@ -1,8 +1,8 @@
 -- An empty volume's claims hold nothing, so every sum of marks, tickets and tokens is 0 on both sides; and the accounts
 -- are dealt once for each number.
 use Rattle.std.proofs.Common.{◌≡◌, ℕ, zero, suc, ◌+◌, [], ◌++◌, refl, ap, arith, None}
-use Rattle.sums.specs.Weights.{weigh}
-use Rattle.sums.proofs.Weighing.{weigh-append}
+use Rattle.geometry.specs.Weights.{weigh}
+use Rattle.geometry.proofs.Weighing.{weigh-append}
 use Rattle.rights_books.specs.declared.claim.Layout.{Layout}
 use Rattle.rights_books.specs.declared.claim.Claim.{Claim}
 use Rattle.rights_books.specs.declared.claim.Claim.TheVariants.{Segment, Hand, File, Shard}

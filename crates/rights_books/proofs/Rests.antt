@@ -2,8 +2,8 @@
 -- it, all others weigh nothing by it.
 use Rattle.std.proofs.Common.{◌≡◌, ℕ, ◌+◌, ◌-◌, ◌/◌, ◌%◌, ◌<◌, ◌==◌, nat_lt, ltb-true, lt-ltb, Bool, true, false, List, [], ◌∷◌, flat_map, if◌then◌else◌, refl, sym, ap, ◌∙◌, subst, arith, eqb-true, eq-eqb, Some, None}
 use Rattle.std.proofs.lemmas.Bool.{and_parts, and_from}
-use Rattle.sums.specs.Weights.{weigh}
-use Rattle.sums.proofs.Weighing.{weigh-append, weigh-same}
+use Rattle.geometry.specs.Weights.{weigh}
+use Rattle.geometry.proofs.Weighing.{weigh-append, weigh-same}
 use Rattle.geometry.specs.declared.owner.Mark.{Mark}
 use Rattle.rights_books.specs.declared.claim.Entry.{Entry}
 use Rattle.rights_books.specs.declared.claim.Content.{Content}

@@ -1,6 +1,6 @@
 -- Lists whose order says nothing.
 use Rattle.std.specs.Prelude.{ℕ, zero, suc, ◌+◌, Bool, List, [], ◌∷◌, if◌then◌else◌}
-use Rattle.sums.specs.Weights.{weigh}
+use Rattle.geometry.specs.Weights.{weigh}
 
 -- how often x stands in the list
 abbrev pub times : {A : Type 0} → (A → A → Bool) → A → List A → ℕ

@@ -8,7 +8,7 @@ use Rattle.rights_books.specs.declared.claim.Claim.{Claim}
 use Rattle.rights_books.specs.declared.claim.Claim.TheVariants.{Segment, Hand, File, Shard}
 use Rattle.rights_books.specs.declared.claim.Copied.{Copied}
 use Rattle.rights_books.specs.Lists.{sum_below}
-use Rattle.sums.specs.Weights.{weigh}
+use Rattle.geometry.specs.Weights.{weigh}
 use Rattle.rights_books.specs.Weights.{mark_of, marks_in, tickets_in, taken_in, tokens_in, shown_in, pass_in, segment_in, hand_in, file_in, shard_in, stray_in, copied_in, copies_in, segment_copy, file_copy, shard_copy, marks_copied, tickets_copied, taken_copied, tokens_copied}
 
 pub record Lawful (l : Layout) (t : (Claim → ℕ) → ℕ) : Type 0 where

@@ -1,6 +1,6 @@
 -- What each claim has, by weight.
 use Rattle.std.specs.Prelude.{ℕ, nat_lt, ◌==◌, ◌&&◌, ◌-◌, ◌/◌, ◌%◌, Bool, if◌then◌else◌, Option, Some, None}
-use Rattle.sums.specs.Weights.{weigh}
+use Rattle.geometry.specs.Weights.{weigh}
 use Rattle.geometry.specs.declared.owner.Owner.TheVariants.{Node}
 use Rattle.geometry.specs.declared.owner.Mark.{Mark}
 use Rattle.rights_books.specs.declared.claim.Entry.{Entry}

@@ -1,7 +1,7 @@
 //! All permits in one hand show that nothing is in flight.
 ghost use Rattle.std.specs.Prelude.{◌≡◌, ℕ, ◌+◌, ◌<◌, [], ◌∷◌, length};
 ghost use Rattle.geometry.specs.declared.owner.Mark.{Mark};
-ghost use Rattle.sums.specs.Weights.{weigh};
+ghost use Rattle.geometry.specs.Weights.{weigh};
 ghost use Rattle.rights_books.specs.declared.claim.Entry.{Entry};
 ghost use Rattle.rights_books.specs.declared.claim.Copied.{Copied};
 ghost use Rattle.rights_books.specs.declared.claim.Copied.TheVariants.{SegmentCopy, FileCopy, ShardCopy};

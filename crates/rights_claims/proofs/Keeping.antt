@@ -7,8 +7,8 @@ use Rattle.atomic_table.proofs.Lists.{set_else}
 use Rattle.rights_claims.specs.Shown.{Tells as SeatsTell}
 use lib.ListN.{get_elem?}
 use Rattle.atomic_table.specs.Table.{Allows, Splits, Joins, keeps, Me}
-use Rattle.sums.specs.Weights.{weigh}
-use Rattle.sums.proofs.Weighing.{weigh-append}
+use Rattle.geometry.specs.Weights.{weigh}
+use Rattle.geometry.proofs.Weighing.{weigh-append}
 use Rattle.rights_claims.specs.Rules.{together, Follows, Tells, Kept}
 use Rattle.rights_claims.proofs.Weighing.{weigh-cut, weigh-set_found, weigh-flat}
 

@@ -1,6 +1,6 @@
 //! A book, and the steps of its holders.
 ghost use Rattle.std.specs.Prelude.{◌≡◌, ◌≢◌, ℕ, ◌++◌, ◌<◌, take, drop, IfOk};
-ghost use Rattle.sums.specs.Weights.{weigh};
+ghost use Rattle.geometry.specs.Weights.{weigh};
 ghost use Rattle.rights_claims.specs.Rules.{Follows, Tells};
 
 use crate::holder::Holder;

@@ -3,7 +3,7 @@
 use Rattle.std.proofs.Common.{◌≡◌, ℕ, zero, suc, ◌+◌, ◌<◌, List, Option, Some, None, Bool, length, get_or, map, set, replicate, ap, sym, ◌∙◌, refl}
 use Rattle.std.proofs.lemmas.List.{map-set, get_or-map}
 use Rattle.std.specs.Prelude.{is_some, false}
-use Rattle.sums.proofs.Weighing.{weigh-set, weigh-replicate}
+use Rattle.geometry.proofs.Weighing.{weigh-set, weigh-replicate}
 use Rattle.sit.specs.Home.{Home, AreAtHome, failed_at, failures_of}
 
 abbrev pub home_of : ℕ → ℕ → List Bool → List (List ℕ) → ℕ → Home

@@ -5,7 +5,7 @@ use Rattle.std.specs.Prelude.{is_some, unwrap_or}
 use Rattle.std.proofs.lemmas.List.{length-map, get_or-set_same, get_or-set_other}
 use mathlib.Core.Logic.{dite}
 use native.Mathlib.Decide.{ℕ_discrete}
-use Rattle.sums.proofs.Weighing.{weigh-set}
+use Rattle.geometry.proofs.Weighing.{weigh-set}
 use Rattle.geometry.specs.declared.owner.Owner.{Owner}
 use Rattle.sit.specs.Summaries.{is_set, is_clear, one, count_of}
 

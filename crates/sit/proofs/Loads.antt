@@ -10,7 +10,7 @@ use Rattle.geometry.specs.declared.owner.Mark.{Mark}
 use Rattle.geometry.specs.Shape.{segment_blocks}
 use Rattle.geometry.specs.Address.{address_of}
 use Rattle.rights_books.specs.Accounts.{SegmentView}
-use Rattle.sums.specs.Weights.{weigh}
+use Rattle.geometry.specs.Weights.{weigh}
 use Rattle.sit.specs.Home.{Home}
 use Rattle.sit.specs.Summaries.{is_clear, is_set, marks_from}
 use Rattle.sit.specs.Thread.{Thread, keeping}

@@ -1,7 +1,7 @@
 -- A mark is the summary at its place, so one summary changed is one mark more or less, at the address of that place;
 -- and there are as many marks as valid blocks.
 use Rattle.std.proofs.Common.{◌≡◌, ℕ, zero, suc, ◌+◌, ◌<◌, List, [], ◌∷◌, Option, Some, None, Bool, true, false, length, get_or, set, replicate, if◌then◌else◌, refl, sym, ap, arith}
-use Rattle.sums.specs.Weights.{weigh, SameItems}
+use Rattle.geometry.specs.Weights.{weigh, SameItems}
 use Rattle.geometry.specs.declared.owner.Owner.{Owner}
 use Rattle.geometry.specs.declared.owner.Mark.{Mark}
 use Rattle.geometry.specs.Mark.{same_mark}

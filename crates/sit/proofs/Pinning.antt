@@ -5,7 +5,7 @@ use Rattle.geometry.specs.declared.state.State.TheVariants.{Free, Open, Sealed, 
 use Rattle.geometry.specs.declared.owner.Mark.{Mark}
 use Rattle.geometry.specs.Mark.{same_mark}
 use Rattle.geometry.specs.Address.{address_of}
-use Rattle.sums.proofs.Weighing.{weigh-at}
+use Rattle.geometry.proofs.Weighing.{weigh-at}
 use Rattle.rights_books.specs.Accounts.{SegmentView}
 use Rattle.rights_books.specs.Lists.{times}
 use Rattle.words.specs.declared.claim.Life.{Life}

@@ -10,7 +10,7 @@ use Rattle.geometry.specs.Mark.{same_mark}
 use Rattle.geometry.specs.Shape.{segment_blocks}
 use Rattle.geometry.specs.Address.{address_of, segment_of, offset_of}
 use Rattle.geometry.proofs.Addresses.{address_of-parts}
-use Rattle.sums.specs.Weights.{weigh, SameItems}
+use Rattle.geometry.specs.Weights.{weigh, SameItems}
 use Rattle.rights_books.specs.Accounts.{SegmentView}
 use Rattle.rights_books.specs.Lists.{times, without}
 use Rattle.rights_books.proofs.Steps.{without_mark}

@@ -1,6 +1,6 @@
 -- The blocks of a segment that are at home.
 use Rattle.std.specs.Prelude.{◌≡◌, ℕ, ◌+◌, List, [], length, map, slice_index_or, slice_set, Option, Some, None, Bool}
-use Rattle.sums.specs.Weights.{weigh}
+use Rattle.geometry.specs.Weights.{weigh}
 
 -- the address of the first block, how many bytes each has, which of them are there, the bytes of these, and how often they have failed, all together
 pub record Home : Type 0 where

@@ -1,7 +1,7 @@
 -- What an audit has learned of a segment.
 use Rattle.std.specs.Prelude.{◌≡◌, ℕ, ◌+◌, List}
 use Rattle.geometry.specs.declared.owner.Mark.{Mark}
-use Rattle.sums.specs.Weights.{weigh}
+use Rattle.geometry.specs.Weights.{weigh}
 use Rattle.rights_books.specs.declared.claim.Copied.{Copied}
 use Rattle.rights_books.specs.declared.claim.Copied.TheVariants.{SegmentCopy}
 use Rattle.rights_books.specs.Accounts.{CensusView}

@@ -4,7 +4,7 @@ use Rattle.atomic_table.specs.Seated.{TableId}
 use Rattle.geometry.specs.declared.state.State.{State}
 use Rattle.geometry.specs.declared.state.State.TheVariants.{Free, Open, Sealed, Prefree}
 use Rattle.geometry.specs.Shape.{segment_blocks}
-use Rattle.sums.specs.Weights.{SameItems}
+use Rattle.geometry.specs.Weights.{SameItems}
 use Rattle.rights_claims.specs.Rules.{Ruled}
 use Rattle.rights_books.specs.declared.claim.Layout.{Layout}
 use Rattle.rights_books.specs.Accounts.{SegmentView}

@@ -72,8 +72,8 @@ pub struct SegmentRow {
 }
 
 impl<B: Block + Drop> SegmentState<B> {
-    ghost use Rattle.sums.specs.Weights.{SameItems};
-    ghost use Rattle.sums.specs.Weights.{weigh};
+    ghost use Rattle.geometry.specs.Weights.{SameItems};
+    ghost use Rattle.geometry.specs.Weights.{weigh};
     ghost use Rattle.rights_books.specs.Weights.{segment_copy, past};
     ghost use Rattle.sit.specs.Learned.{HasLearned};
     ghost use Rattle.sit.specs.Segment.{IsFitting, fill_of, placed, threaded, cleared, entered, marks_of, HasPlaced, HasSpoiled, HasSpoiledAt};

@@ -4,13 +4,12 @@ use crate::command_line::{Numbers, Task, Words};
 use crate::draw::draw;
 use crate::fault::Fault;
 use crate::folders::{dump, import};
-use crate::image_run::{now, put_making_room, read_image, run};
+use crate::image_run::{image_length, now, put_making_room, read_image, run};
 use crate::screen::Screen;
 use crate::stat::{list, stat};
 use crate::svg::draw_svg;
 use file_device::{create_image, open_image};
 use flash_volume::{Geometry, Leave, Shape, work_on_new};
-use std::fs;
 use std::fs::{File, Files};
 use std::io::{BufWriter, Read, Write};
 use std::rt::Runtime;
@@ -100,7 +99,7 @@ fn put<R: Runtime + AllocGlobal + Wait + Files<File = File>, I: Read, O: Write>(
     if !is_name(name) {
         return Err(Fault::Name(Refusal::BadName));
     }
-    let length = fs::metadata(rt, image).map_err(Fault::Image)?.len();
+    let length = image_length(rt, image)?;
     // No file is as long as the image.
     let mut bytes = Vec::new(rt.alloc());
     input.by_ref().take(length).read_to_end(&mut bytes)?;

@@ -54,19 +54,27 @@ pub fn put_making_room<M: Meta + Drop, B: Block + Drop, R: AllocGlobal + Wait>(
     }
 }
 
+/// The bytes of an image file. Answers NotAFile where it is no ordinary file: a pipe would keep who opens it waiting.
+pub fn image_length<R: Files<File = File>>(rt: &R, path: &str) -> Result<u64, Fault> {
+    let found = fs::metadata(rt, path).map_err(Fault::Image)?;
+    if found.is_file() {
+        Ok(found.len())
+    } else {
+        Err(Fault::NotAFile)
+    }
+}
+
 /// Reads an image file and what its last checkpoint has, and changes nothing.
 pub fn read_image<R: AllocGlobal + Files<File = File>>(
     rt: &R,
     path: &str,
 ) -> Result<(Geometry, Image), Fault> {
-    if !fs::metadata(rt, path).map_err(Fault::Image)?.is_file() {
-        return Err(Fault::NotAFile);
-    }
+    let length = image_length(rt, path)?;
     let mut file = File::open(rt, path).map_err(Fault::Image)?;
     if file.try_lock_shared().is_err() {
         return Err(Fault::Busy);
     }
-    let mut bytes = Vec::new(rt.alloc());
+    let mut bytes = Vec::with_capacity(rt.alloc(), usize::try_from(length).unwrap_or(0))?;
     file.read_to_end(&mut bytes).map_err(Fault::Image)?;
     Ok(Image::read(rt.alloc(), bytes.as_slice())?)
 }

@@ -4,8 +4,8 @@ use Rattle.std.proofs.Common.{◌≡◌, ℕ, suc, ◌+◌, ◌<◌, ◌||◌, B
 use Rattle.std.proofs.Math.Seq.{map-set_same}
 use Rattle.std.proofs.lemmas.Bool.{cases_lt}
 use Rattle.std.proofs.lemmas.List.{get_or_default}
-use Rattle.sums.specs.Weights.{weigh}
-use Rattle.sums.proofs.Weighing.{weigh-set}
+use Rattle.geometry.specs.Weights.{weigh}
+use Rattle.geometry.proofs.Weighing.{weigh-set}
 use Rattle.tree.specs.Tree.{entry_at, AreNone, EmptyFrom}
 use Rattle.rights_books.specs.declared.claim.Entry.{Entry}
 use Rattle.tree.specs.Change.{tree_node, TreeNode, Weighing, Touched, gone, come, MarksOne, Trades, ChangesSlot, ChangesEntries}

@@ -4,7 +4,7 @@ use Rattle.std.specs.Prelude.{◌≡◌, ℕ, ◌+◌, ◌==◌, ◌&&◌, Bool,
 use Rattle.geometry.specs.declared.kind.Kind.{Kind}
 use Rattle.geometry.specs.declared.kind.Kind.TheVariants.{File}
 use Rattle.rights_books.specs.declared.claim.Entry.{Entry}
-use Rattle.sums.specs.Weights.{weigh}
+use Rattle.geometry.specs.Weights.{weigh}
 use Rattle.tree.specs.declared.spare.Spare.{Spare}
 use Rattle.tree.specs.declared.spare.Spare.TheVariants.{Ticket, Token}
 

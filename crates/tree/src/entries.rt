@@ -1,6 +1,6 @@
 //! The entries of a node, one after another.
 ghost use Rattle.std.specs.Prelude.{◌≡◌, ◌*◌, ◌-◌, ◌^◌, ◌<◌, ◌/◌, ◌%◌, Option, Some, None, length, replicate, OnOk, IfOk, MatchOption, IsTrue, ◌↔◌, ◌||◌, true, false};
-ghost use Rattle.sums.specs.Weights.{weigh};
+ghost use Rattle.geometry.specs.Weights.{weigh};
 ghost use Rattle.tree.specs.Tree.{find_in, ShapedIn, AreNone, entry_at, number_of};
 ghost use Rattle.tree.specs.Change.{nothing, each_marked};
 

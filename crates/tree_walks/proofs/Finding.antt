@@ -7,8 +7,8 @@ use Rattle.std.proofs.lemmas.List.{get_or_past, length-map}
 use Rattle.std.proofs.lemmas.Nat.{mod-mul-add}
 use Rattle.std.proofs.Math.Nat.{div-one, mod-one}
 use Rattle.std.proofs.Math.ListN.{get_or-map}
-use Rattle.sums.specs.Weights.{weigh}
-use Rattle.sums.proofs.Weighing.{weigh-set}
+use Rattle.geometry.specs.Weights.{weigh}
+use Rattle.geometry.proofs.Weighing.{weigh-set}
 use Rattle.rights_books.specs.declared.claim.Entry.{Entry}
 use Rattle.tree.specs.declared.branch.Branch.{Branch}
 use Rattle.tree.specs.declared.entries.Entries.{Entries}

@@ -1,8 +1,8 @@
 -- A node below one entry is a node below all of them, and one that is written there is written in the whole: the other
 -- entries weigh before as after.
 use Rattle.std.proofs.Common.{◌≡◌, ℕ, ◌+◌, ◌<◌, Bool, true, List, length, get_or, set, Option, ap, ◌∙◌, arith}
-use Rattle.sums.specs.Weights.{weigh}
-use Rattle.sums.proofs.Weighing.{weigh-at, weigh-set}
+use Rattle.geometry.specs.Weights.{weigh}
+use Rattle.geometry.proofs.Weighing.{weigh-at, weigh-set}
 use Rattle.rights_books.specs.declared.claim.Entry.{Entry}
 use Rattle.tree.specs.Change.{TreeNode, Weighing, tree_node}
 use Rattle.tree_walks.specs.Writing.{IsAmong, WritesOne}

@@ -1,6 +1,6 @@
 //! The walk over the entries of a node.
 ghost use Rattle.std.specs.Prelude.{Bool, ℕ, None, ◌≡◌, ◌≤◌, ◌<◌, ◌+◌, ◌*◌, true, false, map, slice_set, length, OnOk, OnErr, IfOk, IfErr};
-ghost use Rattle.sums.specs.Weights.{weigh};
+ghost use Rattle.geometry.specs.Weights.{weigh};
 ghost use Rattle.rights_books.specs.declared.claim.Entry.{Entry};
 ghost use Rattle.tree.specs.Tree.{Same, ShapedIn, UsefulIn, AreNone, entry_at, find_in};
 ghost use Rattle.tree.specs.Change.{TreeNode, tree_node, each_marked};

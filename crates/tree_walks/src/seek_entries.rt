@@ -1,6 +1,6 @@
 //! What is found below the entries of a node, one after another.
 ghost use Rattle.std.specs.Prelude.{Bool, ℕ, ◌+◌, ◌≡◌, ◌*◌, ◌%◌, ◌^◌, ◌<◌, true, false, Some, None, IsTrue, ◌↔◌, map, slice_set, slice_index_or, length, IfSome, IfOk, IfErr};
-ghost use Rattle.sums.specs.Weights.{weigh};
+ghost use Rattle.geometry.specs.Weights.{weigh};
 ghost use Rattle.rights_books.specs.declared.claim.Entry.{Entry};
 ghost use Rattle.tree.specs.Tree.{Same, ShapedIn, UsefulIn, AreNone, entry_at, find_in, number_of};
 ghost use Rattle.tree.specs.Change.{TreeNode, each_naming};

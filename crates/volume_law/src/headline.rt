@@ -10,7 +10,7 @@ ghost use Rattle.volume_format.specs.Mountable.{IsMountable};
 ghost use Rattle.image_codec.specs.Blocks.{bytes_at};
 ghost use Rattle.packs_format.specs.Grammar.{HasSuper};
 ghost use Rattle.close_area.specs.Shown.{AreShown};
-ghost use Rattle.mount_law.specs.Found.{IsFound};
+ghost use Rattle.volume_law.specs.Found.{IsFound};
 
 use device::{Block, Meta};
 

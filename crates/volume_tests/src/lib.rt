@@ -1,4 +1,4 @@
-//! Tests of the volume on one thread by its public calls, new and mounted again, which prove nothing of it again.
+//! Tests of the volume by its front door: on one thread and on many, new and mounted again. They prove nothing of it again.
 #![tactic(auto)]
 
 #[cfg(test)]

@@ -8,7 +8,7 @@ use Rattle.atomic_table.specs.Table.{State as Table, step, keeps, Allows}
 use Rattle.atomic_table.proofs.Lists.{set_again}
 use Rattle.geometry.specs.declared.state.State.{State}
 use Rattle.geometry.specs.declared.state.State.TheVariants.{Free, Open, Sealed, Prefree}
-use Rattle.sums.specs.Weights.{weigh}
+use Rattle.geometry.specs.Weights.{weigh}
 use Rattle.words.specs.declared.claim.Claim.{Claim}
 use Rattle.words.specs.declared.claim.Claim.TheVariants.{Stands, Slip, Appends, Reads, Checkpoint}
 use Rattle.words.specs.Claims.{total, at, is_open, stands, opens, appends}

@@ -10,7 +10,7 @@ use Rattle.atomic_table.specs.Table.{step, keeps, Allows, Splits, Joins}
 use Rattle.atomic_table.proofs.Lists.{set_else}
 use Rattle.geometry.specs.declared.state.State.{State}
 use Rattle.geometry.specs.declared.state.State.TheVariants.{Free, Open, Sealed, Prefree}
-use Rattle.sums.specs.Weights.{weigh}
+use Rattle.geometry.specs.Weights.{weigh}
 use Rattle.words.specs.declared.claim.Claim.{Claim}
 use Rattle.words.specs.declared.claim.Claim.TheVariants.{Stands, Slip, Appends, Reads, Checkpoint}
 use Rattle.words.specs.Claims.{Every, total, at, stands, stands_at, rank, frees, opens, room, slips, appends, pins, pins_at, readers, checkpoints, version, fresh_life, fresh_pins, fresh_segments, opening_view, without_second, second}

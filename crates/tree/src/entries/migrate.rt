@@ -1,6 +1,6 @@
 //! A ticket below the entries is swapped for another.
 ghost use Rattle.std.specs.Prelude.{◌≡◌, ◌≢◌, ℕ, Bool, ◌+◌, ◌*◌, ◌-◌, ◌^◌, ◌<◌, ◌/◌, Some, None, length, map, slice_set, slice_index_or, OnOk, OnErr, IfErr, IfOk, ◌||◌, true};
-ghost use Rattle.sums.specs.Weights.{weigh};
+ghost use Rattle.geometry.specs.Weights.{weigh};
 ghost use Rattle.tree.specs.Tree.{find_in, ShapedIn, Same, SwapsOne, UsefulIn, AreNone, entry_at};
 ghost use Rattle.tree.specs.Change.{ChangesEntries, nothing, each_naming};
 

@@ -1,9 +1,16 @@
 //! A crash at each call of a checkpoint's write, on a volume with a file: the old files are there, or the new ones.
 use super::damage::ODD_FOOTER;
 use super::image_file::{META, bytes_of, device_of};
-use super::{Device, End, Step, mount_again};
-use device::{Faulty, Fuse, MemBlock, MemMeta, Parts};
-use geometry::Error;
+use super::play::play;
+use super::script::Tools;
+use super::step::Act::Write;
+use super::step::Row;
+use super::step::Seen::{Done, Image, Is, Refused};
+use super::step::Step::{Base, Has, On, Save, Use};
+use super::step::Tool::Arm;
+use super::waits::Gates;
+use device::Faulty;
+use flash_volume::{Error, Leave, Parts};
 use std::alloc::{AllocError, Global};
 use std::process::Abort;
 use std::sync::{Arc, Wait};
@@ -57,53 +64,31 @@ impl Crash {
         }
     }
 
-    // The version that counts then.
-    fn version(self, torn: Torn) -> u32 {
-        let is_new = matches!(torn, Torn::New) && self.writes_the_footer();
-        if is_new || self.settles_all() { 3 } else { 2 }
+    // Whether the new pack counts then.
+    fn is_new(self, torn: Torn) -> bool {
+        self.settles_all() || (matches!(torn, Torn::New) && self.writes_the_footer())
     }
 }
 
-// The same parts, of which a write or a sync of the meta area fails where the fuse says so.
-fn with_fault(
-    device: Device<MemMeta, MemBlock>,
-    fuse: &Arc<Fuse>,
-) -> Result<Device<Faulty<MemMeta>, MemBlock>, AllocError> {
-    let Device { parts } = device;
-    let Parts { meta, blocks } = parts;
-    let meta = Faulty::new(meta, Arc::try_clone(fuse)?);
-    Ok(Device {
-        parts: Parts { meta, blocks },
-    })
-}
-
-fn without_fault(device: Device<Faulty<MemMeta>, MemBlock>) -> Device<MemMeta, MemBlock> {
-    let Device { parts } = device;
-    let Parts { meta, blocks } = parts;
-    let meta = meta.into_inner();
-    Device {
-        parts: Parts { meta, blocks },
-    }
-}
-
-// The bytes of the device after a checkpoint of the overwritten file, in whose write a call failed.
+// The bytes of the device after a checkpoint of the overwritten file, in whose write a call of the meta area failed.
 fn crashed<R: Wait + Abort>(
     rt: &R,
     alloc: Global,
     file: &[u8],
     crash: Crash,
 ) -> Result<Vec<u8>, Error> {
-    let fuse = Arc::new(alloc, Fuse::new(alloc))?;
-    let device = with_fault(device_of(alloc, file)?, &fuse)?;
-    let Crash { nth, late } = crash;
-    let steps = [
-        Step::Write(0, 0, &[0x43]),
-        Step::FailAt(&fuse, nth, late),
-        Step::NoSync(Error::Device),
-        Step::NoSync(Error::Wounded),
+    let tools = Tools::new(alloc, Gates::open())?;
+    let Parts { meta, blocks } = device_of(alloc, file)?;
+    let meta = Faulty::new(meta, Arc::try_clone(&tools.fuse)?);
+    let rows: [Row; 4] = [
+        (On(0, Write(0, &[0x43])), Done),
+        (Use(Arm(crash.nth, crash.late)), Done),
+        (Save, Refused(Error::Device)),
+        (Save, Refused(Error::Wounded)),
     ];
-    let left = mount_again(rt, alloc, device, &steps, End::Abandon);
-    Ok(bytes_of(alloc, &without_fault(left.device))?)
+    let parts = Parts { meta, blocks };
+    let Parts { meta, blocks } = play(rt, alloc, parts, Leave::Discard, &tools, &rows);
+    Ok(bytes_of(alloc, &meta.into_inner(), blocks.as_slice())?)
 }
 
 // The bytes that a power cut may leave: what was written and not settled is torn.
@@ -128,22 +113,38 @@ fn torn_bytes(
     Ok(bytes)
 }
 
+const OLD: [Row; 2] = [(Base, Image(2, 3)), (Has(&[(1, &[0x41, 0x42])]), Is(true))];
+
+const NEW: [Row; 2] = [(Base, Image(3, 3)), (Has(&[(1, &[0x43, 0x42])]), Is(true))];
+
+// What such a crash leaves is mounted.
+fn mount_torn<R: Wait + Abort>(
+    rt: &R,
+    alloc: Global,
+    tools: &Tools,
+    bytes: (&[u8], &[u8]),
+    crash: Crash,
+    torn: Torn,
+) -> Result<(), Error> {
+    let left = torn_bytes(alloc, bytes.0, bytes.1, crash, torn)?;
+    let rows: &[Row] = if crash.is_new(torn) { &NEW } else { &OLD };
+    let parts = device_of(alloc, left.as_slice())?;
+    let _parts = play(rt, alloc, parts, Leave::Discard, tools, rows);
+    Ok(())
+}
+
 #[test]
 fn each_crash_of_a_checkpoint_leaves_the_old_files_or_the_new(rt: HostRuntime) -> Result<(), Fail> {
     let alloc = rt.alloc();
+    let tools = Tools::new(alloc, Gates::open())?;
     let old = base_file(alloc)?;
     for nth in 1..LAST + 1 {
         for late in [false, true] {
             let crash = Crash { nth, late };
             let new = crashed(&rt, alloc, old.as_slice(), crash)?;
             for torn in [Torn::Byte(0), Torn::Byte(0xff), Torn::Old, Torn::New] {
-                let bytes = torn_bytes(alloc, old.as_slice(), new.as_slice(), crash, torn)?;
-                let version = crash.version(torn);
-                let first = if version == 3 { 0x43 } else { 0x41 };
-                let steps = [Step::Has(&[(1, &[first, 0x42])])];
-                let device = device_of(alloc, bytes.as_slice())?;
-                let left = mount_again(&rt, alloc, device, &steps, End::Abandon);
-                assert_eq!(rt; left.opened, (version, 3u32));
+                let bytes = (old.as_slice(), new.as_slice());
+                mount_torn(&rt, alloc, &tools, bytes, crash, torn)?;
             }
         }
     }

@@ -1,13 +1,19 @@
 //! Devices that hold no volume, or a damaged one.
-use super::image_file::{META, bytes_of, changed_device, device_of};
-use super::{BLOCK, Device, End, Left, Step, mount_again, with_mounted, with_volume};
-use device::{Block, MemBlock, MemMeta, Meta};
-use geometry::{Error, Kind};
+use super::image_file::{META, bytes_of, changed, device_of};
+use super::play::{play, play_on_new, refuse};
+use super::script::Tools;
+use super::step::Act::Write;
+use super::step::Row;
+use super::step::Seen::{Done, Image, Is, Number, Version};
+use super::step::Step::{Base, Create, Has, On, Save};
+use super::waits::Gates;
+use super::{BLOCK, numbers};
+use flash_volume::{Error, Kind, Leave, Stage};
 use std::alloc::Global;
 use std::process::Abort;
 use std::sync::Wait;
 use std::test::*;
-use test_support::{Changes, base_file, change};
+use test_support::{Changes, base_file};
 
 // The last 4 bytes of the even pack, and of the odd one, which begins behind the even one.
 const EVEN_FOOTER: usize = 3_096;
@@ -16,138 +22,163 @@ pub(crate) const ODD: usize = 3_100;
 
 pub(crate) const ODD_FOOTER: usize = 6_132;
 
-// A volume with a checkpoint of version 2, after which its file was written again, and of version 3.
-pub(crate) fn with_two_packs<R: Wait + Abort>(
-    rt: &R,
-    alloc: Global,
-) -> Result<Left<MemMeta, MemBlock>, Error> {
-    let steps = [
-        Step::Create(Kind::File),
-        Step::Write(0, 0, &[0x31]),
-        Step::Sync,
-        Step::Write(0, 0, &[0x32, 0x33]),
-    ];
-    with_volume(rt, alloc, 4, &steps, End::Close)
-}
-
-// A mount of the device is refused with this error, and hands it back.
-pub(crate) fn refused<M: Meta, B: Block + Drop, R: Wait + Abort>(
-    rt: &R,
-    alloc: Global,
-    device: Device<M, B>,
-    wanted: Error,
-) -> Device<M, B> {
-    let size = (device.parts.meta.len(), device.parts.blocks.len());
-    match with_mounted(rt, alloc, device, &[], End::Close) {
-        Ok(_left) => panic!(rt; "not refused, in place of {wanted}"),
-        Err((back, error)) => {
-            assert!(rt; error == wanted, "{error} in place of {wanted}");
-            assert_eq!(rt; (back.parts.meta.len(), back.parts.blocks.len()), size);
-            back
-        }
-    }
-}
+/// A checkpoint of version 2, after which its file was written again, and closed, of version 3.
+pub(crate) const TWO_PACKS: [Row; 4] = [
+    (Create(Kind::File), Number(1)),
+    (On(0, Write(0, &[0x31])), Done),
+    (Save, Version(2)),
+    (On(0, Write(0, &[0x32, 0x33])), Done),
+];
 
 // A mount of the device of these bytes is refused, and hands each byte back.
 fn refuse_bytes<R: Wait + Abort>(
     rt: &R,
     alloc: Global,
+    tools: &Tools,
     file: &[u8],
     wanted: Error,
 ) -> Result<(), Error> {
-    let back = refused(rt, alloc, device_of(alloc, file)?, wanted);
-    assert!(rt; bytes_of(alloc, &back)?.as_slice() == file, "at {wanted}");
+    let parts = device_of(alloc, file)?;
+    let back = refuse(rt, alloc, parts, tools, &[], (Stage::Mount, wanted));
+    let bytes = bytes_of(alloc, &back.meta, back.blocks.as_slice())?;
+    assert!(rt; bytes.as_slice() == file, "at {wanted}");
     Ok(())
 }
 
 #[test]
 fn device_without_a_volume_is_refused(rt: HostRuntime) -> Result<(), Fail> {
     let alloc = rt.alloc();
+    let tools = Tools::new(alloc, Gates::open())?;
     let mut file = base_file(alloc)?;
     // The blocks of 24 segments behind the meta area of 32.
     file.truncate(META + 192 * BLOCK);
-    refuse_bytes(&rt, alloc, file.as_slice(), Error::BadImage(1))?;
+    refuse_bytes(&rt, alloc, &tools, file.as_slice(), Error::BadImage(1))?;
     file.truncate(63);
-    refuse_bytes(&rt, alloc, file.as_slice(), Error::BadGeometry)?;
+    refuse_bytes(&rt, alloc, &tools, file.as_slice(), Error::BadGeometry)?;
     file.clear();
     file.resize(META + 192 * BLOCK, 0)?;
-    refuse_bytes(&rt, alloc, file.as_slice(), Error::BadGeometry)?;
+    refuse_bytes(&rt, alloc, &tools, file.as_slice(), Error::BadGeometry)?;
     Ok(())
 }
+
+const DAMAGES: [(Changes<'static>, Error); 13] = [
+    (&[(0, b'f')], Error::BadGeometry),
+    // The superblock tells 33 segments.
+    (&[(16, 33)], Error::BadImage(1)),
+    (&[(EVEN_FOOTER, 0), (ODD_FOOTER, 0)], Error::NoPack),
+    // Log 0 is in segment 32, and then in that of log 1.
+    (&[(72, 0x20)], Error::BadImage(1)),
+    (&[(72, 0x01)], Error::BadImage(2)),
+    // The inode tells another number, and then it names a number that has no node.
+    (&[(6_688, 0x02)], Error::BadImage(3)),
+    (&[(6_668, 0x05)], Error::BadImage(4)),
+    // Number 5 has a node that nothing names.
+    (
+        &[
+            (3_188, 1),
+            (3_192, 0x0a),
+            (6_752, 5),
+            (6_756, 1),
+            (6_760, 1),
+        ],
+        Error::BadImage(5),
+    ),
+    // Two indexes have the same block.
+    (&[(6_660, 0x21)], Error::BadImage(6)),
+    // A block that is named is not marked, and one is marked that nothing names.
+    (&[(696, 0x02)], Error::BadImage(7)),
+    (&[(696, 0x07)], Error::BadImage(8)),
+    // A summary tells another slot, and a segment another count.
+    (&[(1_308, 0x01)], Error::BadImage(9)),
+    (&[(684, 0x01)], Error::BadImage(10)),
+];
+
+const TWO_BLOCKS: [Row; 2] = [
+    (Create(Kind::File), Number(1)),
+    (On(0, Write(0, &[0x41, 0x42])), Done),
+];
 
 #[test]
 fn damage_is_told_and_the_device_handed_back(rt: HostRuntime) -> Result<(), Fail> {
     let alloc = rt.alloc();
-    let rows: [(Changes, Error); 13] = [
-        (&[(0, b'f')], Error::BadGeometry),
-        // The superblock tells 33 segments.
-        (&[(16, 33)], Error::BadImage(1)),
-        (&[(EVEN_FOOTER, 0), (ODD_FOOTER, 0)], Error::NoPack),
-        // Log 0 is in segment 32, and then in that of log 1.
-        (&[(72, 0x20)], Error::BadImage(1)),
-        (&[(72, 0x01)], Error::BadImage(2)),
-        // The inode tells another number, and then it names a number that has no node.
-        (&[(6_688, 0x02)], Error::BadImage(3)),
-        (&[(6_668, 0x05)], Error::BadImage(4)),
-        // Number 5 has a node that nothing names.
-        (
-            &[
-                (3_188, 1),
-                (3_192, 0x0a),
-                (6_752, 5),
-                (6_756, 1),
-                (6_760, 1),
-            ],
-            Error::BadImage(5),
-        ),
-        // Two indexes have the same block.
-        (&[(6_660, 0x21)], Error::BadImage(6)),
-        // A block that is named is not marked, and one is marked that nothing names.
-        (&[(696, 0x02)], Error::BadImage(7)),
-        (&[(696, 0x07)], Error::BadImage(8)),
-        // A summary tells another slot, and a segment another count.
-        (&[(1_308, 0x01)], Error::BadImage(9)),
-        (&[(684, 0x01)], Error::BadImage(10)),
-    ];
+    let tools = Tools::new(alloc, Gates::open())?;
+    let file = base_file(alloc)?;
     // The bytes by hand are those that such a volume leaves.
-    let steps = [Step::Create(Kind::File), Step::Write(0, 0, &[0x41, 0x42])];
-    let closed = with_volume(&rt, alloc, 4, &steps, End::Close)?;
-    let bytes = bytes_of(alloc, &closed.device)?;
-    assert!(rt; bytes.as_slice() == base_file(alloc)?.as_slice());
-    for (changes, error) in rows {
-        let mut file = base_file(alloc)?;
-        change(file.as_mut_slice(), changes);
-        refuse_bytes(&rt, alloc, file.as_slice(), error)?;
+    let geometry = numbers(32, 4, 64)?;
+    let closed = play_on_new(&rt, alloc, geometry, Leave::Close, &tools, &TWO_BLOCKS)?;
+    let bytes = bytes_of(alloc, &closed.meta, closed.blocks.as_slice())?;
+    assert!(rt; bytes.as_slice() == file.as_slice());
+    for (changes, error) in DAMAGES {
+        refuse_changed(&rt, alloc, &tools, file.as_slice(), changes, error)?;
     }
+    Ok(())
+}
+
+// The same of these bytes with some changes.
+fn refuse_changed<R: Wait + Abort>(
+    rt: &R,
+    alloc: Global,
+    tools: &Tools,
+    file: &[u8],
+    changes: Changes,
+    wanted: Error,
+) -> Result<(), Error> {
+    let bytes = changed(alloc, file, changes)?;
+    refuse_bytes(rt, alloc, tools, bytes.as_slice(), wanted)
+}
+
+// The packs of which the newer one is torn. Version 1 has no file.
+const TORN: [Changes<'static>; 4] = [
+    &[(EVEN_FOOTER, 0)],
+    &[(EVEN_FOOTER, 9)],
+    &[(64, 9)],
+    &[(64, 3), (EVEN_FOOTER, 3)],
+];
+
+const TORN_ODD: [Changes<'static>; 3] = [&[(ODD_FOOTER, 0)], &[(ODD_FOOTER, 9)], &[(ODD, 9)]];
+
+const FIRST_VERSION: [Row; 2] = [(Base, Image(1, 0)), (Has(&[]), Is(true))];
+
+const AFTER_FIRST: [Row; 1] = [(Base, Image(2, 0))];
+
+const SECOND_VERSION: [Row; 2] = [(Base, Image(2, 2)), (Has(&[(1, &[0x31])]), Is(true))];
+
+const AFTER_SECOND: [Row; 1] = [(Base, Image(3, 2))];
+
+const BOTH_VERSIONS: [Row; 1] = [(Base, Image(3, 3))];
+
+// A device of these bytes with some changes is mounted twice.
+fn mount_torn<R: Wait + Abort>(
+    rt: &R,
+    alloc: Global,
+    tools: &Tools,
+    file: &[u8],
+    changes: Changes,
+    rows: (&[Row], &[Row]),
+) -> Result<(), Error> {
+    let torn = changed(alloc, file, changes)?;
+    let parts = device_of(alloc, torn.as_slice())?;
+    let parts = play(rt, alloc, parts, Leave::Close, tools, rows.0);
+    let _parts = play(rt, alloc, parts, Leave::Close, tools, rows.1);
     Ok(())
 }
 
 #[test]
 fn torn_pack_gives_way_to_the_older_one(rt: HostRuntime) -> Result<(), Fail> {
     let alloc = rt.alloc();
-    // Version 1 has no file.
-    let rows: [Changes; 4] = [
-        &[(EVEN_FOOTER, 0)],
-        &[(EVEN_FOOTER, 9)],
-        &[(64, 9)],
-        &[(64, 3), (EVEN_FOOTER, 3)],
-    ];
+    let tools = Tools::new(alloc, Gates::open())?;
     let file = base_file(alloc)?;
-    for changes in rows {
-        let torn = changed_device(alloc, file.as_slice(), changes)?;
-        let left = mount_again(&rt, alloc, torn, &[Step::Has(&[])], End::Close);
-        assert_eq!(rt; left.opened, (1u32, 0u32));
-        assert_eq!(rt; left.written, (2u32, 0u32));
+    for changes in TORN {
+        let rows: (&[Row], &[Row]) = (&FIRST_VERSION, &AFTER_FIRST);
+        mount_torn(&rt, alloc, &tools, file.as_slice(), changes, rows)?;
     }
-    let first = with_two_packs(&rt, alloc)?;
-    assert_eq!(rt; first.written, (3u32, 3u32));
-    let file = bytes_of(alloc, &first.device)?;
-    for (at, byte) in [(ODD_FOOTER, 0), (ODD_FOOTER, 9), (ODD, 9)] {
-        let torn = changed_device(alloc, file.as_slice(), &[(at, byte)])?;
-        let steps = [Step::Has(&[(1, &[0x31])])];
-        let second = mount_again(&rt, alloc, torn, &steps, End::Close);
-        assert_eq!(rt; second.opened, (2u32, 2u32), "at {at}");
-        assert_eq!(rt; second.written, (3u32, 2u32), "at {at}");
+    let geometry = numbers(32, 4, 64)?;
+    let parts = play_on_new(&rt, alloc, geometry, Leave::Close, &tools, &TWO_PACKS)?;
+    let first = play(&rt, alloc, parts, Leave::Discard, &tools, &BOTH_VERSIONS);
+    let file = bytes_of(alloc, &first.meta, first.blocks.as_slice())?;
+    for changes in TORN_ODD {
+        let rows: (&[Row], &[Row]) = (&SECOND_VERSION, &AFTER_SECOND);
+        mount_torn(&rt, alloc, &tools, file.as_slice(), changes, rows)?;
     }
     Ok(())
 }

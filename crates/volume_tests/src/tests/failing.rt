@@ -1,13 +1,21 @@
 //! A device of which a call fails while it is mounted, or while a checkpoint is written.
 ghost use Rattle.std.specs.Prelude.{◌≡◌, ◌+◌, map, IfErr, IfOk, OnOk};
+ghost use Rattle.device.specs.Parts.{IsBlockRun};
 
-use super::damage::refused;
 use super::image_file::device_of;
-use super::{Device, End, Step, mount_again};
-use device::{Block, DeviceError, Faulty, Fuse, MemBlock, MemMeta, Meta, Parts};
-use geometry::Error;
+use super::play::{play, refuse};
+use super::script::Tools;
+use super::step::Act::Write;
+use super::step::Row;
+use super::step::Seen::{Done, Image, Is, Refused, Version};
+use super::step::Step::{Base, Has, On, Save, Use};
+use super::step::Tool::Arm;
+use super::waits::Gates;
+use device::{Faulty, Fuse};
+use flash_volume::{Block, DeviceError, Error, Leave, MemBlock, MemMeta, Meta, Parts, Stage};
 use std::alloc::{AllocError, Global};
-use std::sync::Arc;
+use std::process::Abort;
+use std::sync::{Arc, Wait};
 use std::test::*;
 use test_support::base_file;
 
@@ -119,7 +127,7 @@ impl<B: Block> Block for Failing<B> {
     }
 }
 
-type FailingDevice = Device<Failing<MemMeta>, Failing<MemBlock>>;
+type FailingParts = Parts<Failing<MemMeta>, Failing<MemBlock>>;
 
 // Blocks all calls of which one fuse counts.
 fn wrap(
@@ -139,74 +147,110 @@ fn wrap(
 // A device all calls of which one fuse counts.
 fn with_fuse(
     alloc: Global,
-    device: Device<MemMeta, MemBlock>,
+    parts: Parts<MemMeta, MemBlock>,
     fuse: &Arc<Fuse>,
-) -> Result<FailingDevice, AllocError> {
-    let Device { parts } = device;
+) -> Result<FailingParts, AllocError>
+    requires { IsBlockRun ⟦<MemBlock as Block>⟧.address_of ⟦<MemBlock as Block>⟧.content_of 64 1 parts.blocks.items }
+    ensures { IfOk result (λ failing. IsBlockRun ⟦<Failing<MemBlock> as Block>⟧.address_of ⟦<Failing<MemBlock> as Block>⟧.content_of 64 1 failing.blocks.items) }
+{
     let Parts { meta, blocks } = parts;
     let meta = Failing::new(meta, fuse)?;
     let blocks = wrap(alloc, blocks, fuse)?;
-    Ok(Device {
-        parts: Parts { meta, blocks },
-    })
+    Ok(Parts { meta, blocks })
 }
 
 // How often a device has failed.
-fn failures_of(device: &FailingDevice) -> u64 {
-    let mut count = device.parts.meta.failures();
-    for block in &device.parts.blocks {
+fn failures_of(parts: &FailingParts) -> u64 {
+    let mut count = parts.meta.failures();
+    for block in &parts.blocks {
         count = count.saturating_add(block.failures());
     }
     count
 }
 
+const OPENED: [Row; 2] = [(Base, Image(2, 3)), (Has(&[(1, &[0x41, 0x42])]), Is(true))];
+
+// The node is written first: that this fails wounds nothing.
+const NODE_FAILS: [Row; 7] = [
+    (Base, Image(2, 3)),
+    (Has(&[(1, &[0x41, 0x42])]), Is(true)),
+    (On(0, Write(0, &[0x43])), Done),
+    (Use(Arm(1, false)), Done),
+    (Save, Refused(Error::Device)),
+    (On(0, Write(2, &[0x44])), Done),
+    (Save, Version(3)),
+];
+
+const CLOSED: [Row; 2] = [
+    (Base, Image(4, 4)),
+    (Has(&[(1, &[0x43, 0x42, 0x44])]), Is(true)),
+];
+
+// A mount whose call of this number fails is refused, and the next one passes.
+fn fail_one<R: Wait + Abort>(
+    rt: &R,
+    alloc: Global,
+    tools: &Tools,
+    file: &[u8],
+    nth: u32,
+) -> Result<(), Error> {
+    let parts = with_fuse(alloc, device_of(alloc, file)?, &tools.fuse)?;
+    tools.fuse.arm(nth, false)?;
+    let parts = refuse(rt, alloc, parts, tools, &[], (Stage::Mount, Error::Device));
+    assert_eq!(rt; failures_of(&parts), 1u64, "at {nth}");
+    let parts = play(rt, alloc, parts, Leave::Discard, tools, &OPENED);
+    assert_eq!(rt; failures_of(&parts), 1u64, "at {nth}");
+    Ok(())
+}
+
+// The superblock is read, the first block lent for its length, and the area synced; then the first and the last number of each
+// pack are read, the body that counts, and the block of the one node. Each of them fails in turn.
 #[test]
 fn mount_passes_once_the_device_does_not_fail(rt: HostRuntime) -> Result<(), Fail> {
     let alloc = rt.alloc();
-    let fuse = Arc::new(alloc, Fuse::new(alloc))?;
+    let tools = Tools::new(alloc, Gates::open())?;
     let file = base_file(alloc)?;
-    let mut device = with_fuse(alloc, device_of(alloc, file.as_slice())?, &fuse)?;
-    // The superblock is read, the first block lent for its length, and the area synced; then the first and the last number of
-    // each pack are read, the body that counts, and the block of the one node.
     for nth in 1..10u32 {
-        assert!(rt; fuse.arm(nth, false).is_ok());
-        device = refused(&rt, alloc, device, Error::Device);
-        assert!(rt; failures_of(&device) == u64::from(nth), "at {nth}");
+        fail_one(&rt, alloc, &tools, file.as_slice(), nth)?;
     }
-    let files: [(u32, &[u8]); 1] = [(1, &[0x41, 0x42])];
-    let steps = [
-        Step::Has(&files),
-        Step::Write(0, 0, &[0x43]),
-        // The node is written first: that this fails wounds nothing.
-        Step::Fail(&fuse),
-        Step::NoSync(Error::Device),
-        Step::Write(0, 2, &[0x44]),
-        Step::Sync,
-    ];
-    let second = mount_again(&rt, alloc, device, &steps, End::Close);
-    assert_eq!(rt;
-        (second.opened, second.written),
-        ((2u32, 3u32), (4u32, 4u32))
-    );
-    assert_eq!(rt; failures_of(&second.device), 10u64);
-    let files: [(u32, &[u8]); 1] = [(1, &[0x43, 0x42, 0x44])];
-    let third = mount_again(&rt, alloc, second.device, &[Step::Has(&files)], End::Close);
-    assert_eq!(rt; third.opened, (4u32, 4u32));
+    let parts = with_fuse(alloc, device_of(alloc, file.as_slice())?, &tools.fuse)?;
+    let parts = play(&rt, alloc, parts, Leave::Close, &tools, &NODE_FAILS);
+    assert_eq!(rt; failures_of(&parts), 1u64);
+    let _parts = play(&rt, alloc, parts, Leave::Close, &tools, &CLOSED);
     Ok(())
 }
+
+// The nodes are written by the checkpoint, so the next call of the device is the pack's.
+const CLOSE_FAILS: [Row; 3] = [
+    (On(0, Write(0, &[0x43])), Done),
+    (Save, Version(3)),
+    (Use(Arm(1, false)), Done),
+];
+
+// Nothing is changed any more then, and the file can be read.
+const SYNC_FAILS: [Row; 6] = [
+    (Base, Image(3, 3)),
+    (Use(Arm(1, false)), Done),
+    (Save, Refused(Error::Device)),
+    (On(0, Write(0, &[0x51])), Refused(Error::Wounded)),
+    (Save, Refused(Error::Wounded)),
+    (Has(&[(1, &[0x43, 0x42])]), Is(true)),
+];
+
+const FIRST_SYNC: [Row; 2] = [(Base, Image(3, 3)), (Has(&[(1, &[0x43, 0x42])]), Is(true))];
 
 // What was written behind the last checkpoint is lost with the pack.
 #[test]
 fn volume_is_wounded_by_a_close_that_writes_no_pack(rt: HostRuntime) -> Result<(), Fail> {
     let alloc = rt.alloc();
-    let fuse = Arc::new(alloc, Fuse::new(alloc))?;
+    let tools = Tools::new(alloc, Gates::open())?;
     let file = base_file(alloc)?;
-    let device = with_fuse(alloc, device_of(alloc, file.as_slice())?, &fuse)?;
-    // The nodes are written by the checkpoint, so the next call of the device is the pack's.
-    let steps = [Step::Write(0, 0, &[0x43]), Step::Sync, Step::Fail(&fuse)];
-    let left = mount_again(&rt, alloc, device, &steps, End::Wounded);
-    let files: [(u32, &[u8]); 1] = [(1, &[0x43, 0x42])];
-    let again = mount_again(&rt, alloc, left.device, &[Step::Has(&files)], End::Close);
-    assert_eq!(rt; again.opened, (3u32, 3u32));
+    let parts = with_fuse(alloc, device_of(alloc, file.as_slice())?, &tools.fuse)?;
+    let failed = (Stage::Close, Error::Device);
+    let parts = refuse(&rt, alloc, parts, &tools, &CLOSE_FAILS, failed);
+    let parts = play(&rt, alloc, parts, Leave::Discard, &tools, &SYNC_FAILS);
+    let wounded = (Stage::Close, Error::Wounded);
+    let parts = refuse(&rt, alloc, parts, &tools, &SYNC_FAILS, wounded);
+    let _parts = play(&rt, alloc, parts, Leave::Close, &tools, &FIRST_SYNC);
     Ok(())
 }

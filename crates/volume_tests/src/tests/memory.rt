@@ -1,29 +1,50 @@
 //! A mount that finds no memory: so it is where a run refuses one growth, as `rt try --test --fail-alloc N` does. Else it finds all.
 use super::image_file::{bytes_of, device_of};
-use super::{End, mount_again, with_mounted};
-use geometry::Error;
+use super::play::{assert_shown, play};
+use super::script::{Script, Tools};
+use super::step::Row;
+use super::step::Seen::Image;
+use super::step::Step::Base;
+use super::waits::Gates;
+use flash_volume::{Done, Error, Leave, Stage, work_on};
 use std::test::*;
 use test_support::base_file;
+
+const OPENED: [Row; 1] = [(Base, Image(2, 3))];
 
 // A mount that finds no memory hands each byte back, and a second one then finds the volume. Where there is no memory for the
 // device the test ends.
 #[test]
 fn mount_without_memory_hands_the_device_back(rt: HostRuntime) -> Result<(), Fail> {
     let alloc = rt.alloc();
+    let Ok(tools) = Tools::new(alloc, Gates::open()) else {
+        return Ok(());
+    };
     let Ok(file) = base_file(alloc) else {
         return Ok(());
     };
-    let Ok(device) = device_of(alloc, file.as_slice()) else {
+    let Ok(parts) = device_of(alloc, file.as_slice()) else {
         return Ok(());
     };
-    let left = match with_mounted(&rt, alloc, device, &[], End::Abandon) {
-        Ok(left) => left,
-        Err((back, error)) => {
-            assert!(rt; error == Error::NoMemory, "{error}");
-            assert!(rt; bytes_of(alloc, &back)?.as_slice() == file.as_slice());
-            mount_again(&rt, alloc, back, &[], End::Abandon)
-        }
+    let work = Script {
+        rows: &OPENED,
+        tools: &tools,
     };
-    assert_eq!(rt; left.opened, (2u32, 3u32));
+    match work_on(&rt, alloc, parts, Leave::Discard, work) {
+        Ok(done) => {
+            let Done { parts: _, output } = done;
+            assert_shown(&rt, output);
+        }
+        Err(fault) => {
+            assert!(rt;
+                (fault.stage, fault.error) == (Stage::Mount, Error::NoMemory),
+                "{}",
+                fault.error
+            );
+            let back = bytes_of(alloc, &fault.parts.meta, fault.parts.blocks.as_slice())?;
+            assert!(rt; back.as_slice() == file.as_slice());
+            let _parts = play(&rt, alloc, fault.parts, Leave::Discard, &tools, &OPENED);
+        }
+    }
     Ok(())
 }

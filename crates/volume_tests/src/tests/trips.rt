@@ -1,8 +1,15 @@
 //! Volumes that are closed and mounted again.
-use super::damage::{ODD, ODD_FOOTER, with_two_packs};
+use super::damage::{ODD, ODD_FOOTER, TWO_PACKS};
 use super::image_file::{bytes_of, device_of};
-use super::{End, Step, mount_again, with_volume};
-use geometry::{Error, Kind};
+use super::numbers;
+use super::play::{play, play_on_new, refuse};
+use super::script::Tools;
+use super::step::Act::{Cut, Write};
+use super::step::Row;
+use super::step::Seen::{Cleaned, Done, Image, Is, Number, Refused, Version};
+use super::step::Step::{Base, Clean, Create, Delete, Has, On, Save, SaveTwice};
+use super::waits::Gates;
+use flash_volume::{Error, Kind, Leave, Stage};
 use std::test::*;
 use test_support::{Changes, change, file_of_format_one};
 
@@ -13,65 +20,81 @@ const DEEP: [u8; 24] = [
 
 const SIX: [u8; 6] = [0x21, 0x22, 0x23, 0x24, 0x25, 0x26];
 
+const THREE_FILES: [Row; 10] = [
+    (Base, Image(1, 0)),
+    (Create(Kind::File), Number(1)),
+    (Create(Kind::Dir), Number(2)),
+    (Create(Kind::Media), Number(3)),
+    (On(0, Write(0, &[0x11, 0x12, 0x13, 0x14, 0x15])), Done),
+    (On(1, Write(0, &SIX)), Done),
+    (On(2, Write(0, &SIX)), Done),
+    (On(0, Write(23, &[0x1f])), Done),
+    (On(1, Cut(3)), Done),
+    (Delete(2), Done),
+];
+
+// The first file has 6 blocks and 4 nodes, and the second one 3 and 1. The number of the deleted file is free.
+const TWO_LEFT: [Row; 4] = [
+    (Base, Image(2, 14)),
+    (Has(&[(1, &DEEP), (2, &[0x21, 0x22, 0x23])]), Is(true)),
+    (Create(Kind::File), Number(3)),
+    (
+        Has(&[(1, &DEEP), (2, &[0x21, 0x22, 0x23]), (3, &[])]),
+        Is(true),
+    ),
+];
+
+// The new file has an inode.
+const THREE_AGAIN: [Row; 1] = [(Base, Image(3, 15))];
+
 #[test]
 fn closed_files_are_mounted_again(rt: HostRuntime) -> Result<(), Fail> {
     let alloc = rt.alloc();
-    let steps = [
-        Step::Create(Kind::File),
-        Step::Create(Kind::Dir),
-        Step::Create(Kind::Media),
-        Step::Write(0, 0, &DEEP[..5]),
-        Step::Write(1, 0, &SIX),
-        Step::Write(2, 0, &SIX),
-        Step::Write(0, 23, &DEEP[23..]),
-        Step::Cut(1, 3),
-        Step::DeleteLast,
-    ];
-    let first = with_volume(&rt, alloc, 4, &steps, End::Close)?;
-    // The first file has 6 blocks and 4 nodes, and the second one 3 and 1.
-    assert_eq!(rt; first.opened, (1u32, 0u32));
-    assert_eq!(rt; first.written, (2u32, 14u32));
-    let steps = [
-        Step::Has(&[(1, &DEEP), (2, &SIX[..3])]),
-        // The number of the deleted file is free.
-        Step::Create(Kind::File),
-        Step::Has(&[(1, &DEEP), (2, &SIX[..3]), (3, &[])]),
-    ];
-    let second = mount_again(&rt, alloc, first.device, &steps, End::Close);
-    assert_eq!(rt; second.opened, (2u32, 14u32));
-    // The new file has an inode.
-    assert_eq!(rt; second.written, (3u32, 15u32));
+    let tools = Tools::new(alloc, Gates::open())?;
+    let geometry = numbers(32, 4, 64)?;
+    let parts = play_on_new(&rt, alloc, geometry, Leave::Close, &tools, &THREE_FILES)?;
+    let parts = play(&rt, alloc, parts, Leave::Close, &tools, &TWO_LEFT);
+    let _parts = play(&rt, alloc, parts, Leave::Close, &tools, &THREE_AGAIN);
     Ok(())
 }
+
+// Eight blocks fill the segment of their log. Six are overwritten, the other two are moved, and one of them is overwritten.
+const MOVED: [Row; 5] = [
+    (Create(Kind::File), Number(1)),
+    (On(0, Write(0, &[1, 2, 3, 4, 5, 6, 7, 8])), Done),
+    (On(0, Write(0, &SIX)), Done),
+    (Clean, Cleaned(Some(4), 2, 0)),
+    (On(0, Write(7, &[9])), Done),
+];
+
+// 8 blocks and 2 nodes. Of the segment that is full then, the blocks at 0, 1 and 7 are valid.
+const MOVED_AGAIN: [Row; 5] = [
+    (Base, Image(2, 10)),
+    (
+        Has(&[(1, &[0x21, 0x22, 0x23, 0x24, 0x25, 0x26, 7, 9])]),
+        Is(true),
+    ),
+    (On(0, Write(1, &SIX)), Done),
+    (Clean, Cleaned(Some(10), 3, 0)),
+    (On(0, Write(7, &[10])), Done),
+];
+
+const MOVED_TWICE: [Row; 2] = [
+    (Base, Image(3, 10)),
+    (
+        Has(&[(1, &[0x21, 0x21, 0x22, 0x23, 0x24, 0x25, 0x26, 10])]),
+        Is(true),
+    ),
+];
 
 #[test]
 fn moved_blocks_are_mounted_again(rt: HostRuntime) -> Result<(), Fail> {
     let alloc = rt.alloc();
-    // Eight blocks fill the segment of their log. Six are overwritten, the other two are moved, and one of them is overwritten.
-    let steps = [
-        Step::Create(Kind::File),
-        Step::Write(0, 0, &[1, 2, 3, 4, 5, 6, 7, 8]),
-        Step::Write(0, 0, &SIX),
-        Step::Clean(2),
-        Step::Write(0, 7, &[9]),
-    ];
-    let first = with_volume(&rt, alloc, 4, &steps, End::Close)?;
-    // 8 blocks and 2 nodes.
-    assert_eq!(rt; first.written, (2u32, 10u32));
-    let steps = [
-        Step::Has(&[(1, &[0x21, 0x22, 0x23, 0x24, 0x25, 0x26, 7, 9])]),
-        Step::Write(0, 1, &SIX),
-        // Of the segment that is full now, the blocks at 0, 1 and 7 are valid.
-        Step::Clean(3),
-        Step::Write(0, 7, &[10]),
-    ];
-    let second = mount_again(&rt, alloc, first.device, &steps, End::Close);
-    assert_eq!(rt; second.opened, (2u32, 10u32));
-    assert_eq!(rt; second.written, (3u32, 10u32));
-    let blocks = [0x21, 0x21, 0x22, 0x23, 0x24, 0x25, 0x26, 10];
-    let steps = [Step::Has(&[(1, &blocks)])];
-    let third = mount_again(&rt, alloc, second.device, &steps, End::Close);
-    assert_eq!(rt; third.opened, (3u32, 10u32));
+    let tools = Tools::new(alloc, Gates::open())?;
+    let geometry = numbers(32, 4, 64)?;
+    let parts = play_on_new(&rt, alloc, geometry, Leave::Close, &tools, &MOVED)?;
+    let parts = play(&rt, alloc, parts, Leave::Close, &tools, &MOVED_AGAIN);
+    let _parts = play(&rt, alloc, parts, Leave::Close, &tools, &MOVED_TWICE);
     Ok(())
 }
 
@@ -93,62 +116,87 @@ const FIRST_IN_PARTS: [(usize, u8); 11] = [
 // The one after it finds each part in its own slot.
 const SECOND_IN_PARTS: [(usize, u8); 3] = [(48, 2), (ODD, 5), (ODD_FOOTER, 5)];
 
+const THIRD_VERSION: [Row; 3] = [
+    (Base, Image(3, 2)),
+    (Has(&[(1, &[0x41])]), Is(true)),
+    (Save, Version(4)),
+];
+
+const FOURTH_VERSION: [Row; 3] = [
+    (Base, Image(4, 2)),
+    (Has(&[(1, &[0x41])]), Is(true)),
+    (Save, Version(5)),
+];
+
 // A volume whose packs were written whole is mounted. Its checkpoints copy nothing: only the two maps and the versions change.
 #[test]
 fn volume_of_format_one_goes_on_in_parts(rt: HostRuntime) -> Result<(), Fail> {
     let alloc = rt.alloc();
+    let tools = Tools::new(alloc, Gates::open())?;
     let mut file = file_of_format_one(alloc)?;
-    let mut device = device_of(alloc, file.as_slice())?;
-    let rows: [(u32, Changes); 2] = [(3, &FIRST_IN_PARTS), (4, &SECOND_IN_PARTS)];
-    for (version, changes) in rows {
-        let steps = [Step::Has(&[(1, &[0x41])]), Step::Sync];
-        let left = mount_again(&rt, alloc, device, &steps, End::Abandon);
-        assert_eq!(rt; left.opened, (version, 2u32));
+    let turns: [(&[Row], Changes); 2] = [
+        (&THIRD_VERSION, &FIRST_IN_PARTS),
+        (&FOURTH_VERSION, &SECOND_IN_PARTS),
+    ];
+    for (rows, changes) in turns {
+        let parts = device_of(alloc, file.as_slice())?;
+        let left = play(&rt, alloc, parts, Leave::Discard, &tools, rows);
         change(file.as_mut_slice(), changes);
-        assert!(rt; bytes_of(alloc, &left.device)?.as_slice() == file.as_slice());
-        device = left.device;
+        let bytes = bytes_of(alloc, &left.meta, left.blocks.as_slice())?;
+        assert!(rt; bytes.as_slice() == file.as_slice());
     }
     Ok(())
 }
 
-// What is written behind the last checkpoint is lost where the volume is abandoned.
+const THREE_TIMES: [Row; 6] = [
+    (Create(Kind::File), Number(1)),
+    (On(0, Write(0, &[0x31])), Done),
+    (Save, Version(2)),
+    (On(0, Write(1, &[0x32])), Done),
+    (SaveTwice(0), Version(3)),
+    (On(0, Write(0, &[0x33, 0x34, 0x35])), Done),
+];
+
+const SECOND_TIME: [Row; 2] = [(Base, Image(3, 3)), (Has(&[(1, &[0x31, 0x32])]), Is(true))];
+
+// What is written behind the last checkpoint is lost where the volume is given up.
 #[test]
 fn image_of_the_last_checkpoint_is_mounted(rt: HostRuntime) -> Result<(), Fail> {
     let alloc = rt.alloc();
-    let steps = [
-        Step::Create(Kind::File),
-        Step::Write(0, 0, &[0x31]),
-        Step::Sync,
-        Step::Write(0, 1, &[0x32]),
-        Step::SyncTwice(0),
-        Step::Write(0, 0, &[0x33, 0x34, 0x35]),
-    ];
-    let first = with_volume(&rt, alloc, 4, &steps, End::Abandon)?;
-    let steps = [Step::Has(&[(1, &[0x31, 0x32])])];
-    let second = mount_again(&rt, alloc, first.device, &steps, End::Close);
-    assert_eq!(rt; second.opened, (3u32, 3u32));
+    let tools = Tools::new(alloc, Gates::open())?;
+    let geometry = numbers(32, 4, 64)?;
+    let parts = play_on_new(&rt, alloc, geometry, Leave::Discard, &tools, &THREE_TIMES)?;
+    let _parts = play(&rt, alloc, parts, Leave::Close, &tools, &SECOND_TIME);
     Ok(())
 }
+
+const LARGEST: [Row; 4] = [
+    (Base, Image(u32::MAX, 3)),
+    (Save, Refused(Error::Exhausted)),
+    (Has(&[(1, &[0x32, 0x33])]), Is(true)),
+    (Save, Refused(Error::Exhausted)),
+];
 
 // No version follows 4294967295: nothing is written, and the files stay.
 #[test]
 fn volume_of_the_largest_version_is_mounted_and_abandoned(rt: HostRuntime) -> Result<(), Fail> {
     let alloc = rt.alloc();
-    let first = with_two_packs(&rt, alloc)?;
-    let mut file = bytes_of(alloc, &first.device)?;
+    let tools = Tools::new(alloc, Gates::open())?;
+    let geometry = numbers(32, 4, 64)?;
+    let first = play_on_new(&rt, alloc, geometry, Leave::Close, &tools, &TWO_PACKS)?;
+    let mut file = bytes_of(alloc, &first.meta, first.blocks.as_slice())?;
     for byte in 0..4usize {
         change(
             file.as_mut_slice(),
             &[(ODD + byte, 0xff), (ODD_FOOTER + byte, 0xff)],
         );
     }
-    let device = device_of(alloc, file.as_slice())?;
-    let files: [(u32, &[u8]); 1] = [(1, &[0x32, 0x33])];
-    let steps = [Step::NoSync(Error::Exhausted), Step::Has(&files)];
-    let second = mount_again(&rt, alloc, device, &steps, End::Exhausted);
-    assert_eq!(rt; second.opened, (u32::MAX, 3u32));
-    let steps = [Step::Has(&files)];
-    let third = mount_again(&rt, alloc, second.device, &steps, End::Abandon);
-    assert_eq!(rt; third.opened, (u32::MAX, 3u32));
+    let parts = device_of(alloc, file.as_slice())?;
+    let parts = play(&rt, alloc, parts, Leave::Discard, &tools, &LARGEST);
+    let exhausted = (Stage::Close, Error::Exhausted);
+    let parts = refuse(&rt, alloc, parts, &tools, &LARGEST, exhausted);
+    let parts = play(&rt, alloc, parts, Leave::Discard, &tools, &LARGEST);
+    let back = bytes_of(alloc, &parts.meta, parts.blocks.as_slice())?;
+    assert!(rt; back.as_slice() == file.as_slice());
     Ok(())
 }

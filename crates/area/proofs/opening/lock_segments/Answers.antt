@@ -1,5 +1,5 @@
 use Rattle.std.proofs.Common.{◌≡◌, ◌-◌, ◌∷◌, [], length, subst, arith, rules}
-use Rattle.sums.proofs.Indexing.{each_front, each_last}
+use Rattle.geometry.proofs.Indexing.{each_front, each_last}
 use Rattle.area.specs.Cells.{IsSegmentOf}
 use Rattle.area.specs.Opening.{SegmentsFall}
 use Rattle.area.proofs.opening.lock_segments.Goals as goal

@@ -1,8 +1,8 @@
 -- What is not put yet stands where kept slips stand, so each turn takes one away from there and puts it.
 use Rattle.std.proofs.Common.{◌≡◌, ℕ, ◌≤◌, [], ◌∷◌, ◌++◌, length, sym, ap, subst, ◌∙◌, ⊎_elim, arith}
 use Rattle.std.proofs.lemmas.List.{length-append}
-use Rattle.sums.proofs.Indexing.{each_front}
-use Rattle.sums.proofs.Weighing.{weigh-append}
+use Rattle.geometry.proofs.Indexing.{each_front}
+use Rattle.geometry.proofs.Weighing.{weigh-append}
 use Rattle.rights_books.proofs.Learning.{weigh_ones}
 use Rattle.words.specs.Tokens.{FreeSegment}
 use Rattle.pool.specs.Law.{all_parts}

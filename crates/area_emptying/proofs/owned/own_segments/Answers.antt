@@ -1,5 +1,5 @@
 use Rattle.std.proofs.Common.{List, length, ap, sym, subst, ◌∙◌, arith, rules}
-use Rattle.sums.proofs.Indexing.{each_push}
+use Rattle.geometry.proofs.Indexing.{each_push}
 use Rattle.sit.specs.Registered.{Registered}
 use Rattle.area.specs.Cells.{IsSegmentOf}
 use Rattle.area_emptying.specs.Rows.{AreSegments}

@@ -2,7 +2,7 @@
 -- learned once, and the books can settle the audit.
 use Rattle.std.proofs.Common.{◌≡◌, ℕ, map, refl, ap, arith}
 use Rattle.std.proofs.lemmas.List.{length-map}
-use Rattle.sums.specs.Weights.{weigh}
+use Rattle.geometry.specs.Weights.{weigh}
 use Rattle.rights_books.specs.Weights.{segment_copy, file_copy, shard_copy, marks_copied, tickets_copied, taken_copied, tokens_copied}
 use Rattle.rights_books.specs.Accounts.{CensusView}
 use Rattle.rights_books.specs.declared.claim.Copied.{Copied}

@@ -1,5 +1,5 @@
 use Rattle.std.proofs.Common.{◌≡◌, take, map}
-use Rattle.sums.specs.Weights.{weigh}
+use Rattle.geometry.specs.Weights.{weigh}
 use Rattle.rights_books.specs.Weights.{shard_copy, past}
 use Rattle.checkpoint_image.specs.Learning.{HaveLearnedShards}
 use Rattle.checkpoint_image.proofs.shards.learn_shards.Given as goal

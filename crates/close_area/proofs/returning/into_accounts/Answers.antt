@@ -1,7 +1,7 @@
 -- The list is turned round and popped, so the accounts come in the order of their numbers; no file lives, so each
 -- account has nothing.
 use Rattle.std.proofs.Common.{◌≡◌, ◌+◌, ℕ, List, length, refl, ap, sym, subst, ◌∙◌, arith, vec_len}
-use Rattle.sums.proofs.Indexing.{EachAt}
+use Rattle.geometry.proofs.Indexing.{EachAt}
 use Rattle.area_emptying.specs.Rows.{HaveNothing, HasNothing}
 use Rattle.area_emptying.proofs.Nothing.{each_got}
 use Rattle.file_cells.specs.Cell.{CellView}

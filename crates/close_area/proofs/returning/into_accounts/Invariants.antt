@@ -1,5 +1,5 @@
 use Rattle.std.proofs.Common.{◌≡◌, ◌+◌, ◌≤◌, None, vec_len, vec_capacity}
-use Rattle.sums.proofs.Indexing.{EachAt}
+use Rattle.geometry.proofs.Indexing.{EachAt}
 use Rattle.area_emptying.specs.Rows.{HaveNothing}
 use Rattle.close_area.proofs.returning.into_accounts.Given as goal
 

@@ -1,6 +1,6 @@
 use Rattle.std.proofs.Common.{◌≡◌, ◌+◌, List, length, ap, sym, subst, ◌∙◌, arith}
-use Rattle.checkpoint_flush.specs.Held.{AreWritten}
-use Rattle.checkpoint_flush.proofs.Seen.{one_more}
+use Rattle.checkpoint_sync.specs.Held.{AreWritten}
+use Rattle.checkpoint_sync.proofs.Seen.{one_more}
 use Rattle.close_files.proofs.rows.own_files.Goals as goal
 
 pub files-preserved : goal.files-preserved

@@ -1,7 +1,7 @@
 -- Cut to nothing, the file has its inode's token alone; that is given back too, and in hand is left exactly what others
 -- have.
 use Rattle.std.proofs.Common.{◌<◌, refl, ap, sym, subst, ◌∙◌, arith}
-use Rattle.sums.specs.Weights.{weigh}
+use Rattle.geometry.specs.Weights.{weigh}
 use Rattle.rights_books.specs.Accounts.{HandView}
 use Rattle.rights_books.specs.declared.claim.Entry.{Entry}
 use Rattle.rights_books.specs.Lists.{times}

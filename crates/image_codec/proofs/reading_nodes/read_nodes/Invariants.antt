@@ -4,7 +4,7 @@ use Rattle.device.specs.Parts.{IsBlockRun}
 use Rattle.geometry.specs.Shape.{block_bytes}
 use Rattle.image.specs.Reading.{read_nodes}
 use Rattle.image.specs.View.{node_or_none}
-use Rattle.sums.specs.Weights.{weigh}
+use Rattle.geometry.specs.Weights.{weigh}
 use Rattle.image_codec.specs.Blocks.{bytes_at}
 use Rattle.image_codec.proofs.Unchanged.{AreSpelled}
 use Rattle.image_codec.proofs.reading_nodes.read_nodes.Given as goal

@@ -6,7 +6,7 @@ use Rattle.rights_books.specs.Accounts.{ShardView}
 use Rattle.nat.specs.Shard.{ShardNodes}
 use Rattle.nat.specs.Table.{IsShardAt}
 use Rattle.nat.proofs.Tables.{first_rest, next_rest}
-use Rattle.sums.proofs.Indexing.{each_push}
+use Rattle.geometry.proofs.Indexing.{each_push}
 use Rattle.mount.proofs.shards.new_shards.Goals as goal
 
 pub new-requires-clause-empty : goal.new-requires-clause-empty

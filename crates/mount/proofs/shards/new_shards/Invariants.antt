@@ -3,7 +3,7 @@ use Rattle.std.specs.Vec.Iter.{into_iter_items, into_iter_len}
 use Rattle.nat.specs.Shard.{ShardNodes}
 use Rattle.nat.specs.Table.{IsShardAt}
 use Rattle.nat.proofs.Tables.{AreRest}
-use Rattle.sums.proofs.Indexing.{EachAt}
+use Rattle.geometry.proofs.Indexing.{EachAt}
 use Rattle.mount.proofs.shards.new_shards.Given as goal
 
 abbrev pub invariant-accounts : goal.invariant-accounts

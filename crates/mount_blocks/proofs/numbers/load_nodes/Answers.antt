@@ -20,7 +20,7 @@ use Rattle.mount_trees.proofs.Stocks.{goes, is_there, token_mark}
 use Rattle.nat.specs.Shard.{ShardNodes}
 use Rattle.nat.specs.Table.{IsShardAt, all_taken}
 use Rattle.nat.specs.Taken.{entries_of}
-use Rattle.sums.specs.Weights.{weigh}
+use Rattle.geometry.specs.Weights.{weigh}
 use Rattle.tickets.specs.Placed.{Placed}
 use Rattle.mount_blocks.proofs.States.{same_some}
 use Rattle.mount_blocks.proofs.Tables.{comes, nothing_weighs}

@@ -7,7 +7,7 @@ use Rattle.mount_trees.specs.Goods.{in_place}
 use Rattle.nat.specs.Shard.{ShardNodes}
 use Rattle.nat.specs.Table.{all_taken}
 use Rattle.nat.specs.Taken.{entries_of}
-use Rattle.sums.specs.Weights.{weigh}
+use Rattle.geometry.specs.Weights.{weigh}
 use Rattle.tickets.specs.Placed.{Placed}
 use Rattle.mount_blocks.specs.Table.{AreTicketsPast}
 use Rattle.mount_blocks.specs.Goods.{AreShards}

@@ -9,7 +9,7 @@ use Rattle.geometry.specs.Shape.{segment_blocks}
 use Rattle.image.specs.View.{image_view}
 use Rattle.mount_trees.specs.Goods.{in_place}
 use Rattle.tickets.specs.Placed.{Placed}
-use Rattle.sums.specs.Weights.{weigh}
+use Rattle.geometry.specs.Weights.{weigh}
 use Rattle.rights_books.specs.Accounts.{SegmentView}
 use Rattle.words.specs.Tokens.{fresh_post, fresh_slip}
 use Rattle.sit.specs.Room.{RoomOf}

@@ -7,7 +7,7 @@ use Rattle.geometry.specs.Shape.{block_bytes, segment_blocks}
 use Rattle.image.specs.View.{image_view}
 use Rattle.mount_trees.specs.Goods.{in_place}
 use Rattle.tickets.specs.Placed.{Placed}
-use Rattle.sums.specs.Weights.{weigh}
+use Rattle.geometry.specs.Weights.{weigh}
 use Rattle.mount_blocks.specs.Rights.{AreRights}
 use Rattle.mount_blocks.specs.Table.{AreTicketsPast, HaveBytes}
 use Rattle.mount_blocks.specs.States.{AreSegmentsFrom}

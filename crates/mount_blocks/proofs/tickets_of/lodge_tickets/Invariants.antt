@@ -2,7 +2,7 @@ use Rattle.std.proofs.Common.{◌≡◌, ℕ, ◌+◌, length, take}
 use Rattle.geometry.specs.declared.owner.Mark.{Mark}
 use Rattle.image.specs.View.{image_view}
 use Rattle.mount_trees.specs.Goods.{in_place}
-use Rattle.sums.specs.Weights.{weigh}
+use Rattle.geometry.specs.Weights.{weigh}
 use Rattle.tickets.specs.Placed.{Placed}
 use Rattle.mount_blocks.specs.Lodging.{AreOfBook, Lodges, file_of, of_file, of_some}
 use Rattle.mount_blocks.proofs.tickets_of.lodge_tickets.Given as goal

@@ -1,8 +1,8 @@
 -- A turn lodges the token at the next place with the file of its inode: what is lodged so far is of the first places,
 -- and the hand has the tokens of the others still.
 use Rattle.std.proofs.Common.{◌≡◌, ℕ, ◌+◌, ◌<◌, length, get_or, take, if◌then◌else◌, Some, None, refl, sym, ap, subst, ◌∙◌, arith}
-use Rattle.sums.specs.Weights.{weigh}
-use Rattle.sums.proofs.Weighing.{weigh-take}
+use Rattle.geometry.specs.Weights.{weigh}
+use Rattle.geometry.proofs.Weighing.{weigh-take}
 use Rattle.rights_books.specs.Accounts.{HandView}
 use Rattle.rights_books.specs.declared.claim.Entry.{Entry}
 use Rattle.rights_books.specs.Sameness.{same_entry}

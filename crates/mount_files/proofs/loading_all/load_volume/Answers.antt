@@ -9,7 +9,7 @@ use Rattle.image.specs.View.{image_view}
 use Rattle.mount_trees.specs.Goods.{Shelves, in_place}
 use Rattle.mount_trees.specs.Loaded.{of_rights}
 use Rattle.nodes.specs.File.{weight_of}
-use Rattle.sums.specs.Weights.{weigh}
+use Rattle.geometry.specs.Weights.{weigh}
 use Rattle.tickets.specs.Placed.{Placed}
 use Rattle.mount_blocks.proofs.Rights.{bytes_of, have_own}
 use Rattle.mount_blocks.specs.Goods.{AreGoods}
@@ -111,28 +111,24 @@ pub returns-clause-lodged_tickets : goal.returns-clause-lodged_tickets
 returns-clause-lodged_tickets g c =
     let image = image_view c.args.image.now in
     let shelves : c.load_files.new.stock.all ≡ record { tickets = c.load_nodes.new.tickets.items; tokens = c.load_nodes.new.tokens.items } = c.load_files.ensures.all ∙ (c.of-stock.ensures.all ∙ (λ i. record { tickets = c.lodge_tickets.ensures.same i; tokens = c.load_nodes.new.tokens.items })) in
-    λ k other low h. (let one = c.lodge_tickets.ensures.lodged in
-    let two = c.lodge_tokens.ensures.lodged in
-    let here : k < length c.args.memory.accounts.items = let first = one.count in let second = two.count in omega arith in
-    let next : k < length c.lodge_tickets.new.accounts.items = let second = two.count in omega arith in
+    λ k other low h. (let here : k < length c.args.memory.accounts.items = omega (arith, c.lodge_tickets.ensures.lodged.count, c.lodge_tokens.ensures.lodged.count) in
+    let next : k < length c.lodge_tickets.new.accounts.items = omega (arith, c.lodge_tokens.ensures.lodged.count) in
     let was = c.requires.accounts k other here in
     let none = ap (λ (v : FileView). weigh h v.tickets) was in
-    let x = one.tickets_more k other here h in
-    let y = two.tickets_more k other next h in
+    let x = c.lodge_tickets.ensures.lodged.tickets_more k other here h in
+    let y = c.lodge_tokens.ensures.lodged.tickets_more k other next h in
     let z = ap (weigh (in_place (λ (t : Placed). of_file (k + 1) (file_of image t.mark.owner) (h t.mark)))) (ap (λ (s : Shelves Placed). s.tickets) shelves) in
     omega arith)
 
 pub returns-clause-lodged_tokens : goal.returns-clause-lodged_tokens
 returns-clause-lodged_tokens g c =
     let shelves : c.load_files.new.stock.all ≡ record { tickets = c.load_nodes.new.tickets.items; tokens = c.load_nodes.new.tokens.items } = c.load_files.ensures.all ∙ (c.of-stock.ensures.all ∙ (λ i. record { tickets = c.lodge_tickets.ensures.same i; tokens = c.load_nodes.new.tokens.items })) in
-    λ k other low h. (let one = c.lodge_tickets.ensures.lodged in
-    let two = c.lodge_tokens.ensures.lodged in
-    let here : k < length c.args.memory.accounts.items = let first = one.count in let second = two.count in omega arith in
-    let next : k < length c.lodge_tickets.new.accounts.items = let second = two.count in omega arith in
+    λ k other low h. (let here : k < length c.args.memory.accounts.items = omega (arith, c.lodge_tickets.ensures.lodged.count, c.lodge_tokens.ensures.lodged.count) in
+    let next : k < length c.lodge_tickets.new.accounts.items = omega (arith, c.lodge_tokens.ensures.lodged.count) in
     let was = c.requires.accounts k other here in
     let none = ap (λ (v : FileView). weigh h v.tokens) was in
-    let x = one.tokens_more k other here h in
-    let y = two.tokens_more k other next h in
+    let x = c.lodge_tickets.ensures.lodged.tokens_more k other here h in
+    let y = c.lodge_tokens.ensures.lodged.tokens_more k other next h in
     let z = ap (weigh (in_place (λ (e : Entry). of_file (k + 1) e.inode (h e)))) (ap (λ (s : Shelves Placed). s.tokens) shelves) in
     let v = ap (weigh (in_place (λ (e : Entry). of_file (k + 1) e.inode (h e)))) c.deref.ensures.value in
     omega arith)

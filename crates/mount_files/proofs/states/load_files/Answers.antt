@@ -12,7 +12,7 @@ use Rattle.mount_trees.specs.Goods.{in_place, goods_weight}
 use Rattle.mount_trees.specs.Loaded.{of_rights}
 use Rattle.mount_trees.proofs.Stocks.{stood}
 use Rattle.nodes.specs.File.{weight_of}
-use Rattle.sums.specs.Weights.{weigh}
+use Rattle.geometry.specs.Weights.{weigh}
 use Rattle.tickets.specs.Placed.{Placed}
 use Rattle.mount_trees.specs.FileLoaded.{IsFileRoom, IsLoadedFile}
 use Rattle.mount_blocks.proofs.Tables.{all_none, comes, nothing_weighs}

@@ -6,7 +6,7 @@ use Rattle.image.specs.Walk.{names}
 use Rattle.mount_trees.specs.Goods.{goods_weight, marks_weight, in_place}
 use Rattle.mount_trees.specs.Loaded.{of_rights}
 use Rattle.nodes.specs.File.{weight_of}
-use Rattle.sums.specs.Weights.{weigh}
+use Rattle.geometry.specs.Weights.{weigh}
 use Rattle.tickets.specs.Placed.{Placed}
 use Rattle.mount_trees.specs.FileLoaded.{IsFileRoom, IsLoadedFile}
 use Rattle.mount_files.specs.Files.{AreOfFiles, StandsFor}

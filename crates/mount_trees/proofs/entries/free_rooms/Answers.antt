@@ -1,6 +1,6 @@
 use Rattle.std.proofs.Common.{ℕ, [], ◌∷◌, subst}
 use Rattle.image.specs.Image.{Image}
-use Rattle.sums.proofs.Indexing.{EachAt, each_front}
+use Rattle.geometry.proofs.Indexing.{EachAt, each_front}
 use Rattle.mount_trees.proofs.entries.free_rooms.Goals as goal
 
 pub loop-room-preserved : goal.loop-room-preserved

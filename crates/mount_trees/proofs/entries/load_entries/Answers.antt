@@ -4,9 +4,9 @@ use Rattle.std.proofs.Common.{◌≡◌, ◌≢◌, ℕ, ◌+◌, ◌-◌, ◌<�
 use Rattle.std.proofs.lemmas.Bool.{cases_lt}
 use Rattle.std.proofs.lemmas.List.{length-append, length-set, get_or-set_same, get_or-set_other, take_all}
 use Rattle.std.specs.Prelude.{slice_index}
-use Rattle.sums.specs.Weights.{weigh}
-use Rattle.sums.proofs.Weighing.{weigh-set}
-use Rattle.sums.proofs.Indexing.{EachAt, each_front}
+use Rattle.geometry.specs.Weights.{weigh}
+use Rattle.geometry.proofs.Weighing.{weigh-set}
+use Rattle.geometry.proofs.Indexing.{EachAt, each_front}
 use Rattle.tree.specs.Tree.{EmptyFrom, entry_at}
 use Rattle.tree.proofs.Changes.{weigh_nothing}
 use Rattle.image.specs.View.{image_view}

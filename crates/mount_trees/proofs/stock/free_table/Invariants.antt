@@ -1,5 +1,5 @@
 use Rattle.std.proofs.Common.{◌≡◌, vec_len}
-use Rattle.sums.specs.Weights.{weigh}
+use Rattle.geometry.specs.Weights.{weigh}
 use Rattle.mount_trees.specs.Goods.{in_place}
 use Rattle.mount_trees.proofs.stock.free_table.Given as goal
 

@@ -5,7 +5,7 @@ use Rattle.std.proofs.lemmas.List.{nil_from_length}
 use Rattle.std.specs.Vec.Iter.{into_iter_items}
 use Rattle.file_cells.specs.Pass.{Pass}
 use Rattle.program_session.specs.Files.{StandInPlace, passes_among}
-use Rattle.program_session.proofs.Placing.{PlacedSo, all_placed, none_yet, one_more}
+use Rattle.program_session.proofs.Placing.{PlacedSo, all_placed, none_yet, put_next}
 use Rattle.program_session.proofs.places.place_passes.Goals as goal
 
 pub loop-pass-init : goal.loop-pass-init
@@ -24,26 +24,14 @@ index_mut-requires g c =
 pub loop-pass-preserved-in-Some : goal.loop-pass-preserved-in-Some
 loop-pass-preserved-in-Some g c =
     let so_far = c.loop-pass.invariant in
-    let place = c.number.result - 1 in
-    let is : place + 1 ≡ c.in-Some.pass.number = let some = c.number.ensures.some in let number = c.number.ensures.number in omega arith in
-    let next : into_iter_items c.loop-pass.pass-iterator ≡ c.in-Some.pass ∷ into_iter_items c.next.new.self = c.in-Some.ensures.steps.0 in (
-      so_far.0,
-      so_far.1,
-      so_far.2,
-      one_more c.args.files so_far.0 c.loop-pass.places.items c.in-Some.pass (into_iter_items c.next.new.self) place so_far.1 is (subst (PlacedSo so_far.0 c.loop-pass.places.items) next so_far.3),
-    )
+    let is : c.number.result - 1 + 1 ≡ c.in-Some.pass.number = omega (arith, c.number.ensures.some, c.number.ensures.number) in
+    (so_far.0, so_far.1, so_far.2, put_next c.args.files so_far.0 c.loop-pass.places.items c.in-Some.pass (into_iter_items c.loop-pass.pass-iterator) (into_iter_items c.next.new.self) (c.number.result - 1) so_far.1 is c.in-Some.ensures.steps.0 so_far.3)
 
 pub loop-pass-preserved : goal.loop-pass-preserved
 loop-pass-preserved g c =
     let so_far = c.loop-pass.invariant in
-    let place = c.number.result - 1 in
-    let is : place + 1 ≡ c.in-Some.pass.number = let some = c.number.ensures.some in let number = c.number.ensures.number in omega arith in
-    let next : into_iter_items c.loop-pass.pass-iterator ≡ c.in-Some.pass ∷ into_iter_items c.next.new.self = c.in-Some.ensures.steps.0 in (
-      so_far.0,
-      so_far.1,
-      so_far.2,
-      one_more c.args.files so_far.0 c.loop-pass.places.items c.in-Some.pass (into_iter_items c.next.new.self) place so_far.1 is (subst (PlacedSo so_far.0 c.loop-pass.places.items) next so_far.3),
-    )
+    let is : c.number.result - 1 + 1 ≡ c.in-Some.pass.number = omega (arith, c.number.ensures.some, c.number.ensures.number) in
+    (so_far.0, so_far.1, so_far.2, put_next c.args.files so_far.0 c.loop-pass.places.items c.in-Some.pass (into_iter_items c.loop-pass.pass-iterator) (into_iter_items c.next.new.self) (c.number.result - 1) so_far.1 is c.in-Some.ensures.steps.0 so_far.3)
 
 pub returns-clause-passes : goal.returns-clause-passes
 returns-clause-passes g c =

@@ -9,9 +9,8 @@ use Rattle.tool_folder.proofs.rows.rename_row.Goals as goal
 pub returns-clause-renamed : goal.returns-clause-renamed
 returns-clause-renamed c =
     let entries = c.args.entries.now in
-    let read = c.index-entries-row.result in
-    let read_is : read ≡ get_or entries c.args.row read = search rules in
-    let old : Entry = get_or entries c.args.row read in
+    let read_is : c.index-entries-row.result ≡ get_or entries c.args.row c.index-entries-row.result = search rules in
+    let old : Entry = get_or entries c.args.row c.index-entries-row.result in
     let entry : Entry = record { name = c.in_ok-name.name; number = old.number; bytes = old.bytes } in
     let is : old ≡ get_or entries c.args.row old = ap (get_or entries c.args.row) read_is in
     let named : string_bytes c.in_ok-name.name ≡ c.args.to.now = search rules in
@@ -20,9 +19,8 @@ returns-clause-renamed c =
 pub returns-clause-rows : goal.returns-clause-rows
 returns-clause-rows c =
     let entries = c.args.entries.now in
-    let read = c.index-entries-row.result in
-    let read_is : read ≡ get_or entries c.args.row read = search rules in
-    let old : Entry = get_or entries c.args.row read in
+    let read_is : c.index-entries-row.result ≡ get_or entries c.args.row c.index-entries-row.result = search rules in
+    let old : Entry = get_or entries c.args.row c.index-entries-row.result in
     let entry : Entry = record { name = c.in_ok-name.name; number = old.number; bytes = old.bytes } in
     let is : old ≡ get_or entries c.args.row old = ap (get_or entries c.args.row) read_is in
     λ all.

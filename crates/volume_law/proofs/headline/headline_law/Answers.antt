@@ -1,9 +1,8 @@
-use Rattle.std.proofs.Common.{sym, ap, subst, ◌∙◌}
-use Rattle.image.specs.Files.{files}
+use Rattle.std.proofs.Common.{sym, subst, ◌∙◌}
 use Rattle.image_codec.specs.Blocks.{bytes_at}
 use Rattle.close_area.specs.Shown.{AreShown}
-use Rattle.image_unique_law.proofs.Same.{law_holds}
-use Rattle.mount_law.proofs.Standing.{held_again, same_bytes}
+use Rattle.packs_format.proofs.Same.{law_holds}
+use Rattle.volume_law.proofs.Standing.{held_again, files_again}
 use Rattle.volume_law.proofs.headline.headline_law.Goals as goal
 
 pub returns : goal.returns
@@ -13,6 +12,6 @@ returns g c = record {
       let one = law_holds other geometry image' image (M.seen found.meta) (bytes_at B.content_of found.blocks.items)
       (record { front = front; tables = held.tables; nodes = held.nodes })
       (held_again M.seen M.may_leave B.address_of B.content_of geometry image closed found stands is).held in
-      let same = one.2 ∙ ap (files geometry image) (same_bytes M.seen M.may_leave B.address_of B.content_of geometry image closed found stands is) in
+      let same = one.2 ∙ files_again M.seen M.may_leave B.address_of B.content_of geometry image closed found stands is in
       subst (λ list. AreShown list passes) (sym same) shown;
 }

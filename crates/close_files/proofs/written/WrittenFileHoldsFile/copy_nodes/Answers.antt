@@ -1,6 +1,6 @@
 use Rattle.std.proofs.Common.{ap, ◌∙◌}
 use Rattle.std.specs.Vec.{vec_len}
-use Rattle.checkpoint_flush.proofs.Seen.{room_still}
+use Rattle.checkpoint_sync.proofs.Seen.{room_still}
 use Rattle.close_files.proofs.written.WrittenFileHoldsFile.copy_nodes.Goals as goal
 
 pub copy_tree-requires-clause-rows : goal.copy_tree-requires-clause-rows

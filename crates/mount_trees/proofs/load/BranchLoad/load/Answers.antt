@@ -22,6 +22,15 @@ token_named mark is_leaf names image n goods tickets tokens placed there positiv
     token_there mark goods tickets tokens placed (node_name image n) n refl
     (λ h. let all = there h in let parts = node_names is_leaf (names h) image h n positive in omega arith)
 
+-- the token that was taken is of the node's block
+token_is : {L : Type 0} (mark : L → Mark) (is_leaf : Bool) (names : (Mark → ℕ) → ℕ → ℕ → ℕ → ℕ) (image : Image) (n : ℕ) (goods : Goods L)
+    → AreLeft goods.tickets goods.all.tickets → AreLeft goods.tokens goods.all.tokens → ArePlaced mark goods.all
+    → ((h : Mark → ℕ) → names_below is_leaf (names h) image h n ≤ marks_weight mark h goods) → 0 < n
+    → (t : Entry) → slice_index_or goods.tokens n None ≡ Some t → mark_of t ≡ node_name image n
+token_is mark is_leaf names image n goods tickets tokens placed there positive t taken =
+    let found = token_named mark is_leaf names image n goods tickets tokens placed there positive in
+    same_one (λ e. mark_of e ≡ node_name image n) (slice_index_or goods.tokens n None) found.0 t found.1 taken found.2
+
 pub take_token-token-requires : goal.take_token-token-requires
 take_token-token-requires g c =
     let image = image_view c.args.image.now in
@@ -32,42 +41,35 @@ take_token-token-requires g c =
 
 pub load_entries-entries-requires-clause-fits : goal.load_entries-entries-requires-clause-fits
 load_entries-entries-requires-clause-fits g c =
-    let C = g.C.Load in
     let image = image_view c.args.image.now in
     let n = c.args.number in
     let positive : 0 < n = (rw c.in-Some.is at c.requires.room).0 in
     let numbers : c.numbers_of-numbers.result.now ≡ numbers_in g.C.Subtree.is_leaf (node_of image n) = c.numbers_of-numbers.ensures ∙ ap (numbers_in g.C.Subtree.is_leaf) c.in-Some-node.ensures in
     let fits = c.requires.fits in
     let node = fits.1 positive in
-    (fits.0, subst (λ (ns : List ℕ). (k : ℕ) → C.fits image c.args.entries fits.0 (slice_index ns k)) (sym numbers) node.below)
+    (fits.0, subst (λ (ns : List ℕ). (k : ℕ) → g.C.Load.fits image c.args.entries fits.0 (slice_index ns k)) (sym numbers) node.below)
 
 pub load_entries-entries-requires-clause-there : goal.load_entries-entries-requires-clause-there
 load_entries-entries-requires-clause-there g c = λ h.
-    let C = g.C.Load in
     let image = image_view c.args.image.now in
     let n = c.args.number in
-    let is_leaf = g.C.Subtree.is_leaf in
     let positive : 0 < n = (rw c.in-Some.is at c.requires.room).0 in
-    let numbers : c.numbers_of-numbers.result.now ≡ numbers_in is_leaf (node_of image n) = c.numbers_of-numbers.ensures ∙ ap (numbers_in is_leaf) c.in-Some-node.ensures in
-    let found = token_named g.C.Load.mark_of g.C.Subtree.is_leaf (g.C.Load.names image) image n c.args.stock.now c.law.ensures.tickets c.law.ensures.tokens c.requires.placed c.requires.there positive in
-    let mark = same_one (λ e. mark_of e ≡ node_name image n) (slice_index_or c.args.stock.now.tokens n None) found.0 c.take_token-token.result found.1 c.take_token-token.ensures.token found.2 in
+    let numbers : c.numbers_of-numbers.result.now ≡ numbers_in g.C.Subtree.is_leaf (node_of image n) = c.numbers_of-numbers.ensures ∙ ap (numbers_in g.C.Subtree.is_leaf) c.in-Some-node.ensures in
+    let mark = token_is g.C.Load.mark_of g.C.Subtree.is_leaf (g.C.Load.names image) image n c.args.stock.now c.law.ensures.tickets c.law.ensures.tokens c.requires.placed c.requires.there positive c.take_token-token.result c.take_token-token.ensures.token in
     let same = ap h mark in
-    let went = token_trades c.args.stock.now c.take_token-token.new.self n c.take_token-token.result c.take_token-token.ensures.stock c.take_token-token.ensures.token (λ t. h (C.mark_of t)) (λ e. h (mark_of e)) in
+    let went = token_trades c.args.stock.now c.take_token-token.new.self n c.take_token-token.result c.take_token-token.ensures.stock c.take_token-token.ensures.token (λ t. h (g.C.Load.mark_of t)) (λ e. h (mark_of e)) in
     let all = c.requires.there h in
-    let parts = node_names is_leaf (C.names image h) image h n positive in
-    let here = ap (weigh_from (C.names image h n) 0) numbers in
+    let parts = node_names g.C.Subtree.is_leaf (g.C.Load.names image h) image h n positive in
+    let here = ap (weigh_from (g.C.Load.names image h n) 0) numbers in
     omega arith
 
 pub returns-clause-loaded : goal.returns-clause-loaded
 returns-clause-loaded g c =
-    let C = g.C.Load in
     let image = image_view c.args.image.now in
     let n = c.args.number in
-    let is_leaf = g.C.Subtree.is_leaf in
     let positive : 0 < n = (rw c.in-Some.is at c.requires.room).0 in
-    let numbers : c.numbers_of-numbers.result.now ≡ numbers_in is_leaf (node_of image n) = c.numbers_of-numbers.ensures ∙ ap (numbers_in is_leaf) c.in-Some-node.ensures in
-    let found = token_named g.C.Load.mark_of g.C.Subtree.is_leaf (g.C.Load.names image) image n c.args.stock.now c.law.ensures.tickets c.law.ensures.tokens c.requires.placed c.requires.there positive in
-    let mark = same_one (λ e. mark_of e ≡ node_name image n) (slice_index_or c.args.stock.now.tokens n None) found.0 c.take_token-token.result found.1 c.take_token-token.ensures.token found.2 in
+    let numbers : c.numbers_of-numbers.result.now ≡ numbers_in g.C.Subtree.is_leaf (node_of image n) = c.numbers_of-numbers.ensures ∙ ap (numbers_in g.C.Subtree.is_leaf) c.in-Some-node.ensures in
+    let mark = token_is g.C.Load.mark_of g.C.Subtree.is_leaf (g.C.Load.names image) image n c.args.stock.now c.law.ensures.tickets c.law.ensures.tokens c.requires.placed c.requires.there positive c.take_token-token.result c.take_token-token.ensures.token in
     let all = ap (λ s. s.all) c.take_token-token.ensures.stock in
     let slots = c.load_entries-entries.result.slots.items in
     record {
@@ -76,24 +78,22 @@ returns-clause-loaded g c =
       number_is = c.requires.placed.numbers n c.take_token-token.result c.take_token-token.ensures.first;
       address = ap (λ m. m.address) mark;
       clean = c.load_entries-entries.ensures.clean;
-      below = subst (λ ns. AreLoaded (C.loaded image c.args.stock.now.all n) ns slots) numbers
-          (subst (λ s. AreLoaded (C.loaded image s n) c.numbers_of-numbers.result.now slots) all c.load_entries-entries.ensures.loaded);
+      below = subst (λ ns. AreLoaded (g.C.Load.loaded image c.args.stock.now.all n) ns slots) numbers
+          (subst (λ s. AreLoaded (g.C.Load.loaded image s n) c.numbers_of-numbers.result.now slots) all c.load_entries-entries.ensures.loaded);
     }
 
 pub returns-clause-taken : goal.returns-clause-taken
 returns-clause-taken g c = λ h.
-    let C = g.C.Load in
     let image = image_view c.args.image.now in
     let n = c.args.number in
-    let is_leaf = g.C.Subtree.is_leaf in
     let positive : 0 < n = (rw c.in-Some.is at c.requires.room).0 in
-    let numbers : c.numbers_of-numbers.result.now ≡ numbers_in is_leaf (node_of image n) = c.numbers_of-numbers.ensures ∙ ap (numbers_in is_leaf) c.in-Some-node.ensures in
+    let numbers : c.numbers_of-numbers.result.now ≡ numbers_in g.C.Subtree.is_leaf (node_of image n) = c.numbers_of-numbers.ensures ∙ ap (numbers_in g.C.Subtree.is_leaf) c.in-Some-node.ensures in
     let loaded = returns-clause-loaded g c in
     let mark : mark_of c.take_token-token.result ≡ node_name image n = token_mark c.take_token-token.result (node_name image n) n loaded.number_is loaded.address refl in
     let same = ap h mark in
-    let went = token_trades c.args.stock.now c.take_token-token.new.self n c.take_token-token.result c.take_token-token.ensures.stock c.take_token-token.ensures.token (λ t. h (C.mark_of t)) (λ e. h (mark_of e)) in
-    let parts = node_names is_leaf (C.names image h) image h n positive in
-    let here = ap (weigh_from (C.names image h n) 0) numbers in
+    let went = token_trades c.args.stock.now c.take_token-token.new.self n c.take_token-token.result c.take_token-token.ensures.stock c.take_token-token.ensures.token (λ t. h (g.C.Load.mark_of t)) (λ e. h (mark_of e)) in
+    let parts = node_names g.C.Subtree.is_leaf (g.C.Load.names image h) image h n positive in
+    let here = ap (weigh_from (g.C.Load.names image h n) 0) numbers in
     let below = c.load_entries-entries.ensures.taken h in
     omega arith
 

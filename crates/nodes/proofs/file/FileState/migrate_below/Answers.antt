@@ -1,5 +1,5 @@
 use Rattle.std.proofs.Common.{◌≡◌, refl, arith}
-use Rattle.sums.specs.Weights.{weigh}
+use Rattle.geometry.specs.Weights.{weigh}
 use Rattle.tree.specs.Tree.{entry_at}
 use Rattle.tree.specs.Change.{ticket_weight, each_naming}
 use Rattle.tree.specs.Laws.{weightless}

@@ -10,17 +10,13 @@ pub invariant_of-self : goal.invariant_of-self
 invariant_of-self g c =
     let s = c.self.inside in
     let files : Files = record { geometry = g.V.Numbers.GeometryName.geometry; time = s.time; passes = s.passes.items; readers = s.readers.items } in
-    let place = c.in_ok-place.place in
-    let old = c.in-Some.pass in
-    let at = found_at s.passes.items c.deref.result.now place c.index_mut.result.now c.in-Some.pass c.deref.ensures.value c.in_ok-place.ensures.place.1 c.index_mut.ensures.value c.in-Some.is in
-    (placed_changed files place c.args.file old c.cut.new.pass c.self.invariant.0 c.in_ok-place.ensures.place.0 at c.cut.result (cut_to old.file c.args.length) c.cut.ensures.file c.cut.ensures.err, c.self.invariant.1)
+    let at = found_at s.passes.items c.deref.result.now c.in_ok-place.place c.index_mut.result.now c.in-Some.pass c.deref.ensures.value c.in_ok-place.ensures.place.1 c.index_mut.ensures.value c.in-Some.is in
+    (placed_changed files c.in_ok-place.place c.args.file c.in-Some.pass c.cut.new.pass c.self.invariant.0 c.in_ok-place.ensures.place.0 at c.cut.result (cut_to c.in-Some.pass.file c.args.length) c.cut.ensures.file c.cut.ensures.err, c.self.invariant.1)
 
 pub returns : goal.returns
 returns g c =
     let s = c.self.inside in
     let files : Files = record { geometry = g.V.Numbers.GeometryName.geometry; time = s.time; passes = s.passes.items; readers = s.readers.items } in
-    let place = c.in_ok-place.place in
-    let old = c.in-Some.pass in
-    let at = found_at s.passes.items c.deref.result.now place c.index_mut.result.now c.in-Some.pass c.deref.ensures.value c.in_ok-place.ensures.place.1 c.index_mut.ensures.value c.in-Some.is in
-    subst (λ f. IsCut f c.args.file c.args.length c.cut.result (put_at files place (Some c.cut.new.pass))) c.self.view_is
-    (cut_told files place c.args.file old c.cut.new.pass c.self.invariant.0 c.in_ok-place.ensures.place.0 at c.args.length c.cut.result c.cut.ensures.file c.cut.ensures.err c.cut.ensures.error)
+    let at = found_at s.passes.items c.deref.result.now c.in_ok-place.place c.index_mut.result.now c.in-Some.pass c.deref.ensures.value c.in_ok-place.ensures.place.1 c.index_mut.ensures.value c.in-Some.is in
+    subst (λ f. IsCut f c.args.file c.args.length c.cut.result (put_at files c.in_ok-place.place (Some c.cut.new.pass))) c.self.view_is
+    (cut_told files c.in_ok-place.place c.args.file c.in-Some.pass c.cut.new.pass c.self.invariant.0 c.in_ok-place.ensures.place.0 at c.args.length c.cut.result c.cut.ensures.file c.cut.ensures.err c.cut.ensures.error)

@@ -11,10 +11,8 @@ pub invariant_of-self : goal.invariant_of-self
 invariant_of-self g c =
     let s = c.self.inside in
     let files : Files = record { geometry = g.V.Numbers.GeometryName.geometry; time = s.time; passes = s.passes.items; readers = s.readers.items } in
-    let place = c.in_ok-place.place in
-    let old = c.in-Some.pass in
-    let at = found_at s.passes.items c.deref.result.now place c.index_mut.result.now c.in-Some.pass c.deref.ensures.value c.in_ok-place.ensures.place.1 c.index_mut.ensures.value c.in-Some.is in (
-      placed_changed files place c.args.file old c.write.new.pass c.self.invariant.0 c.in_ok-place.ensures.place.0 at c.write.result (written old.file c.args.index c.as_slice.result.now) c.write.ensures.file c.write.ensures.err,
+    let at = found_at s.passes.items c.deref.result.now c.in_ok-place.place c.index_mut.result.now c.in-Some.pass c.deref.ensures.value c.in_ok-place.ensures.place.1 c.index_mut.ensures.value c.in-Some.is in (
+      placed_changed files c.in_ok-place.place c.args.file c.in-Some.pass c.write.new.pass c.self.invariant.0 c.in_ok-place.ensures.place.0 at c.write.result (written c.in-Some.pass.file c.args.index c.as_slice.result.now) c.write.ensures.file c.write.ensures.err,
       ap length c.fill_block.ensures ∙ length-replicate (length s.block.items) c.args.byte ∙ c.self.invariant.1,
     )
 
@@ -22,10 +20,8 @@ pub returns : goal.returns
 returns g c =
     let s = c.self.inside in
     let files : Files = record { geometry = g.V.Numbers.GeometryName.geometry; time = s.time; passes = s.passes.items; readers = s.readers.items } in
-    let place = c.in_ok-place.place in
-    let old = c.in-Some.pass in
-    let at = found_at s.passes.items c.deref.result.now place c.index_mut.result.now c.in-Some.pass c.deref.ensures.value c.in_ok-place.ensures.place.1 c.index_mut.ensures.value c.in-Some.is in
+    let at = found_at s.passes.items c.deref.result.now c.in_ok-place.place c.index_mut.result.now c.in-Some.pass c.deref.ensures.value c.in_ok-place.ensures.place.1 c.index_mut.ensures.value c.in-Some.is in
     let block : c.as_slice.result.now ≡ equal_block files c.args.byte =
     c.as_slice.ensures.value ∙ c.fill_block.ensures ∙ ap (λ n. replicate n c.args.byte) c.self.invariant.1 in
-    subst (λ f. IsWritten f c.args.file c.args.index c.args.byte c.write.result (put_at files place (Some c.write.new.pass))) c.self.view_is
-    (written_told files place c.args.file old c.write.new.pass c.self.invariant.0 c.in_ok-place.ensures.place.0 at c.args.index c.args.byte c.as_slice.result.now c.write.result block c.write.ensures.file c.write.ensures.err c.write.ensures.error)
+    subst (λ f. IsWritten f c.args.file c.args.index c.args.byte c.write.result (put_at files c.in_ok-place.place (Some c.write.new.pass))) c.self.view_is
+    (written_told files c.in_ok-place.place c.args.file c.in-Some.pass c.write.new.pass c.self.invariant.0 c.in_ok-place.ensures.place.0 at c.args.index c.args.byte c.as_slice.result.now c.write.result block c.write.ensures.file c.write.ensures.err c.write.ensures.error)

@@ -1,7 +1,7 @@
 -- One call learns all accounts of each kind in order and settles them: copies then balance by every weight, and each
 -- copy is that of an account, so the accounts do.
 use Rattle.std.proofs.Common.{◌≡◌, ℕ, ◌+◌, ap, arith}
-use Rattle.sums.specs.Weights.{weigh}
+use Rattle.geometry.specs.Weights.{weigh}
 use Rattle.rights_books.specs.Weights.{segment_copy, file_copy, shard_copy, marks_copied, tickets_copied, taken_copied, tokens_copied}
 use Rattle.rights_books.specs.Accounts.{CensusView}
 use Rattle.rights_books.specs.declared.claim.Copied.{Copied}

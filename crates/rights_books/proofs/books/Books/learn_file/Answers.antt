@@ -1,5 +1,5 @@
 use Rattle.std.proofs.Common.{◌≡◌, ap}
-use Rattle.sums.specs.Weights.{weigh}
+use Rattle.geometry.specs.Weights.{weigh}
 use Rattle.rights_books.specs.Weights.{file_copy, past}
 use Rattle.rights_books.specs.Accounts.{FileView, CensusView, file_view, census_view}
 use Rattle.rights_books.proofs.books.Books.learn_file.Goals as goal

@@ -1,5 +1,5 @@
 use Rattle.std.proofs.Common.{◌≡◌, ℕ, ◌+◌, take}
-use Rattle.sums.specs.Weights.{weigh}
+use Rattle.geometry.specs.Weights.{weigh}
 use Rattle.rights_books.specs.Weights.{file_copy, past}
 use Rattle.rights_books.specs.declared.claim.Copied.{Copied}
 use Rattle.rights_books.specs.declared.claim.Copied.TheVariants.{FileCopy}

@@ -1,5 +1,5 @@
 use Rattle.std.proofs.Common.{◌≡◌, ap}
-use Rattle.sums.specs.Weights.{weigh}
+use Rattle.geometry.specs.Weights.{weigh}
 use Rattle.rights_books.specs.Weights.{segment_copy, past}
 use Rattle.rights_books.specs.Accounts.{SegmentView, CensusView, segment_view, census_view}
 use Rattle.rights_books.proofs.books.Books.learn_segment.Goals as goal

@@ -2,7 +2,7 @@
 -- first shards have, and a turn adds the next.
 use Rattle.std.proofs.Common.{rules, ◌≡◌, ℕ, ◌+◌, ◌<◌, ◌∷◌, slice_set, length, refl, sym, ap, ◌∙◌, subst, arith}
 use Rattle.std.proofs.lemmas.List.{set-get_or}
-use Rattle.sums.specs.Weights.{weigh}
+use Rattle.geometry.specs.Weights.{weigh}
 use Rattle.rights_books.specs.Weights.{shard_copy, past}
 use Rattle.rights_books.specs.Accounts.{ShardView, CensusView}
 use Rattle.rights_books.specs.declared.claim.Copied.TheVariants.{ShardCopy}

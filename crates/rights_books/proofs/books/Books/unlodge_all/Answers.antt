@@ -1,5 +1,5 @@
 use Rattle.std.proofs.Common.{arith, ◌++◌, []}
-use Rattle.sums.proofs.Weighing.{weigh-append}
+use Rattle.geometry.proofs.Weighing.{weigh-append}
 use Rattle.rights_books.specs.Accounts.{hand_view, file_view}
 use Rattle.rights_books.proofs.Steps.{lodges_all}
 use Rattle.rights_books.proofs.books.Books.unlodge_all.Goals as goal

@@ -1,5 +1,5 @@
 use Rattle.std.proofs.Common.{arith}
-use Rattle.sums.specs.Weights.{weigh}
+use Rattle.geometry.specs.Weights.{weigh}
 use Rattle.rights_claims.proofs.Keeping.{same_weights}
 use Rattle.rights_claims.proofs.book.Book.open.Goals as goal
 

@@ -1,7 +1,7 @@
 use Rattle.std.proofs.Common.{◌≡◌, ◌<◌, ◌∷◌, length, refl, sym, ◌∙◌, subst, arith}
 use Rattle.geometry.specs.declared.owner.Mark.{Mark}
 use Rattle.geometry.specs.Address.{address_of}
-use Rattle.sums.specs.Weights.{SameItems}
+use Rattle.geometry.specs.Weights.{SameItems}
 use Rattle.sit.specs.Segment.{Segment, marks_of}
 use Rattle.sit.proofs.Registry.{threaded_marks, threaded-registered}
 use Rattle.sit.proofs.segment.SegmentState.fill.Given as given

@@ -4,7 +4,7 @@ use Rattle.std.proofs.Common.{◌≡◌, ◌<◌, ℕ, List, [], ◌∷◌, None
 use Rattle.geometry.specs.declared.owner.Mark.{Mark}
 use Rattle.geometry.specs.declared.state.State.{State}
 use Rattle.geometry.specs.Address.{address_of}
-use Rattle.sums.specs.Weights.{SameItems}
+use Rattle.geometry.specs.Weights.{SameItems}
 use Rattle.words.specs.Tokens.{Post}
 use Rattle.sit.specs.Registered.{Registered, HasLivedOn}
 use Rattle.sit.specs.Segment.{Segment, marks_of}

@@ -3,7 +3,7 @@
 use Rattle.std.proofs.Common.{◌≡◌, ◌+◌, ℕ, List, ◌∷◌, Some, None, get_or, ap, sym, ◌∙◌, subst}
 use Rattle.geometry.specs.declared.owner.Mark.{Mark}
 use Rattle.geometry.specs.Address.{address_of, segment_of, offset_of}
-use Rattle.sums.specs.Weights.{SameItems}
+use Rattle.geometry.specs.Weights.{SameItems}
 use Rattle.sit.specs.Registered.{Registered}
 use Rattle.sit.specs.Segment.{Segment, marks_of, cleared}
 use Rattle.sit.specs.Released.{HasReleased}

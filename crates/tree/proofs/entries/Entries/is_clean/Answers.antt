@@ -1,6 +1,6 @@
 use Rattle.std.proofs.Common.{◌≡◌, ◌<◌, None, length, refl, sym, ◌∙◌, arith}
-use Rattle.sums.specs.Weights.{weigh}
-use Rattle.sums.proofs.Weighing.{weigh-at}
+use Rattle.geometry.specs.Weights.{weigh}
+use Rattle.geometry.proofs.Weighing.{weigh-at}
 use Rattle.tree.specs.Change.{each_marked}
 use Rattle.tree.specs.Laws.{no_leaf}
 use Rattle.tree.proofs.Changes.{weigh_used, entry_is}

@@ -1,7 +1,7 @@
 -- Entries that were passed don't name the block and stay as they are: so where one below does, the swap there is one of
 -- the whole, and where none does nothing names it.
 use Rattle.std.proofs.Common.{◌≡◌, length, None, arith, ap}
-use Rattle.sums.proofs.Weighing.{weigh-at}
+use Rattle.geometry.proofs.Weighing.{weigh-at}
 use Rattle.tree.specs.Tree.{entry_at}
 use Rattle.tree.specs.Change.{each_naming}
 use Rattle.tree.proofs.Changes.{weigh_used}

@@ -13,30 +13,21 @@ use Rattle.tool_files.proofs.work.put.PutWork.run.Goals as goal
 pub write_row-requires-clause-rows : goal.write_row-requires-clause-rows
 write_row-requires-clause-rows g c =
     let size = block_bytes g.V.Numbers.GeometryName.geometry.shape in
-    let slice = c.as_slice.result.now in
-    let entries = c.in-Some.entries.items in
-    let folder : HasFolder size slice (map row_of entries)
-    = some_of (λ found. HasFolder size slice (map row_of found.items)) c.in_ok-entries.field-0 c.in-Some.entries c.in-Some.is c.in_ok-entries.ensures.some in
-    into (λ es. All IsRow (map row_of es)) c.as_slice-held.result.now entries (search rules) folder.spelled.are_rows
+    let folder = some_of (λ found. HasFolder size c.as_slice.result.now (map row_of found.items)) c.in_ok-entries.field-0 c.in-Some.entries c.in-Some.is c.in_ok-entries.ensures.some in
+    into (λ es. All IsRow (map row_of es)) c.as_slice-held.result.now c.in-Some.entries.items (search rules) folder.spelled.are_rows
 
 pub write_row-requires-clause-folder : goal.write_row-requires-clause-folder
 write_row-requires-clause-folder g c =
     let size = block_bytes g.V.Numbers.GeometryName.geometry.shape in
-    let slice = c.as_slice.result.now in
-    let entries = c.in-Some.entries.items in
-    let folder : HasFolder size slice (map row_of entries)
-    = some_of (λ found. HasFolder size slice (map row_of found.items)) c.in_ok-entries.field-0 c.in-Some.entries c.in-Some.is c.in_ok-entries.ensures.some in
-    let had : HasFolder size c.args.rights.now.passes.items (map row_of entries)
-    = into (λ ps. HasFolder size ps (map row_of entries)) c.args.rights.now.passes.items slice (search rules) folder in
+    let folder = some_of (λ found. HasFolder size c.as_slice.result.now (map row_of found.items)) c.in_ok-entries.field-0 c.in-Some.entries c.in-Some.is c.in_ok-entries.ensures.some in
+    let had : HasFolder size c.args.rights.now.passes.items (map row_of c.in-Some.entries.items)
+    = into (λ ps. HasFolder size ps (map row_of c.in-Some.entries.items)) c.args.rights.now.passes.items c.as_slice.result.now (search rules) folder in
     (had.folder, had.here)
 
 pub write_folder-requires : goal.write_folder-requires
 write_folder-requires g c =
     let size = block_bytes g.V.Numbers.GeometryName.geometry.shape in
-    let slice = c.as_slice.result.now in
-    let entries = c.in-Some.entries.items in
-    let folder : HasFolder size slice (map row_of entries)
-    = some_of (λ found. HasFolder size slice (map row_of found.items)) c.in_ok-entries.field-0 c.in-Some.entries c.in-Some.is c.in_ok-entries.ensures.some in
+    let folder = some_of (λ found. HasFolder size c.as_slice.result.now (map row_of found.items)) c.in_ok-entries.field-0 c.in-Some.entries c.in-Some.is c.in_ok-entries.ensures.some in
     let rows : All IsRow (map row_of c.put_row.new.entries.items) = c.in_ok-put_row.ensures.rows c.in_ok-number.ensures.past folder.spelled.are_rows in
     record { rows = into (λ es. All IsRow (map row_of es)) c.as_slice-5.result.now c.put_row.new.entries.items (search rules) rows }
 

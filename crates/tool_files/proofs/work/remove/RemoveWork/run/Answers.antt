@@ -13,10 +13,7 @@ use Rattle.tool_files.proofs.work.remove.RemoveWork.run.Goals as goal
 pub write_folder-requires : goal.write_folder-requires
 write_folder-requires g c =
     let size = block_bytes g.V.Numbers.GeometryName.geometry.shape in
-    let slice = c.as_slice.result.now in
-    let entries = c.in-Some.entries.items in
-    let folder : HasFolder size slice (map row_of entries)
-    = some_of (λ found. HasFolder size slice (map row_of found.items)) c.in_ok-entries.field-0 c.in-Some.entries c.in-Some.is c.in_ok-entries.ensures.some in
+    let folder = some_of (λ found. HasFolder size c.as_slice.result.now (map row_of found.items)) c.in_ok-entries.field-0 c.in-Some.entries c.in-Some.is c.in_ok-entries.ensures.some in
     record { rows = into (λ es. All IsRow (map row_of es)) c.as_slice-3.result.now c.take_row-number.new.entries.items (search rules) (c.take_row-number.ensures.rows folder.spelled.are_rows) }
 
 pub returns : goal.returns

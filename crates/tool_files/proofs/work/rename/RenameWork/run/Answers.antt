@@ -12,14 +12,11 @@ use Rattle.tool_files.proofs.work.rename.RenameWork.run.Goals as goal
 pub write_folder-requires : goal.write_folder-requires
 write_folder-requires g c =
     let size = block_bytes g.V.Numbers.GeometryName.geometry.shape in
-    let slice = c.as_slice.result.now in
-    let entries = c.in-Some.entries.items in
-    let folder : HasFolder size slice (map row_of entries)
-    = some_of (λ found. HasFolder size slice (map row_of found.items)) c.in_ok-entries.field-0 c.in-Some.entries c.in-Some.is c.in_ok-entries.ensures.some in
-    let same : c.as_mut_slice.result.now ≡ entries = search rules in
+    let folder = some_of (λ found. HasFolder size c.as_slice.result.now (map row_of found.items)) c.in_ok-entries.field-0 c.in-Some.entries c.in-Some.is c.in_ok-entries.ensures.some in
+    let same : c.as_mut_slice.result.now ≡ c.in-Some.entries.items = search rules in
     let rows : All IsRow (map row_of c.rename_row.new.entries)
-    = c.in_ok-rename_row.ensures.rows (into (λ es. All IsRow (map row_of es)) c.as_mut_slice.result.now entries same folder.spelled.are_rows) in
-    record { rows = into (λ es. All IsRow (map row_of es)) c.as_slice-4.result.now c.rename_row.new.entries (c.as_slice-4.ensures.value ∙ take_at c.rename_row.new.entries (drop (length c.rename_row.new.entries) entries) c.in-Some.entries.len (search rules)) rows }
+    = c.in_ok-rename_row.ensures.rows (into (λ es. All IsRow (map row_of es)) c.as_mut_slice.result.now c.in-Some.entries.items same folder.spelled.are_rows) in
+    record { rows = into (λ es. All IsRow (map row_of es)) c.as_slice-4.result.now c.rename_row.new.entries (c.as_slice-4.ensures.value ∙ take_at c.rename_row.new.entries (drop (length c.rename_row.new.entries) c.in-Some.entries.items) c.in-Some.entries.len (search rules)) rows }
 
 pub returns : goal.returns
 returns g c =

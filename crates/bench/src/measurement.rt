@@ -1,0 +1,60 @@
+//! The measurements.
+
+/// What is measured.
+#[derive(Clone, Copy)]
+pub enum Measurement {
+    Pairs,
+    Images,
+    Calls,
+    Threads,
+    Checkpoints,
+    Cleaning,
+    Mounts,
+}
+
+/// Each measurement, in the order in which they are done.
+pub const MEASUREMENTS: [Measurement; 7] = [
+    Measurement::Pairs,
+    Measurement::Images,
+    Measurement::Calls,
+    Measurement::Threads,
+    Measurement::Checkpoints,
+    Measurement::Cleaning,
+    Measurement::Mounts,
+];
+
+/// The word of each measurement.
+pub const WORDS: [&str; 7] = [
+    "pairs",
+    "images",
+    "calls",
+    "threads",
+    "checkpoints",
+    "cleaning",
+    "mounts",
+];
+
+impl Measurement {
+    /// Its word in the arguments and in front of its lines.
+    pub fn name(self) -> &'static str {
+        match self {
+            Measurement::Pairs => "pairs",
+            Measurement::Images => "images",
+            Measurement::Calls => "calls",
+            Measurement::Threads => "threads",
+            Measurement::Checkpoints => "checkpoints",
+            Measurement::Cleaning => "cleaning",
+            Measurement::Mounts => "mounts",
+        }
+    }
+
+    /// The measurement of a word.
+    pub fn named(name: &str) -> Option<Measurement> {
+        for measurement in MEASUREMENTS {
+            if measurement.name() == name {
+                return Some(measurement);
+            }
+        }
+        None
+    }
+}

@@ -1,0 +1,102 @@
+//! The parts of a device over a file that is there: the blocks that its image names are read, and the others are shown as zeros.
+ghost use Rattle.std.specs.Prelude.{◌≡◌, length, map, IfOk};
+ghost use Rattle.device.specs.Parts.{HasSize, IsBlockRun};
+ghost use Rattle.file_device.specs.Held.{content_in, is_kept};
+ghost use Rattle.file_device.specs.Place.{block_place};
+ghost use Rattle.geometry.specs.Area.{block_count, meta_bytes};
+ghost use Rattle.geometry.specs.Shape.{block_bytes};
+
+use crate::block::FileBlock;
+use crate::fault::FileFault;
+use crate::kept::{Held, Kept};
+use crate::meta::FileMeta;
+use crate::reading::fault_of;
+use crate::whole::place_of;
+use device::{Block, MemBlock, MemMeta, Meta, Parts};
+use geometry::{Error, Geometry};
+use std::alloc::Global;
+use std::fs::File;
+use std::os::unix::fs::FileExt;
+use std::sync::Arc;
+
+/// The parts of a device over a file, whose meta area has these bytes, all of them settled. The blocks that are named are read.
+pub(crate) fn parts_over(
+    alloc: Global,
+    geometry: &Geometry,
+    area: Vec<u8>,
+    named: &[bool],
+    file: File,
+) -> Result<Parts<FileMeta<File>, FileBlock<File>>, FileFault>
+    requires long { length area.items ≡ meta_bytes geometry.now }
+    requires named { length named.now ≡ block_count geometry.now }
+    ensures front { IfOk result (λ parts. ⟦<FileMeta<File> as Meta>⟧.seen parts.meta ≡ area.items) }
+    ensures size { IfOk result (λ parts. HasSize ⟦<FileMeta<File> as Meta>⟧.seen ⟦<FileBlock<File> as Block>⟧.address_of ⟦<FileBlock<File> as Block>⟧.content_of geometry.now parts) }
+    ensures read { IfOk result (λ parts. map (λ block. is_kept block.kept.held) parts.blocks.items ≡ named.now) }
+{
+    let file = Arc::new(alloc, file)?;
+    let blocks = open_blocks(alloc, geometry, named, &file)?;
+    let meta = FileMeta::of(MemMeta::new(area), file);
+    Ok(Parts { meta, blocks })
+}
+
+// All blocks in address order. Those that are named are read.
+fn open_blocks(
+    alloc: Global,
+    geometry: &Geometry,
+    named: &[bool],
+    file: &Arc<File>,
+) -> Result<Vec<FileBlock<File>>, FileFault>
+    requires named { length named.now ≡ block_count geometry.now }
+    ensures count { IfOk result (λ blocks. length blocks.items ≡ block_count geometry.now) }
+    ensures run { IfOk result (λ blocks. IsBlockRun ⟦<FileBlock<File> as Block>⟧.address_of ⟦<FileBlock<File> as Block>⟧.content_of (block_bytes geometry.now.shape) 1 blocks.items) }
+    ensures read { IfOk result (λ blocks. map (λ block. is_kept block.kept.held) blocks.items ≡ named.now) }
+{
+    let count = geometry.blocks();
+    let mut blocks = Vec::with_capacity(alloc, count as usize)?;
+    for place in 0..count {
+        let is_named = named[place as usize];
+        blocks.push(open_block(alloc, geometry, place + 1, is_named, file)?)?;
+    }
+    Ok(blocks)
+}
+
+// The block of an address. Where it is named its bytes are read.
+fn open_block(
+    alloc: Global,
+    geometry: &Geometry,
+    address: u32,
+    is_named: bool,
+    file: &Arc<File>,
+) -> Result<FileBlock<File>, FileFault>
+    ensures address { IfOk result (λ block. block.kept.address ≡ address) }
+    ensures length { IfOk result (λ block. length (content_in block.kept.held) ≡ block_bytes geometry.now.shape) }
+    ensures place { IfOk result (λ block. block.kept.at ≡ block_place geometry.now address) }
+    ensures read { IfOk result (λ block. is_kept block.kept.held ≡ is_named) }
+{
+    let at = place_of(geometry, address);
+    let size = geometry.shape.block_bytes();
+    let held = if is_named {
+        Held::Bytes(read_block_at(alloc, file, address, at, size)?)
+    } else {
+        Held::Zeros(size)
+    };
+    let kept = Kept::new(alloc, address, at, held);
+    Ok(FileBlock::of(kept, Arc::try_clone(file)?))
+}
+
+// The block of an address, with so many bytes from an offset of the file on.
+fn read_block_at(
+    alloc: Global,
+    file: &File,
+    address: u32,
+    at: u64,
+    size: u32,
+) -> Result<MemBlock, FileFault>
+    ensures length { IfOk result (λ block. length (⟦<MemBlock as Block>⟧.content_of block) ≡ size) }
+{
+    let mut bytes = vec![in alloc; 0u8; size as usize]?;
+    match file.read_exact_at(bytes.as_mut_slice(), at) {
+        Ok(()) => Ok(MemBlock::new(alloc, address, bytes)?),
+        Err(error) => Err(fault_of(error, Error::BadImage(1))),
+    }
+}

@@ -1,3 +1,0 @@
-pub mod Core
-pub mod Disk
-pub mod Crash

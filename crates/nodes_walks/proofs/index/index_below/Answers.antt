@@ -1,0 +1,23 @@
+use Rattle.std.proofs.Common.{arith, refl}
+use Rattle.tree.specs.Tree.{entry_at}
+use Rattle.tree.specs.Change.{ticket_weight, each_naming}
+use Rattle.tree.specs.Laws.{weightless}
+use Rattle.tree.proofs.Changes.{weigh_zero}
+use Rattle.nodes_walks.proofs.Finding.{owner_double_at}
+use Rattle.nodes_walks.proofs.index.index_below.Goals as goal
+
+pub returns-in-None-clause-elsewhere : goal.returns-in-None-clause-elsewhere
+returns-in-None-clause-elsewhere g c = λ _.
+    (let xs = c.args.file.now.tickets.slots.items in
+    let w = each_naming c.args.nid c.args.at c.args.from in
+    let tickets = weigh_zero (ticket_weight w) xs (λ k h. weightless w (entry_at xs k) (λ t. refl)) in
+    let direct = c.in_default.ensures.elsewhere refl in
+    let indirect = c.in_default-index_in.ensures.elsewhere refl in
+    let double = c.in-None.ensures.elsewhere refl in
+    omega arith)
+
+pub returns-in-Some-index_in-2-clause-owner : goal.returns-in-Some-index_in-2-clause-owner
+returns-in-Some-index_in-2-clause-owner g c =
+    let it = c.in-Some-index_in-2.ensures in
+    owner_double_at c.args.file.now c.args.nid c.args.at c.inode_entries-slots.result c.node_entries-entries.result c.inode_entries-slots.ensures c.node_entries-entries.ensures
+    c.in-Some-index_in-2.index it.within it.namer it.entry

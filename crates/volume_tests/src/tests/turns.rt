@@ -1,0 +1,45 @@
+//! Two writers, each of which waits before its second write until the other's first one has answered.
+use super::crowd::{Crowd, run};
+use super::step::Act::Write;
+use super::step::Row;
+use super::step::Seen::{Done, Image, Is};
+use super::step::Step::{Base, Has, Make, On, Use};
+use super::step::Tool::{Await, Give};
+use flash_volume::Kind;
+use std::test::*;
+
+const ONE: [Row; 5] = [
+    (Make(Kind::File), Done),
+    (On(0, Write(0, &[1])), Done),
+    (Use(Give(0)), Done),
+    (Use(Await(1)), Is(true)),
+    (On(0, Write(0, &[2])), Done),
+];
+
+const OTHER: [Row; 5] = [
+    (Make(Kind::File), Done),
+    (On(0, Write(0, &[1])), Done),
+    (Use(Give(1)), Done),
+    (Use(Await(0)), Is(true)),
+    (On(0, Write(0, &[2])), Done),
+];
+
+const BOTH: [Row; 2] = [
+    (Base, Image(2, 4)),
+    (Has(&[(1, &[2]), (2, &[2])]), Is(true)),
+];
+
+const IN_TURNS: Crowd = Crowd {
+    segments: 32,
+    gates: &[],
+    beside: &[(&ONE, &[]), (&OTHER, &[])],
+    found: &BOTH,
+};
+
+#[test]
+fn writers_answer_while_others_wait(rt: HostRuntime) -> Result<(), Fail> {
+    for _run in 0..100u32 {
+        run(&rt, rt.alloc(), IN_TURNS)?;
+    }
+    Ok(())
+}
