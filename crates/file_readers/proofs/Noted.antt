@@ -1,7 +1,7 @@
--- A seat has one pin on each noted segment and none on others: a pin and its note are made together, and letting go
--- segment by segment leaves none at the end.
-use Rattle.std.proofs.Common.{◌≡◌, ◌≢◌, ℕ, ◌+◌, ◌<◌, ◌≤◌, List, [], ◌∷◌, zero, suc, length, get_or, set, replicate, Bool, true, false, if◌then◌else◌, refl, sym, ap, ◌∙◌, inl, inr, arith}
-use Rattle.std.proofs.lemmas.List.{get_or-set_same, get_or-set_other, get_or-replicate, get_or_past, length-replicate}
+-- A seat has one pin on each noted segment and none on others: segment by segment they are pinned, and letting go of them
+-- one after the other leaves none at the end.
+use Rattle.std.proofs.Common.{◌≡◌, ◌≢◌, ℕ, ◌+◌, ◌<◌, ◌≤◌, List, [], ◌∷◌, zero, suc, length, get_or, Bool, true, false, if◌then◌else◌, refl, sym, ap, ◌∙◌, inl, inr, arith}
+use Rattle.std.proofs.lemmas.List.{get_or_past}
 use Rattle.std.proofs.lemmas.Bool.{cases_eq, cases_lt}
 use Rattle.words.specs.declared.claim.Pins.{Pins}
 use Rattle.words.specs.Claims.{times}
@@ -25,35 +25,59 @@ pub none_held : (held : List (ℕ × ℕ)) → ((s : ℕ) → times s held ≡ 0
 none_held [] none = refl
 none_held (p ∷ held) none = let z = none p.0 in let one = at_here p.0 1 in absurd (omega arith)
 
--- nothing is noted at the start
-pub none_noted : (n : ℕ) (held : List (ℕ × ℕ)) → held ≡ [] → ArePins (replicate n false) held
-none_noted n held none s = ap (times s) none ∙ sym (noted_none (get_or (replicate n false) s false) (noted n s))
-  where
-    noted : (n s : ℕ) → get_or (replicate n false) s false ≡ false
-    noted n s = elim (cases_lt s n) [
-      | inl lt ↦ get_or-replicate n s false false lt
-      | inr ge ↦ get_or_past (replicate n false) s false (let long = length-replicate n false in omega arith)
-    ]
+-- the noted segments below one are pinned, each once, and no other
+pub record ArePinnedTo (noted : List Bool) (below : ℕ) (held : List (ℕ × ℕ)) : Type 0 where
+  pub pinned : (s : ℕ) → s < below → times s held ≡ (if get_or noted s false then 1 else 0)
+  pub free : (s : ℕ) → below ≤ s → times s held ≡ 0
 
--- one more segment is pinned and noted
-pub one_more : (pinned : List Bool) (old new : Pins) (s i : ℕ) → ArePins pinned old.held → s < length pinned → get_or pinned s false ≡ false → new ≡ pins_with old s i
-    → ArePins (set pinned s true) new.held
-one_more pinned old new s i pins within free is z =
-    let held : times z new.held ≡ times z (pins_with old s i).held = ap (λ (p : Pins). times z p.held) is in
-    elim (cases_eq z s) [
-      | inl e ↦
-          let noted : get_or (set pinned s true) z false ≡ true = ap (λ k. get_or (set pinned s true) k false) e ∙ get_or-set_same pinned s true false within in
-          let one = times-pins_with old s i in
-          let none = pins s in
-          let bit = noted_none (get_or pinned s false) free in
-          let same : times z (pins_with old s i).held ≡ times s (pins_with old s i).held = ap (λ k. times k (pins_with old s i).held) e in
-          let new_bit = noted_one (get_or (set pinned s true) z false) noted in omega arith
-      | inr ne ↦
-          let noted : get_or (set pinned s true) z false ≡ get_or pinned z false = get_or-set_other pinned s z true false ne in
-          let other = times-pins_with-other old s i z ne in
-          let was = pins z in
-          let bit = noted_same (get_or (set pinned s true) z false) (get_or pinned z false) noted in omega arith
-    ]
+pub pinned_none : (noted : List Bool) (held : List (ℕ × ℕ)) → held ≡ [] → ArePinnedTo noted 0 held
+pinned_none noted held none = record { pinned = λ s lt. absurd (omega arith); free = λ s le. ap (times s) none }
+
+pub pinned_kept : (noted : List Bool) (k : ℕ) (held : List (ℕ × ℕ)) → ArePinnedTo noted k held → get_or noted k false ≡ false → ArePinnedTo noted (k + 1) held
+pinned_kept noted k held so free = record {
+  pinned = λ s lt. elim (cases_lt s k) [
+    | inl low ↦ so.pinned s low
+    | inr high ↦
+        let e : s ≡ k = omega arith in
+        let none = so.free s high in
+        let bit = noted_none (get_or noted s false) (ap (λ z. get_or noted z false) e ∙ free) in omega arith
+  ];
+  free = λ s le. so.free s (omega arith);
+}
+
+pub pinned_one : (noted : List Bool) (k i : ℕ) (old new : Pins) → ArePinnedTo noted k old.held → get_or noted k false ≡ true → new ≡ pins_with old k i
+    → ArePinnedTo noted (k + 1) new.held
+pinned_one noted k i old new so there is = record {
+  pinned = λ s lt. elim (cases_eq s k) [
+    | inl e ↦
+        let one = times-pins_with old k i in
+        let none = so.free k (omega arith) in
+        let here : times s new.held ≡ times k (pins_with old k i).held = held s ∙ ap (λ z. times z (pins_with old k i).held) e in
+        let bit = noted_one (get_or noted s false) (ap (λ z. get_or noted z false) e ∙ there) in omega arith
+    | inr ne ↦
+        let other = times-pins_with-other old k i s ne in
+        let here = held s in
+        let was = so.pinned s (omega arith) in omega arith
+  ];
+  free = λ s le.
+      let ne : s ≢ k = λ q. omega arith in
+      let other = times-pins_with-other old k i s ne in
+      let here = held s in
+      let was = so.free s (omega arith) in omega arith;
+}
+  where
+    held : (s : ℕ) → times s new.held ≡ times s (pins_with old k i).held
+    held s = ap (λ (p : Pins). times s p.held) is
+
+-- all are
+pub pinned_all : (noted : List Bool) (n : ℕ) (held : List (ℕ × ℕ)) → length noted ≤ n → ArePinnedTo noted n held → ArePins noted held
+pinned_all noted n held long so s = elim (cases_lt s n) [
+  | inl low ↦ so.pinned s low
+  | inr high ↦
+      let past : get_or noted s false ≡ false = get_or_past noted s false (omega arith) in
+      let bit = noted_none (get_or noted s false) past in
+      let none = so.free s high in omega arith
+]
 
 -- the pins on the segments below one were let go
 pub record AreLetGo (pinned : List Bool) (below : ℕ) (held : List (ℕ × ℕ)) : Type 0 where

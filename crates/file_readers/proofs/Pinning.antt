@@ -1,16 +1,14 @@
--- Each block's ticket is lodged, so its segment may be pinned; walking the blocks in order, a segment is noted once and
--- stays so, until those of all blocks are.
-use Rattle.std.proofs.Common.{◌≡◌, ℕ, ◌+◌, ◌-◌, ◌/◌, ◌<◌, ◌≤◌, List, length, get_or, set, Bool, true, false, Some, inl, inr, sym, ap, ◌∙◌, subst, arith, lit<}
+-- Each block's ticket is lodged, so its segment may be pinned; walking the blocks in order, the segment of each is noted
+-- and stays so, until those of all blocks are, and no other.
+use Rattle.std.proofs.Common.{◌≡◌, ℕ, ◌+◌, ◌-◌, ◌/◌, ◌<◌, ◌≤◌, List, length, get_or, set, replicate, Bool, true, false, Some, inl, inr, sym, ap, ◌∙◌, subst, arith, lit<}
 use Rattle.std.proofs.lemmas.Bool.{cases_eq, cases_lt}
-use Rattle.std.proofs.lemmas.List.{get_or-set_same, get_or-set_other, length-set}
+use Rattle.std.proofs.lemmas.List.{get_or-set_same, get_or-set_other, get_or-replicate, get_or_past, length-replicate}
 use Rattle.std.proofs.Math.Nat.{div-lt_iff_lt-mul}
 use Rattle.geometry.specs.declared.geometry.Geometry.{Geometry}
 use Rattle.geometry.specs.declared.owner.Mark.{Mark}
 use Rattle.geometry.specs.declared.shape.Shape.{Shape}
 use Rattle.geometry.specs.declared.shape.Shape.TheVariants.{Tiny, Kernel}
 use Rattle.geometry.specs.Path.{largest_length}
-use Rattle.words.specs.declared.claim.Pins.{Pins}
-use Rattle.words.specs.Steps.{pins_with}
 use Rattle.geometry.specs.Mark.{same_mark}
 use Rattle.geometry.specs.Shape.{segment_blocks}
 use Rattle.geometry.specs.Address.{segment_of}
@@ -27,8 +25,7 @@ use Rattle.nodes.specs.declared.file.FileState.{FileState}
 use Rattle.nodes.specs.File.{ticket_at, address_of}
 use Rattle.nodes.specs.Held.{AreHeld}
 use Rattle.nodes_walks.specs.Data.{IsNextData}
-use Rattle.file_readers.specs.Law.{ArePins, AreCovered}
-use Rattle.file_readers.proofs.Noted.{one_more}
+use Rattle.file_readers.specs.Law.{AreCovered, AreOccupied}
 use Rattle.file_readers.proofs.Lending.{some_there}
 use Rattle.file_readers.proofs.Lodging.{lodged}
 
@@ -97,28 +94,21 @@ pub largest_small : (shape : Shape) → largest_length shape < 4294967296
 largest_small Tiny = lit< tt
 largest_small Kernel = lit< tt
 
--- once the next block was looked at, its segment is pinned and noted, whether it was before or not
-pub record ArePinnedBelow {B L : Type 0} (f : FileState B L) (segments index : ℕ) (pinned : List Bool) (held : List (ℕ × ℕ)) : Type 0 where
-  pub sized : length pinned ≡ segments
-  pub pins : ArePins pinned held
-  pub covered : AreCoveredBelow f index pinned
+module _ (shape : Shape) (tickets : List Mark) where
+  -- no segment is noted at the start
+  pub occupied_none : (noted : List Bool) (n : ℕ) → noted ≡ replicate n false → AreOccupied shape noted tickets
+  occupied_none noted n none s there = absurd (let e = sym (ap (λ xs. get_or xs s false) none ∙ clear n s) ∙ there in cc)
+    where
+      clear : (n s : ℕ) → get_or (replicate n false) s false ≡ false
+      clear n s = elim (cases_lt s n) [
+        | inl lt ↦ get_or-replicate n s false false lt
+        | inr ge ↦ get_or_past (replicate n false) s false (let long = length-replicate n false in omega arith)
+      ]
 
-module _ {B L : Type 0} (f : FileState B L) (segments from index address s : ℕ) (pinned : List Bool) (old : Pins)
-    (so : ArePinnedBelow f segments from pinned old.held) (next : IsNextData (ticket_at f) from (Some index))
-    (is : address ≡ address_of (ticket_at f index)) (place : s ≡ segment_of f.shape address) where
-  pub pinned_now : (new : Pins) (i : ℕ) → s < segments → get_or pinned s false ≡ false → new ≡ pins_with old s i → ArePinnedBelow f segments (index + 1) (set pinned s true) new.held
-  pinned_now new i within free pin =
-      let inside : s < length pinned = let n = so.sized in omega arith in
-      record {
-        sized = length-set pinned s true ∙ so.sized;
-        pins = one_more pinned old new s i so.pins inside free pin;
-        covered = covered_more f from index address (set pinned s true) (covered_set f from s pinned inside so.covered) next is
-            (ap (λ z. get_or (set pinned s true) z false) (sym place) ∙ get_or-set_same pinned s true false inside);
-      }
-
-  pub pinned_before : get_or pinned s false ≡ true → ArePinnedBelow f segments (index + 1) pinned old.held
-  pinned_before noted = record {
-    sized = so.sized;
-    pins = so.pins;
-    covered = covered_more f from index address pinned so.covered next is (ap (λ z. get_or pinned z false) (sym place) ∙ noted);
-  }
+  -- one more is noted, in which a block of a ticket lies
+  pub occupied_more : (noted : List Bool) (s : ℕ) → AreOccupied shape noted tickets
+      → (m : Mark) × (segment_of shape m.address ≡ s) × (0 < times same_mark m tickets) → AreOccupied shape (set noted s true) tickets
+  occupied_more noted s so here z there = elim (cases_eq z s) [
+    | inl e ↦ (here.0, here.1 ∙ sym e, here.2)
+    | inr ne ↦ so z (sym (get_or-set_other noted s z true false ne) ∙ there)
+  ]

@@ -9,7 +9,6 @@ use device::Block;
 use nodes::FileState;
 use rights_claims::Remembered;
 use rights_names::VolumeName;
-use std::collections::BTreeMap;
 use std::convert::AsSlice;
 use std::marker::Model;
 use words::Words;
@@ -25,7 +24,9 @@ pub struct Reader<'a, V: VolumeName, B: Block> {
     pub(crate) words: &'a Words,
     pub(crate) file: Remembered<FileState<B>>,
     pub(crate) length: u32,
-    pub(crate) leases: BTreeMap<u32, B::Lease>,
+    // The indexes at which the file has blocks, rising, and the lease of each.
+    pub(crate) indexes: Vec<u32>,
+    pub(crate) leases: Vec<B::Lease>,
     pub(crate) pinned: Vec<bool>,
     pub(crate) seat: Holder<V>,
 }
@@ -43,7 +44,7 @@ impl<'a, V: VolumeName, B: Block> Model for Reader<'a, V, B> {
 
     ghost view = { λ r. record { file = file_of r.file.value; segments = segments_of r.file.value; held = r.seat.held } };
 
-    ghost invariant = { λ r. ReaderLaw B.Lease.items V.Numbers.geometry V.Words.words r.words.now r.file.value r.length r.leases r.pinned.items r.seat.held };
+    ghost invariant = { λ r. ReaderLaw B.Lease.items V.Numbers.geometry V.Words.words r.words.now r.file.value r.length r.indexes.items r.leases.items r.pinned.items r.seat.held };
 }
 
 impl<'a, V: VolumeName, B: Block> Reader<'a, V, B> {
@@ -65,9 +66,9 @@ impl<'a, V: VolumeName, B: Block> Reader<'a, V, B> {
         if index >= self.length {
             return false;
         }
-        match self.leases.get(&index) {
-            Some(lease) => out.copy_from_slice(lease.as_slice()),
-            None => out.fill(0),
+        match self.indexes.as_slice().binary_search(&index) {
+            Ok(rank) => out.copy_from_slice(self.leases[rank].as_slice()),
+            Err(_) => out.fill(0),
         }
         true
     }
@@ -80,6 +81,7 @@ impl<'a, V: VolumeName, B: Block> Reader<'a, V, B> {
             words,
             file: _,
             length: _,
+            indexes: _,
             leases: _,
             pinned,
             mut seat,

@@ -1,5 +1,5 @@
 //! How a snapshot is taken, with the file's lock held.
-ghost use Rattle.std.specs.Prelude.{◌≡◌, ◌≤◌, ◌<◌, ◌⊎◌, [], ℕ, false, replicate, length, vec_len, Some, IfOk, IfErr};
+ghost use Rattle.std.specs.Prelude.{◌≡◌, ◌≤◌, ◌<◌, ◌⊎◌, [], ℕ, length, vec_len, Some, IfOk, IfErr};
 ghost use Rattle.geometry.specs.declared.error.Error.TheVariants.{NoMemory, Device};
 ghost use Rattle.geometry.specs.Path.{largest_length};
 ghost use Rattle.geometry.specs.Shape.{block_bytes};
@@ -13,7 +13,7 @@ ghost use Rattle.words.specs.Steps.{pins_with};
 ghost use Rattle.nodes.specs.File.{IsFile, ticket_at, file_of};
 ghost use Rattle.nodes.specs.Held.{AreHeld};
 ghost use Rattle.file_readers.specs.Reader.{IsPinned, segments_of};
-ghost use Rattle.file_readers.specs.Law.{AreLent, ArePins, AreCovered};
+ghost use Rattle.file_readers.specs.Law.{AreLent, ArePins, AreCovered, AreOccupied};
 ghost use Rattle.file_calls.specs.Contents.{AreWhole};
 
 use crate::holder::Holder;
@@ -28,7 +28,6 @@ use rights_books::FileAccount;
 use rights_claims::Remembered;
 use rights_names::VolumeName;
 use std::alloc::Global;
-use std::collections::BTreeMap;
 use std::sync::Wait;
 
 /// A snapshot of a file, whose lock is held and whose tickets are lodged in its account. All memory is made before the first
@@ -57,16 +56,22 @@ pub fn take_reader<'a, V: VolumeName, B: Block + Drop, R: Wait>(
     ensures error { IfErr result (λ refused. (refused.1 ≡ NoMemory) ⊎ (refused.1 ≡ Device)) }
     ensures same { (file.new ≡ file.old) × (account.new ≡ account.old) }
 {
-    match prepare(alloc, area, file) {
-        Ok((leases, mut pinned)) => {
+    match prepare(alloc, area, file, account) {
+        Ok(prepared) => {
+            let Prepared {
+                indexes,
+                leases,
+                noted,
+            } = prepared;
             let Seat { holder: mut seat } = seat;
-            pin_all(rt, area, file, account, &mut seat, &mut pinned);
+            pin_all(rt, area, account, &mut seat, &noted);
             Ok(Reader {
                 words: area.words(),
                 file: Remembered::of(file),
                 length: file.length(),
+                indexes,
                 leases,
-                pinned,
+                pinned: noted,
                 seat,
             })
         }
@@ -74,80 +79,78 @@ pub fn take_reader<'a, V: VolumeName, B: Block + Drop, R: Wait>(
     }
 }
 
-// The leases of all blocks of a file, and room to note which segments are pinned.
+// All that a snapshot takes memory for.
+struct Prepared<L> {
+    // The indexes at which the file has blocks, rising, and the lease of each.
+    indexes: Vec<u32>,
+    leases: Vec<L>,
+    // Whether a block of the file lies in each segment.
+    noted: Vec<bool>,
+}
+
+// The leases of all blocks of a file, and the segments in which they lie, in one walk in the order of their indexes.
 fn prepare<V: VolumeName, B: Block + Drop>(
     alloc: Global,
     area: &MainArea<V, B>,
     file: &mut FileState<B>,
-) -> Result<(BTreeMap<u32, B::Lease>, Vec<bool>), Error>
-    requires file { IsFile file.old }
-    requires short { file.old.length ≤ largest_length file.old.shape }
-    ensures lent { IfOk result (λ made. AreLent B.Lease.items made.0 file.old) }
-    ensures none { IfOk result (λ made. made.1.items ≡ replicate V.Numbers.geometry.segments false) }
-    ensures error { IfErr result (λ error. (error ≡ NoMemory) ⊎ (error ≡ Device)) }
-    ensures same { file.new ≡ file.old }
-{
-    let leases = lend_all(alloc, file)?;
-    let segments = area.geometry().segments as usize;
-    let pinned = vec![in alloc; false; segments]?;
-    Ok((leases, pinned))
-}
-
-// The leases of all blocks of a file, by their indexes.
-fn lend_all<B: Block>(
-    alloc: Global,
-    file: &mut FileState<B>,
-) -> Result<BTreeMap<u32, B::Lease>, Error>
-    requires file { IsFile file.old }
-    requires short { file.old.length ≤ largest_length file.old.shape }
-    ensures lent { IfOk result (λ leases. AreLent B.Lease.items leases file.old) }
-    ensures error { IfErr result (λ error. (error ≡ NoMemory) ⊎ (error ≡ Device)) }
-    ensures same { file.new ≡ file.old }
-{
-    let mut leases = BTreeMap::new(alloc);
-    let mut from = 0;
-    while let Some(index) = next_data(file, from) {
-        match file.lend(index)? {
-            Some(lease) => match leases.insert(index, lease) {
-                Ok(_) => {}
-                Err(_) => return Err(Error::NoMemory),
-            },
-            None => unreachable!(),
-        }
-        from = index + 1;
-    }
-    Ok(leases)
-}
-
-// Pins the segment of each block of a file, once.
-fn pin_all<V: VolumeName, B: Block + Drop, R: Wait>(
-    rt: &R,
-    area: &MainArea<V, B>,
-    file: &FileState<B>,
     account: &mut FileAccount,
-    seat: &mut Holder<V>,
-    pinned: &mut [bool],
-)
-    requires file { IsFile file.now }
-    requires shape { file.now.shape ≡ V.Numbers.geometry.shape }
-    requires short { file.now.length ≤ largest_length file.now.shape }
+) -> Result<Prepared<B::Lease>, Error>
+    requires file { IsFile file.old }
+    requires shape { file.old.shape ≡ V.Numbers.geometry.shape }
+    requires short { file.old.length ≤ largest_length file.old.shape }
     requires book { account.old.book ≡ V.Books.books.book }
-    requires lodged { AreHeld file.now account.old.tickets account.old.tokens }
-    requires none { pinned.old ≡ replicate V.Numbers.geometry.segments false }
-    requires seat { seat.old.held ≡ [] }
-    ensures pins { ArePins pinned.new seat.new.held }
-    ensures covered { AreCovered pinned.new file.now }
-    ensures account { account.new ≡ account.old }
+    requires lodged { AreHeld file.old account.old.tickets account.old.tokens }
+    ensures lent { IfOk result (λ made. AreLent B.Lease.items made.indexes.items made.leases.items file.old) }
+    ensures sized { IfOk result (λ made. length made.noted.items ≡ V.Numbers.geometry.segments) }
+    ensures covered { IfOk result (λ made. AreCovered made.noted.items file.old) }
+    ensures occupied { IfOk result (λ made. AreOccupied V.Numbers.geometry.shape made.noted.items account.old.tickets) }
+    ensures error { IfErr result (λ error. (error ≡ NoMemory) ⊎ (error ≡ Device)) }
+    ensures same { (file.new ≡ file.old) × (account.new ≡ account.old) }
 {
+    let segments = area.geometry().segments as usize;
+    let mut noted = vec![in alloc; false; segments]?;
+    let mut indexes = Vec::new(alloc);
+    let mut leases = Vec::new(alloc);
     area.books().show_within(account);
     let mut from = 0;
     while let Some(index) = next_data(file, from) {
         let segment = area.geometry().segment_of(file.slot(index));
-        if !pinned[segment as usize] {
-            pin_segment(rt, area, account, seat, segment);
-            pinned[segment as usize] = true;
+        noted[segment as usize] = true;
+        match file.lend(index)? {
+            Some(lease) => {
+                indexes.push(index)?;
+                leases.push(lease)?;
+            }
+            None => unreachable!(),
         }
         from = index + 1;
+    }
+    Ok(Prepared {
+        indexes,
+        leases,
+        noted,
+    })
+}
+
+// Pins each segment that is noted, once.
+fn pin_all<V: VolumeName, B: Block + Drop, R: Wait>(
+    rt: &R,
+    area: &MainArea<V, B>,
+    account: &mut FileAccount,
+    seat: &mut Holder<V>,
+    noted: &[bool],
+)
+    requires book { account.old.book ≡ V.Books.books.book }
+    requires sized { length noted.now ≡ V.Numbers.geometry.segments }
+    requires occupied { AreOccupied V.Numbers.geometry.shape noted.now account.old.tickets }
+    requires seat { seat.old.held ≡ [] }
+    ensures pins { ArePins noted.now seat.new.held }
+    ensures account { account.new ≡ account.old }
+{
+    for segment in 0..noted.len() as u32 {
+        if noted[segment as usize] {
+            pin_segment(rt, area, account, seat, segment);
+        }
     }
 }
 

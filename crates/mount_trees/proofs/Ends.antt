@@ -1,14 +1,14 @@
 -- An index's path leads through the loaded nodes as through the image's, number by number: so at its end stands the
 -- ticket of the block that the image names there, or nothing.
-use Rattle.std.proofs.Common.{◌≡◌, ℕ, zero, suc, ◌+◌, ◌-◌, ◌*◌, ◌/◌, ◌%◌, ◌<◌, ◌≤◌, true, false, List, [], ◌∷◌, length, Option, Some, None, inl, inr, refl, sym, ap, subst, ◌∙◌, arith}
-use Rattle.std.specs.Prelude.{slice_index, slice_index_or}
+use Rattle.std.proofs.Common.{◌≡◌, ℕ, zero, suc, ◌+◌, ◌-◌, ◌*◌, ◌/◌, ◌%◌, ◌<◌, ◌≤◌, List, length, Option, Some, None, inl, inr, refl, sym, ap, subst, ◌∙◌, arith}
+use Rattle.std.specs.Prelude.{slice_index}
 use Rattle.std.proofs.lemmas.Bool.{cases_lt}
 use Rattle.std.proofs.lemmas.List.{get_or_past}
 use Rattle.std.proofs.lemmas.Nat.{div_below, le-div}
 use Rattle.geometry.specs.declared.owner.Owner.{Owner}
 use Rattle.geometry.specs.declared.owner.Owner.TheVariants.{Data}
 use Rattle.geometry.specs.declared.path.Path.{Path}
-use Rattle.geometry.specs.declared.path.Path.TheVariants.{Inode, Direct, Indirect, Double}
+use Rattle.geometry.specs.declared.path.Path.TheVariants.{Direct, Indirect, Double}
 use Rattle.geometry.specs.Path.{inode_entries, node_entries, largest_length, path}
 use Rattle.tickets.specs.Placed.{Placed}
 use Rattle.tree.specs.declared.branch.Branch.{Branch}

@@ -1,6 +1,6 @@
 -- In a lawful image nothing misfits below an inode, so no place on the way down does; and the blocks that a load takes,
 -- entry by entry, are those that the walk names.
-use Rattle.std.proofs.Common.{◌≡◌, ℕ, zero, suc, ◌+◌, ◌-◌, ◌<◌, ◌≤◌, ◌==◌, Bool, true, false, not, ◌&&◌, IsTrue, List, [], ◌∷◌, ◌++◌, length, get_or, if◌then◌else◌, inl, inr, refl, sym, ap, subst, ◌∙◌, ne_eqb, arith}
+use Rattle.std.proofs.Common.{◌≡◌, ℕ, zero, suc, ◌+◌, ◌-◌, ◌<◌, ◌≤◌, ◌==◌, Bool, true, false, not, ◌&&◌, List, [], ◌∷◌, ◌++◌, length, if◌then◌else◌, inl, inr, refl, sym, ap, subst, ◌∙◌, ne_eqb, arith}
 use Rattle.std.specs.Prelude.{slice_index, slice_index_or, All, Contains, filter}
 use Rattle.std.specs.List.{flat_map}
 use Rattle.std.proofs.lemmas.Bool.{cases_lt, eqb-true}
@@ -10,14 +10,14 @@ use Rattle.geometry.specs.Weights.{weigh}
 use Rattle.geometry.proofs.Weighing.{weigh-append}
 use Rattle.geometry.specs.declared.geometry.Geometry.{Geometry}
 use Rattle.geometry.specs.declared.owner.Mark.{Mark}
-use Rattle.geometry.specs.Path.{inode_entries, node_entries}
+use Rattle.geometry.specs.Path.{node_entries}
 use Rattle.image.specs.Node.{Node, HasEntries}
 use Rattle.image.specs.Image.{Image, no_node, entry_of, node_of}
-use Rattle.image.specs.Walk.{data_names, node_name, own_names, class_at, fits, names_below, child, places, walk, is_taken, misfits_below, misfits, up_to}
-use Rattle.image.specs.Rules.{IsInRange, HasRange, IsNodeOf}
-use Rattle.mount_trees.specs.Loaded.{name_weight, names_below as loaded_names, weigh_from, numbers_in, FitsBelow, IsNodeThere}
+use Rattle.image.specs.Walk.{data_names, own_names, class_at, fits, names_below, child, walk, is_taken, misfits_below, misfits, up_to}
+use Rattle.image.specs.Rules.{IsInRange, HasRange}
+use Rattle.mount_trees.specs.Loaded.{name_weight, names_below as loaded_names, weigh_from, FitsBelow}
 use Rattle.mount_trees.proofs.Stocks.{some_name, node_names}
-use Rattle.mount_trees.specs.FileLoaded.{FitsFile, fits_direct, fits_indirect, fits_double, names_direct, names_indirect, names_double, file_names}
+use Rattle.mount_trees.specs.FileLoaded.{FitsFile, fits_direct, fits_indirect, fits_double, names_direct, names_indirect, file_names}
 
 both : (a b : Bool) → a && b ≡ true → (a ≡ true) × (b ≡ true)
 both true true e = (refl, refl)

@@ -1,10 +1,10 @@
 -- A name's node is a taken number in range, and its slot is less than a node has entries: so by induction down the tree
 -- each name's owner is one that a summary can tell.
-use Rattle.std.proofs.Common.{◌≡◌, ℕ, zero, suc, ◌+◌, ◌-◌, ◌^◌, ◌<◌, ◌≤◌, ◌==◌, nat_lt, Bool, true, false, ◌&&◌, List, [], ◌∷◌, ◌++◌, length, get_or, append-nil, if◌then◌else◌, inl, inr, refl, sym, ap, subst, ◌∙◌, ne_eqb, arith}
-use Rattle.std.specs.Prelude.{All, slice_index, filter}
+use Rattle.std.proofs.Common.{◌≡◌, ℕ, zero, suc, ◌+◌, ◌-◌, ◌^◌, ◌<◌, ◌≤◌, nat_lt, Bool, true, false, ◌&&◌, List, [], ◌∷◌, ◌++◌, length, get_or, append-nil, if◌then◌else◌, refl, sym, ap, subst, ◌∙◌, arith}
+use Rattle.std.specs.Prelude.{All, filter}
 use Rattle.std.specs.List.{flat_map}
 use borrow.Author.Tests.{lt-ltb}
-use Rattle.std.proofs.lemmas.Bool.{cases_lt, ltb-true}
+use Rattle.std.proofs.lemmas.Bool.{ltb-true}
 use Rattle.std.proofs.lemmas.List.Elements.{filter-append}
 use Rattle.geometry.specs.Weights.{weigh}
 use Rattle.geometry.proofs.Weighing.{weigh-append, weigh-at}
@@ -14,14 +14,14 @@ use Rattle.geometry.specs.declared.owner.Owner.{Owner}
 use Rattle.geometry.specs.declared.owner.Owner.TheVariants.{Node, Data}
 use Rattle.geometry.specs.declared.owner.Mark.{Mark}
 use Rattle.geometry.specs.Owner.{IsOwner}
-use Rattle.geometry.specs.Path.{node_entries, inode_entries}
+use Rattle.geometry.specs.Path.{node_entries}
 use Rattle.image.specs.Image.{Image, node_of}
-use Rattle.image.specs.Walk.{child, node_name, walk, names, inodes, is_taken, misfits, up_to}
+use Rattle.image.specs.Walk.{child, node_name, walk, names, inodes, is_taken, up_to}
 use Rattle.image.specs.Rules.{IsLawful}
 use Rattle.image.proofs.Shapes.{is_shape}
 use Rattle.mount_trees.specs.Loaded.{FitsBelow, name_weight, names_below, weigh_from}
 use Rattle.mount_trees.proofs.Stocks.{some_name, node_names}
-use Rattle.mount_trees.specs.FileLoaded.{FitsFile, fits_direct, fits_indirect, fits_double, names_direct, names_indirect, names_double, file_names}
+use Rattle.mount_trees.specs.FileLoaded.{FitsFile, fits_direct, fits_indirect, names_direct, names_indirect, file_names}
 use Rattle.mount_trees.proofs.Fitting.{file_fits, file_is_walk}
 
 is_owner : Owner → Bool

@@ -1,16 +1,16 @@
 -- A right stands at one place only, that of its address or number: so where a stock weighs a name its right is there,
 -- and taking it out takes just that weight away.
-use Rattle.std.proofs.Common.{rules, IsSome, ◌&&◌, ◌≡◌, ℕ, zero, suc, ◌+◌, ◌<◌, ◌≤◌, ◌==◌, Bool, true, false, List, [], ◌∷◌, length, get_or, set, Option, Some, None, if◌then◌else◌, refl, sym, ap, subst, ◌∙◌, ne_eqb, arith}
+use Rattle.std.proofs.Common.{rules, IsSome, ◌&&◌, ◌≡◌, ℕ, zero, suc, ◌+◌, ◌<◌, ◌≤◌, ◌==◌, Bool, true, false, List, [], ◌∷◌, get_or, set, Option, Some, None, if◌then◌else◌, refl, sym, ap, subst, ◌∙◌, ne_eqb, arith}
 use Rattle.geometry.specs.Weights.{weigh}
 use Rattle.geometry.proofs.Weighing.{weigh-some}
 use Rattle.geometry.specs.declared.owner.Mark.{Mark}
 use Rattle.geometry.specs.declared.owner.Owner.{Owner}
 use Rattle.geometry.specs.declared.owner.Owner.TheVariants.{Node, Data}
-use Rattle.geometry.specs.Mark.{same_mark, same_owner}
+use Rattle.geometry.specs.Mark.{same_mark}
 use Rattle.geometry.proofs.MarkTests.{mark_eq, mark_self}
 use Rattle.rights_books.specs.declared.claim.Entry.{Entry}
 use Rattle.rights_books.specs.Weights.{mark_of}
-use Rattle.mount_trees.specs.Goods.{Shelves, Goods, AreLeft, ArePlaced, IsData, in_place, goods_weight, marks_weight}
+use Rattle.mount_trees.specs.Goods.{Goods, AreLeft, ArePlaced, IsData, in_place, goods_weight, marks_weight}
 use Rattle.image.specs.Image.{Image, node_of}
 use Rattle.image.specs.Walk.{node_name}
 use Rattle.mount_trees.specs.Loaded.{name_weight, names_below, numbers_in, weigh_from}

@@ -1,8 +1,7 @@
 -- A loaded tree has the shape of the image's, level by level, with nothing past the length, and no node was marked: so
 -- it is a file, and clean.
-use Rattle.std.proofs.Common.{◌≡◌, ◌≢◌, ℕ, zero, suc, ◌+◌, ◌<◌, ◌≤◌, true, false, List, [], ◌∷◌, length, Option, Some, None, refl, sym, ap, subst, ◌∙◌, arith}
-use Rattle.std.specs.Prelude.{slice_index, slice_index_or}
-use Rattle.geometry.specs.Weights.{weigh}
+use Rattle.std.proofs.Common.{◌≡◌, ◌≢◌, ℕ, zero, suc, ◌+◌, ◌<◌, Option, Some, None, refl, sym, subst, ◌∙◌, arith}
+use Rattle.std.specs.Prelude.{slice_index_or}
 use Rattle.geometry.specs.declared.owner.Owner.{Owner}
 use Rattle.geometry.specs.Path.{node_entries, path}
 use Rattle.tickets.specs.Placed.{Placed}
@@ -18,7 +17,6 @@ use Rattle.image.specs.Image.{Image, node_of}
 use Rattle.image.specs.Walk.{child}
 use Rattle.image.specs.Files.{data_address}
 use Rattle.mount_trees.specs.Goods.{Shelves}
-use Rattle.mount_trees.specs.Loaded.{AreLoaded}
 use Rattle.mount_trees.specs.FileLoaded.{FitsFile, IsLoadedFile, Ended, fits_direct, fits_indirect, fits_double, loaded_direct, loaded_indirect, loaded_double}
 use Rattle.mount_trees.proofs.Ends.{at_any, ended, direct_of, indirect_of, double_of}
 

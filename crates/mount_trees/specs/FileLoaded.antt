@@ -1,12 +1,11 @@
 -- What an image has of a file, and when a state is that file (Linux filesystems/f2fs, index structure).
-use Rattle.std.specs.Prelude.{◌≡◌, ℕ, ◌+◌, ◌<◌, true, false, List, [], ◌∷◌, length, slice_index_or, Option, Some, None}
+use Rattle.std.specs.Prelude.{◌≡◌, ℕ, ◌+◌, ◌<◌, true, false, [], ◌∷◌, length, slice_index_or, Option, Some, None}
 use Rattle.geometry.specs.declared.shape.Shape.{Shape}
 use Rattle.geometry.specs.declared.owner.Mark.{Mark}
 use Rattle.geometry.specs.declared.owner.Owner.{Owner}
 use Rattle.geometry.specs.Path.{inode_entries, node_entries}
 use Rattle.tickets.specs.Placed.{Placed}
 use Rattle.tree.specs.declared.branch.Branch.{Branch}
-use Rattle.tree.specs.Tree.{entry_at}
 use Rattle.nodes.specs.declared.file.FileState.{FileState}
 use Rattle.image.specs.Image.{Image, node_of, entry_of}
 use Rattle.image.specs.Walk.{child, node_name}

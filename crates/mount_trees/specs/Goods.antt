@@ -1,5 +1,5 @@
 -- What stands ready for the files of a volume that is mounted, and what it weighs.
-use Rattle.std.specs.Prelude.{◌≡◌, ℕ, ◌+◌, ◌<◌, List, Option, Some, None, slice_index_or}
+use Rattle.std.specs.Prelude.{◌≡◌, ℕ, ◌+◌, List, Option, Some, None, slice_index_or}
 use Rattle.geometry.specs.Weights.{weigh}
 use Rattle.geometry.specs.declared.owner.Mark.{Mark}
 use Rattle.geometry.specs.declared.owner.Owner.{Owner}

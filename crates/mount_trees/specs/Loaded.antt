@@ -1,5 +1,5 @@
 -- What an image names at each level of an index tree, and when a tree is what it names (Linux filesystems/f2fs, index structure).
-use Rattle.std.specs.Prelude.{◌≡◌, ℕ, ◌+◌, ◌-◌, ◌<◌, ◌≤◌, ◌==◌, if◌then◌else◌, Bool, true, false, List, [], ◌∷◌, length, slice_index, slice_index_or, Option, Some, None}
+use Rattle.std.specs.Prelude.{◌≡◌, ℕ, ◌+◌, ◌-◌, ◌<◌, ◌≤◌, ◌==◌, if◌then◌else◌, Bool, false, List, [], ◌∷◌, length, slice_index, slice_index_or, Option, Some, None}
 use Rattle.std.proofs.Common.{suc}
 use Rattle.geometry.specs.declared.owner.Mark.{Mark}
 use Rattle.geometry.specs.declared.owner.Owner.TheVariants.{Data}
@@ -45,12 +45,14 @@ pub record IsNodeThere (is_leaf : Bool) (Fits : ℕ → Type 0) (image : Image) 
 abbrev pub FitsBelow : Bool → (ℕ → Type 0) → Image → ℕ → ℕ → ℕ → Type 0
 FitsBelow is_leaf Fits image entries inode number = 0 < number → IsNodeThere is_leaf Fits image entries inode number
 
--- room for what a list of numbers names: for each of them a slot with nothing, and the room of what it names, the last number's first
+-- Room for what a list of numbers names: for each of them a slot with nothing, and up to where all that follow are 0 the room of
+-- what it names, the last number's first.
 pub record IsRoomFor {C R : Type 0} (Roomy : ℕ → R → Type 0) (numbers : List ℕ) (room : NodeRoom C R) : Type 0 where
   pub places : length room.slots.items ≡ length numbers
   pub empty : AreNone room.slots.items
-  pub count : length room.below.items ≡ length numbers
-  pub below : (k : ℕ) (other : R) → k < length room.below.items → Roomy (slice_index numbers (length numbers - 1 - k)) (slice_index_or room.below.items k other)
+  pub few : length room.below.items ≤ length numbers
+  pub past : (k : ℕ) → length room.below.items ≤ k → slice_index numbers k ≡ 0
+  pub below : (k : ℕ) (other : R) → k < length room.below.items → Roomy (slice_index numbers (length room.below.items - 1 - k)) (slice_index_or room.below.items k other)
 
 -- the room of what an entry names
 abbrev pub RoomyBelow : {C R : Type 0} → Bool → (ℕ → R → Type 0) → Image → ℕ → Option (NodeRoom C R) → Type 0

@@ -26,13 +26,26 @@ pub fn make_rooms<C: Load>(
     ensures room { IfOk result (λ room. IsRoomFor (C.roomy (image_view image.now)) numbers.now room) }
 {
     let slots = Slots::new(alloc, numbers.len())?;
-    match rooms_below::<C>(alloc, image, entries, numbers) {
+    let used = used_of(numbers);
+    match rooms_below::<C>(alloc, image, entries, &numbers[..used]) {
         Ok(below) => Ok(NodeRoom { slots, below }),
         Err(error) => {
             slots.destroy();
             Err(error)
         }
     }
+}
+
+// From which place on all of these numbers are 0.
+fn used_of(numbers: &[u32]) -> usize
+    ensures within { result ≤ length numbers.now }
+    ensures past { (k : ℕ) → result ≤ k → slice_index numbers.now k ≡ 0 }
+{
+    let mut used = numbers.len();
+    while used > 0 && numbers[used - 1] == 0 {
+        used -= 1;
+    }
+    used
 }
 
 // The memory of what each of these numbers names, the last one's first.
@@ -103,7 +116,7 @@ pub fn load_entries<C: Load>(
         mut slots,
         mut below,
     } = room;
-    for place in 0..numbers.len() {
+    for place in 0..below.len() {
         match below.pop() {
             Some(room) => {
                 let number = numbers[place];

@@ -4,7 +4,7 @@ ghost use Rattle.image.specs.Image.{node_of};
 ghost use Rattle.image.specs.Walk.{child};
 ghost use Rattle.image.specs.View.{image_view};
 ghost use Rattle.mount_trees.specs.Loaded.{IsRoomFor};
-ghost use Rattle.mount_trees.specs.FileLoaded.{FitsFile, IsFileRoom};
+ghost use Rattle.mount_trees.specs.FileLoaded.{FitsFile, IsFileRoom, fits_direct, fits_indirect, fits_double, roomy_direct, roomy_indirect, roomy_double};
 
 use crate::{Load, NodeRoom, free_node_room, make_rooms};
 use device::Block;
@@ -75,24 +75,9 @@ pub fn make_file_room<B: Block>(
     ensures room { IfOk result (λ room. IsFileRoom (image_view image.now) inode room) }
 {
     let entries = shape.node_entries() as usize;
-    let tickets = make_tickets::<B>(alloc, image, entries, inode)?;
-    let direct = match make_pair::<Branch<Ticket<B>>>(alloc, image, entries, inode, 0) {
-        Ok(direct) => direct,
-        Err(error) => {
-            free_node_room::<Ticket<B>>(tickets);
-            return Err(error);
-        }
-    };
-    let indirect = match make_pair::<Branch<Branch<Ticket<B>>>>(alloc, image, entries, inode, 2) {
-        Ok(indirect) => indirect,
-        Err(error) => {
-            free_node_room::<Ticket<B>>(tickets);
-            free_node_room::<Branch<Ticket<B>>>(direct);
-            return Err(error);
-        }
-    };
-    match make_last::<Branch<Branch<Branch<Ticket<B>>>>>(alloc, image, entries, inode) {
-        Ok(double) => Ok(FileRoom {
+    let FrontRoom { tickets, direct } = make_front(alloc, image, entries, inode)?;
+    match make_back(alloc, image, entries, inode) {
+        Ok(BackRoom { indirect, double }) => Ok(FileRoom {
             tickets,
             direct,
             indirect,
@@ -101,6 +86,59 @@ pub fn make_file_room<B: Block>(
         Err(error) => {
             free_node_room::<Ticket<B>>(tickets);
             free_node_room::<Branch<Ticket<B>>>(direct);
+            Err(error)
+        }
+    }
+}
+
+// The memory of the data blocks of an inode, and of its direct nodes.
+struct FrontRoom<B: Block> {
+    tickets: TicketRoom<B>,
+    direct: DirectRoom<B>,
+}
+
+// The memory of the indirect nodes of an inode, and of the double indirect one.
+struct BackRoom<B: Block> {
+    indirect: IndirectRoom<B>,
+    double: DoubleRoom<B>,
+}
+
+fn make_front<B: Block>(
+    alloc: Global,
+    image: &Image,
+    entries: usize,
+    inode: u32,
+) -> Result<FrontRoom<B>, AllocError>
+    requires class { (node_of (image_view image.now) inode).class < 3 }
+    requires fits { (k : ℕ) → k < 2 → fits_direct (image_view image.now) entries inode (child (image_view image.now) inode k) }
+    ensures tickets { IfOk result (λ room. IsRoomFor (λ _ _. Unit {0}) (node_of (image_view image.now) inode).addresses room.tickets) }
+    ensures direct { IfOk result (λ room. IsRoomFor (λ n r. roomy_direct (image_view image.now) n r) (child (image_view image.now) inode 0 ∷ child (image_view image.now) inode 1 ∷ []) room.direct) }
+{
+    let tickets = make_tickets::<B>(alloc, image, entries, inode)?;
+    match make_pair::<Branch<Ticket<B>>>(alloc, image, entries, inode, 0) {
+        Ok(direct) => Ok(FrontRoom { tickets, direct }),
+        Err(error) => {
+            free_node_room::<Ticket<B>>(tickets);
+            Err(error)
+        }
+    }
+}
+
+fn make_back<B: Block>(
+    alloc: Global,
+    image: &Image,
+    entries: usize,
+    inode: u32,
+) -> Result<BackRoom<B>, AllocError>
+    requires indirect { (k : ℕ) → k < 2 → fits_indirect (image_view image.now) entries inode (child (image_view image.now) inode (2 + k)) }
+    requires double { fits_double (image_view image.now) entries inode (child (image_view image.now) inode 4) }
+    ensures indirect { IfOk result (λ room. IsRoomFor (λ n r. roomy_indirect (image_view image.now) n r) (child (image_view image.now) inode 2 ∷ child (image_view image.now) inode 3 ∷ []) room.indirect) }
+    ensures double { IfOk result (λ room. IsRoomFor (λ n r. roomy_double (image_view image.now) n r) (child (image_view image.now) inode 4 ∷ []) room.double) }
+{
+    let indirect = make_pair::<Branch<Branch<Ticket<B>>>>(alloc, image, entries, inode, 2)?;
+    match make_last::<Branch<Branch<Branch<Ticket<B>>>>>(alloc, image, entries, inode) {
+        Ok(double) => Ok(BackRoom { indirect, double }),
+        Err(error) => {
             free_node_room::<Branch<Branch<Ticket<B>>>>(indirect);
             Err(error)
         }

@@ -1,5 +1,5 @@
 //! What an entry of an image's node names comes into a slot.
-ghost use Rattle.std.specs.Prelude.{◌≡◌, ℕ, ◌+◌, ◌<◌, ◌≤◌, List, Option, IfOk};
+ghost use Rattle.std.specs.Prelude.{◌≡◌, ℕ, ◌+◌, ◌<◌, ◌≤◌, List, Option, None, IfOk};
 ghost use Rattle.geometry.specs.declared.owner.Mark.{Mark};
 ghost use Rattle.rights_books.specs.declared.claim.Entry.{Entry};
 ghost use Rattle.image.specs.Image.{Image as Imaged};
@@ -33,6 +33,11 @@ pub trait Load: Subtree {
     ghost roomy: { Imaged → ℕ → Self.Room → Type 0 };
 
     ghost loaded: { Imaged → Shelves Self.Leaf → ℕ → ℕ → ℕ → Option Self → Type 0 };
+
+    // An entry of 0 names nothing, and nothing is loaded for it.
+    ghost names_none: { (image : Imaged) (h : Mark → ℕ) (parent slot : ℕ) → names image h parent slot 0 ≡ 0 };
+
+    ghost loaded_none: { (image : Imaged) (all : Shelves Self.Leaf) (parent slot : ℕ) → loaded image all parent slot 0 None };
 
     /// Makes the memory of what an entry of this number names. Where memory is missing nothing is kept.
     fn make_room(
@@ -69,6 +74,8 @@ pub trait Load: Subtree {
 }
 
 impl<B: Block> Load for Ticket<B> {
+    ghost use Rattle.std.specs.Prelude.{refl};
+
     type Room = ();
 
     ghost mark_of = { λ t. t.mark };
@@ -80,6 +87,10 @@ impl<B: Block> Load for Ticket<B> {
     ghost roomy = { λ _ _ _. Unit {0} };
 
     ghost loaded = { λ _ all parent slot number value. IsTicketOf (λ t. t.mark) all.tickets parent slot number value };
+
+    ghost names_none = { λ _ _ _ _. refl };
+
+    ghost loaded_none = { λ _ _ _ _. refl };
 
     fn make_room(
         _alloc: Global,
@@ -121,6 +132,8 @@ fn numbers_of<C: Subtree>(node: &Node) -> &[u32]
 }
 
 impl<C: Load> Load for Branch<C> {
+    ghost use Rattle.std.specs.Prelude.{refl};
+
     type Room = Option<NodeRoom<C, C::Room>>;
 
     ghost mark_of = { C.mark_of };
@@ -132,6 +145,10 @@ impl<C: Load> Load for Branch<C> {
     ghost roomy = { λ image number room. RoomyBelow C.is_leaf (C.roomy image) image number room };
 
     ghost loaded = { λ image all _ _ number value. LoadedBelow C.is_leaf (C.loaded image all) image all.tokens number value };
+
+    ghost names_none = { λ _ _ _ _. refl };
+
+    ghost loaded_none = { λ _ _ _ _. refl };
 
     fn make_room(
         alloc: Global,

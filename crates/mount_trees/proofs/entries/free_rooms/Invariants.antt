@@ -1,4 +1,4 @@
-use Rattle.std.proofs.Common.{◌≡◌, ℕ, ◌<◌, length, vec_len}
+use Rattle.std.proofs.Common.{ℕ, ◌<◌, length, vec_len}
 use Rattle.std.specs.Prelude.{slice_index_or}
 use Rattle.image.specs.Image.{Image}
 use Rattle.mount_trees.proofs.entries.free_rooms.Given as goal

@@ -2,7 +2,7 @@
 -- puts it into the next slot, which is empty yet.
 use Rattle.std.proofs.Common.{◌≡◌, ◌≢◌, ℕ, ◌+◌, ◌-◌, ◌<◌, List, [], ◌∷◌, length, set, Option, None, refl, ap, sym, subst, ◌∙◌, inl, inr, arith}
 use Rattle.std.proofs.lemmas.Bool.{cases_lt}
-use Rattle.std.proofs.lemmas.List.{length-append, length-set, get_or-set_same, get_or-set_other, take_all}
+use Rattle.std.proofs.lemmas.List.{length-append, length-set, get_or-set_same, get_or-set_other}
 use Rattle.std.specs.Prelude.{slice_index}
 use Rattle.geometry.specs.Weights.{weigh}
 use Rattle.geometry.proofs.Weighing.{weigh-set}
@@ -10,8 +10,8 @@ use Rattle.geometry.proofs.Indexing.{EachAt, each_front}
 use Rattle.tree.specs.Tree.{EmptyFrom, entry_at}
 use Rattle.tree.proofs.Changes.{weigh_nothing}
 use Rattle.image.specs.View.{image_view}
-use Rattle.mount_trees.specs.Loaded.{weigh_from, of_rights}
-use Rattle.mount_trees.proofs.Places.{next_named, most_named}
+use Rattle.mount_trees.specs.Loaded.{of_rights}
+use Rattle.mount_trees.proofs.Places.{front_names, next_named, most_named}
 use Rattle.mount_trees.proofs.entries.load_entries.Goals as goal
 
 pub load-requires-clause-there : goal.load-requires-clause-there
@@ -55,7 +55,7 @@ loop-place-init g c =
     record {
       full = room.places;
       unused = λ k _. room.empty k;
-      left = omega (arith, room.count);
+      left = omega arith;
       rooms = room.below;
       all = refl;
       loaded = λ k below. absurd (omega (arith, below));
@@ -74,12 +74,13 @@ loop-place-preserved g c =
     let slots = c.loop-place.slots.items in
     let after = c.fill.new.self.items in
     let slot = c.load.result in
+    let few = c.requires.room.few in
     let within : place < length numbers = omega arith in
     let low : place < length slots = omega (arith, before.full) in
     let long : length after ≡ length slots = ap length c.fill.ensures ∙ length-set slots place slot in
     let shorter = ap length c.in-Some.ensures.items in
     let popped = length-append c.pop.new.self.items (c.in-Some.room ∷ []) in
-    let P : ℕ → g.row.C-Room.Denot → Type 0 = λ k r. g.C.Load.roomy image (slice_index numbers (length numbers - 1 - k)) r in
+    let P : ℕ → g.row.C-Room.Denot → Type 0 = λ k r. g.C.Load.roomy image (slice_index numbers (length c.args.room.below.items - 1 - k)) r in
     let Q : ℕ → Option g.row.C.Denot → Type 0 = λ k s. g.C.Load.loaded image c.args.stock.now.all c.args.parent k (slice_index numbers k) s in
     let here : Q place slot = subst (λ all. g.C.Load.loaded image all c.args.parent place (slice_index numbers place) slot) before.all c.load.ensures.loaded in
     record {
@@ -102,9 +103,26 @@ loop-place-preserved g c =
           omega arith);
     }
 
+pub returns-clause-loaded : goal.returns-clause-loaded
+returns-clause-loaded g c =
+    let image = image_view c.args.image.now in
+    let numbers = c.args.numbers.now in
+    let slots = c.loop-place.slots.items in
+    let before = c.loop-place.invariant in
+    let Q : ℕ → ℕ → Option g.row.C.Denot → Type 0 = λ k n s. g.C.Load.loaded image c.args.stock.now.all c.args.parent k n s in (
+      before.full,
+      λ k within. elim (cases_lt k c.loop-place.place) [
+        | inl lt ↦ before.loaded k lt
+        | inr ge ↦
+            subst (λ n. Q k n (entry_at slots k)) (sym (c.requires.room.past k (omega arith)))
+            (subst (Q k 0) (sym (before.unused k ge)) (g.C.Load.loaded_none image c.args.stock.now.all c.args.parent k))
+      ],
+    )
+
 pub returns-clause-taken : goal.returns-clause-taken
 returns-clause-taken g c = λ h.
-    let names = g.C.Load.names (image_view c.args.image.now) h c.args.parent in
-    let all = ap (weigh_from names 0) (take_all c.loop-place.place c.args.numbers.now (omega arith)) in
+    let image = image_view c.args.image.now in
+    let names = g.C.Load.names image h c.args.parent in
+    let all = front_names c.args.numbers.now c.loop-place.place (λ k le. c.requires.room.past k (omega arith)) names (λ slot. g.C.Load.names_none image h c.args.parent slot) in
     let so_far = c.loop-place.invariant.taken h in
     omega arith

@@ -1,4 +1,4 @@
-use Rattle.std.proofs.Common.{◌≡◌, ℕ, ◌+◌, List, [], ◌∷◌, ap, sym, subst, arith}
+use Rattle.std.proofs.Common.{ℕ, ◌+◌, List, ap, sym, subst, arith}
 use Rattle.std.specs.Prelude.{slice_index}
 use Rattle.image.specs.Walk.{child}
 use Rattle.image.specs.View.{image_view}

@@ -1,4 +1,4 @@
-use Rattle.std.proofs.Common.{◌≡◌, [], ◌∷◌, ap, arith}
+use Rattle.std.proofs.Common.{[], ◌∷◌, ap, arith}
 use Rattle.geometry.specs.Weights.{weigh}
 use Rattle.geometry.proofs.Weighing.{weigh-append}
 use Rattle.mount_trees.specs.Goods.{in_place}

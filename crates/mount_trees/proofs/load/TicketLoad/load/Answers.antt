@@ -1,4 +1,4 @@
-use Rattle.std.proofs.Common.{◌≡◌, ◌<◌, None, ap, arith}
+use Rattle.std.proofs.Common.{◌≡◌, None, ap, arith}
 use Rattle.rights_books.specs.Weights.{mark_of}
 use Rattle.std.specs.Prelude.{slice_index_or}
 use Rattle.geometry.specs.declared.owner.Owner.TheVariants.{Data}
