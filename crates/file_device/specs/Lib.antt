@@ -1,3 +1,4 @@
 pub mod Place
+pub mod Shared
 pub mod Held
 pub mod Named

@@ -1,5 +1,5 @@
 //! The parts of a device over a file that is there: the blocks that its image names are read, and the others are shown as zeros.
-ghost use Rattle.std.specs.Prelude.{◌≡◌, length, map, IfOk};
+ghost use Rattle.std.specs.Prelude.{◌≡◌, ◌+◌, ◌<◌, false, length, map, slice_index_or, IfOk};
 ghost use Rattle.device.specs.Parts.{HasSize, IsBlockRun};
 ghost use Rattle.file_device.specs.Held.{content_in, is_kept};
 ghost use Rattle.file_device.specs.Place.{block_place};
@@ -10,13 +10,12 @@ use crate::block::FileBlock;
 use crate::fault::FileFault;
 use crate::kept::{Held, Kept};
 use crate::meta::FileMeta;
-use crate::reading::fault_of;
+use crate::runs::Run;
 use crate::whole::place_of;
-use device::{Block, MemBlock, MemMeta, Meta, Parts};
-use geometry::{Error, Geometry};
+use device::{Block, MemMeta, Meta, Parts};
+use geometry::Geometry;
 use std::alloc::Global;
 use std::fs::File;
-use std::os::unix::fs::FileExt;
 use std::sync::Arc;
 
 /// The parts of a device over a file, whose meta area has these bytes, all of them settled. The blocks that are named are read.
@@ -53,50 +52,38 @@ fn open_blocks(
 {
     let count = geometry.blocks();
     let mut blocks = Vec::with_capacity(alloc, count as usize)?;
+    let mut run = Run::none(alloc, geometry.shape.block_bytes())?;
     for place in 0..count {
-        let is_named = named[place as usize];
-        blocks.push(open_block(alloc, geometry, place + 1, is_named, file)?)?;
+        blocks.push(open_block(alloc, geometry, named, place, file, &mut run)?)?;
     }
     Ok(blocks)
 }
 
-// The block of an address. Where it is named its bytes are read.
+// The block at a place. Where it is named its bytes are read, with those of its neighbours.
 fn open_block(
     alloc: Global,
     geometry: &Geometry,
-    address: u32,
-    is_named: bool,
+    named: &[bool],
+    place: u32,
     file: &Arc<File>,
+    run: &mut Run,
 ) -> Result<FileBlock<File>, FileFault>
-    ensures address { IfOk result (λ block. block.kept.address ≡ address) }
+    requires named { length named.now ≡ block_count geometry.now }
+    requires place { place < block_count geometry.now }
+    requires size { run.old.size ≡ block_bytes geometry.now.shape }
+    ensures size { run.new.size ≡ run.old.size }
+    ensures address { IfOk result (λ block. block.kept.address ≡ place + 1) }
     ensures length { IfOk result (λ block. length (content_in block.kept.held) ≡ block_bytes geometry.now.shape) }
-    ensures place { IfOk result (λ block. block.kept.at ≡ block_place geometry.now address) }
-    ensures read { IfOk result (λ block. is_kept block.kept.held ≡ is_named) }
+    ensures place { IfOk result (λ block. block.kept.at ≡ block_place geometry.now (place + 1)) }
+    ensures read { IfOk result (λ block. is_kept block.kept.held ≡ slice_index_or named.now place false) }
 {
-    let at = place_of(geometry, address);
-    let size = geometry.shape.block_bytes();
-    let held = if is_named {
-        Held::Bytes(read_block_at(alloc, file, address, at, size)?)
+    let held = if named[place as usize] {
+        run.reach(alloc, geometry, named, place, file)?;
+        Held::Shared(run.block(place)?)
     } else {
-        Held::Zeros(size)
+        Held::Zeros(geometry.shape.block_bytes())
     };
-    let kept = Kept::new(alloc, address, at, held);
+    let address = place + 1;
+    let kept = Kept::new(alloc, address, place_of(geometry, address), held);
     Ok(FileBlock::of(kept, Arc::try_clone(file)?))
-}
-
-// The block of an address, with so many bytes from an offset of the file on.
-fn read_block_at(
-    alloc: Global,
-    file: &File,
-    address: u32,
-    at: u64,
-    size: u32,
-) -> Result<MemBlock, FileFault>
-    ensures length { IfOk result (λ block. length (⟦<MemBlock as Block>⟧.content_of block) ≡ size) }
-{
-    let mut bytes = vec![in alloc; 0u8; size as usize]?;
-    match file.read_exact_at(bytes.as_mut_slice(), at) {
-        Ok(()) => Ok(MemBlock::new(alloc, address, bytes)?),
-        Err(error) => Err(fault_of(error, Error::BadImage(1))),
-    }
 }

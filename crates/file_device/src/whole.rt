@@ -6,7 +6,7 @@ ghost use Rattle.file_device.specs.Place.{block_place};
 ghost use Rattle.geometry.specs.declared.error.Error.TheVariants.{NoMemory};
 
 use crate::block::FileBlock;
-use crate::kept::Kept;
+use crate::kept::{Held, Kept};
 use crate::meta::FileMeta;
 use crate::store::Store;
 use device::{Block, MemBlock, MemDevice, MemMeta, Meta, Parts};
@@ -53,8 +53,9 @@ fn wrap<S: Store + Drop>(
     let meta = FileMeta::of(meta, Arc::try_clone(&store)?);
     let mut kept = Vec::with_capacity(alloc, blocks.len())?;
     for block in blocks {
-        let at = place_of(geometry, block.address());
-        let block = Kept::of_block(alloc, at, block);
+        let address = block.address();
+        let held = Held::Own(Vec::from_slice(alloc, block.as_slice())?);
+        let block = Kept::new(alloc, address, place_of(geometry, address), held);
         kept.push_reserved(FileBlock::of(block, Arc::try_clone(&store)?));
     }
     Ok(Parts { meta, blocks: kept })

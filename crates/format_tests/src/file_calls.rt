@@ -1,4 +1,6 @@
 //! What is written to the parts of a device, and what its file has then.
+ghost use Rattle.std.specs.Prelude.{◌≡◌, ◌≤◌, length};
+
 use device::{Block, DeviceError, MemDevice, Meta, Parts};
 use file_device::{FileFault, Settled, Store, Written, create_image, keep_in, open_image};
 use geometry::{Error, Geometry, Shape};
@@ -45,6 +47,19 @@ const PATH: &str = "file_device_tests.img";
 
 const MADE: &str = "file_device_made.img";
 
+// Writes to the meta area, and twice to a block. Answers the first byte of what was lent in between.
+fn write_both<M: Meta, B: Block>(meta: &mut M, block: &mut B) -> Result<Option<u8>, DeviceError>
+    requires area { 7 ≤ length (M.seen meta.old) }
+    requires block { length (B.content_of block.old) ≡ 64 }
+{
+    meta.write(3, b"meta")?;
+    block.write(&[7; 64])?;
+    let lease = block.lend()?;
+    block.write(&[8; 64])?;
+    meta.sync()?;
+    Ok(lease.as_slice().first().copied())
+}
+
 #[test]
 fn an_image_file_has_what_was_written(rt: HostRuntime) -> Result<(), Fail> {
     let geometry = Geometry::new(Shape::TINY, 16, 1, 4, 32)?;
@@ -59,19 +74,13 @@ fn an_image_file_has_what_was_written(rt: HostRuntime) -> Result<(), Fail> {
         mut meta,
         mut blocks,
     } = keep_in(rt.alloc(), device, &geometry, file)?;
-    assert!(rt; meta.write(3, b"meta").is_ok());
-    let mut block = [7u8; 64];
-    assert!(rt; blocks.as_mut_slice()[1].write(&block).is_ok());
-    let lease = blocks.as_mut_slice()[1].lend()?;
-    block[0] = 8;
-    assert!(rt; blocks.as_mut_slice()[1].write(&block).is_ok());
-    assert!(rt; meta.sync().is_ok());
-    assert_eq!(rt; lease.as_slice()[0], 7);
+    let lent = write_both(&mut meta, &mut blocks.as_mut_slice()[1])?;
+    assert_eq!(rt; lent, Some(7));
     drop((meta, blocks));
     let bytes = fs::read(&rt, PATH)?;
     let at = geometry.meta_bytes() as usize;
     assert!(rt; bytes.as_slice().get(3..7) == Some(b"meta".as_slice()));
-    assert!(rt; bytes.as_slice().get(at + 64..at + 128) == Some(block.as_slice()));
+    assert!(rt; bytes.as_slice().get(at + 64..at + 128) == Some([8u8; 64].as_slice()));
     assert_eq!(rt; bytes.len(), at + 128);
     fs::remove_file(&rt, PATH)?;
     Ok(())

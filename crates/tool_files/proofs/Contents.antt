@@ -1,5 +1,5 @@
 -- What a write and a cut do to the bytes of a file's first blocks.
-use Rattle.std.proofs.Common.{◌≡◌, ◌≢◌, ◌∙◌, ◌+◌, ◌-◌, ◌++◌, ◌<◌, ◌≤◌, ℕ, zero, suc, List, [], Some, None, min, max, cond, nat_lt, unwrap_or, replicate, length, ap, ap₂, sym, subst, refl, eq-eqb, ne_eqb, add-one, lit<, inl, inr, ◌⊎◌, arith}
+use Rattle.std.proofs.Common.{◌≡◌, ◌≢◌, ◌∙◌, ◌+◌, ◌-◌, ◌++◌, ◌<◌, ◌≤◌, ℕ, zero, suc, List, [], Some, None, min, cond, nat_lt, unwrap_or, replicate, length, ap, ap₂, sym, refl, eq-eqb, ne_eqb, add-one, lit<, inl, inr, ◌⊎◌, arith}
 use borrow.Author.Tests.{lt-ltb}
 use Rattle.std.proofs.lemmas.Bool.{cases_lt}
 use Rattle.std.proofs.lemmas.Cmp.{nat_cmp_total}
@@ -7,11 +7,11 @@ use Rattle.std.proofs.lemmas.List.{append_assoc, append-nil, length-append}
 use Rattle.std.specs.Cmp.{unsigned_tied}
 use Rattle.std.specs.FinMap.{FinMap, get, insert, get-insert, get-retain_keys, nat_cmp-IsAntisymmetric}
 use Rattle.std.specs.Ordering.{nat_cmp}
-use Rattle.geometry.specs.File.{File, Block, bytes_at, written, cut_to}
+use Rattle.geometry.specs.File.{File, Block, written, cut_to}
 use Rattle.geometry.specs.Shape.{block_bytes}
 use Rattle.geometry.specs.declared.shape.Shape.{Shape}
 use Rattle.geometry.specs.declared.shape.Shape.TheVariants.{Tiny, Kernel}
-use Rattle.tool_files.specs.Content.{front_bytes, all_bytes, HasBytes}
+use Rattle.tool_files.specs.Content.{front_bytes, HasBytes}
 
 pub block_some : (shape : Shape) → 0 < block_bytes shape
 block_some Tiny = lit< tt

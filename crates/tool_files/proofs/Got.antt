@@ -1,11 +1,10 @@
 -- What was put under a name is what is got under it, where each number shows the same file.
-use Rattle.std.proofs.Common.{◌≡◌, ◌≢◌, ◌∙◌, ◌⊎◌, ◌++◌, ℕ, List, [], ◌∷◌, Option, Some, unwrap_or, length, take, replicate, ap, sym, subst, refl, inl, inr}
+use Rattle.std.proofs.Common.{◌≡◌, ◌∙◌, ℕ, List, [], ◌∷◌, unwrap_or, length, take, replicate, ap, sym, subst, refl, inl, inr}
 use Rattle.std.proofs.lemmas.List.{take_at}
 use Rattle.file_cells.specs.Pass.{Pass}
-use Rattle.geometry.specs.File.{File}
-use Rattle.tool_files.specs.Content.{all_bytes, HasBytes}
+use Rattle.tool_files.specs.Content.{all_bytes}
 use Rattle.tool_folder.specs.Folder.{Row, BeginsWith}
-use Rattle.tool_files.specs.Files.{file_at, HasFile, HasFolder, WasPut}
+use Rattle.tool_files.specs.Files.{file_at, HasFile, WasPut}
 use Rattle.tool_folder.specs.Names.{IsRowOf, Renews}
 use Rattle.tool_folder.proofs.Spelling.{rows_unique}
 

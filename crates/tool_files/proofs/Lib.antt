@@ -1,5 +1,7 @@
 mod Contents
 mod Got
+mod Handing
+mod Many
 mod Places
 mod Rows
 mod Updates

@@ -1,8 +1,7 @@
 -- A search for the first pass of a number goes on, finds one, or ends.
-use Rattle.std.proofs.Common.{◌≡◌, ◌≢◌, ◌∙◌, ◌+◌, ◌<◌, ◌≤◌, ℕ, zero, suc, List, [], ◌∷◌, Option, Some, None, cond, length, map, drop, get_or, ap, sym, subst, refl, ne_eqb, eq-eqb, add-zero, arith}
+use Rattle.std.proofs.Common.{◌≡◌, ◌≢◌, ◌∙◌, ◌+◌, ◌<◌, ◌≤◌, ℕ, zero, suc, List, [], ◌∷◌, Some, None, cond, length, drop, get_or, ap, sym, subst, refl, ne_eqb, eq-eqb, add-zero, arith}
 use Rattle.std.proofs.lemmas.List.{drop_more, drop_all}
 use Rattle.file_cells.specs.Pass.{Pass}
-use Rattle.geometry.specs.File.{File}
 use Rattle.tool_files.specs.Files.{file_at, IsPlace, IsThere}
 
 after_next : (i k : ℕ) → i + suc k ≡ i + 1 + k

@@ -1,9 +1,7 @@
 -- What is found by a number after a pass was set, pushed or removed.
-use Rattle.std.proofs.Common.{◌≡◌, ◌≢◌, ◌∙◌, ◌++◌, ℕ, zero, suc, List, [], ◌∷◌, Some, None, cond, ◌==◌, length, set, take, remove, ap, sym, subst, refl, inl, inr, ne_eqb, eq-eqb}
+use Rattle.std.proofs.Common.{◌≡◌, ◌≢◌, ◌∙◌, ◌++◌, ℕ, zero, suc, List, [], ◌∷◌, Some, None, cond, ◌==◌, set, remove, ap, sym, subst, refl, inl, inr, ne_eqb, eq-eqb}
 use Rattle.std.proofs.lemmas.Bool.{cases_eq}
-use Rattle.std.proofs.lemmas.List.{length-set, take_at}
 use Rattle.file_cells.specs.Pass.{Pass}
-use Rattle.geometry.specs.File.{File}
 use Rattle.tool_files.specs.Content.{HasBytes}
 use Rattle.tool_files.specs.Files.{file_at, IsPlace, WasWritten}
 

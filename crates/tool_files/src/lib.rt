@@ -15,4 +15,7 @@ pub use cleaning::Policy;
 pub use law::put_get_law;
 pub use refusal::Refusal;
 pub use tidy::{Clean, Tidied};
-pub use work::{Get, GetNumber, List, Listing, MakeFolder, NumberedFile, Put, Remove, Rename};
+pub use work::{
+    Get, GetNumber, Handed, List, Listing, MakeFolder, NewFile, NumberedFile, Put, PutAll, Remove,
+    Rename,
+};

@@ -108,8 +108,12 @@ fn a_volume_without_a_folder_is_told_by_numbers(rt: HostRuntime) -> Result<(), F
     let (parts, ()) = run(&rt, alloc, parts, Leave::Close, MakeFolder)?;
     let (parts, number) = run(&rt, alloc, parts, Leave::Close, work)?;
     assert_eq!(rt; number, Ok(2));
-    let (parts, bytes) = run(&rt, alloc, parts, Leave::Discard, GetNumber { number: 2 })?;
-    assert_eq!(rt; bytes?.len(), 64);
+    let work_of_number = GetNumber {
+        number: 2,
+        out: Vec::new(alloc),
+    };
+    let (parts, handed) = run(&rt, alloc, parts, Leave::Discard, work_of_number)?;
+    assert_eq!(rt; handed?.out.len(), 64);
     let work = Put {
         name: "c",
         bytes: b"y",

@@ -5,7 +5,7 @@ ghost use Rattle.device.specs.Parts.{IsBlockRun};
 use flash_volume::{Block, Error, Leave, Meta, Parts, Work, work_on};
 use std::alloc::Global;
 use std::sync::Wait;
-use tool_files::{Get, Put};
+use tool_files::{Get, Handed, Put};
 
 /// A name, and the bytes of its file.
 pub type Named<'a> = (&'a str, &'a [u8]);
@@ -65,7 +65,11 @@ pub fn get_all<M: Meta + Drop, B: Block + Drop, R: Wait>(
     let mut parts = parts;
     let mut count = 0usize;
     for file in files {
-        let (left, got) = run(rt, alloc, parts, Leave::Discard, Get { name: file.0 })?;
+        let work = Get {
+            name: file.0,
+            out: Vec::new(alloc),
+        };
+        let (left, got) = run(rt, alloc, parts, Leave::Discard, work)?;
         parts = left;
         if is(&got, file.1) {
             count = count.saturating_add(1);
@@ -74,9 +78,9 @@ pub fn get_all<M: Meta + Drop, B: Block + Drop, R: Wait>(
     Ok((parts, count))
 }
 
-fn is<E>(got: &Result<Vec<u8>, E>, bytes: &[u8]) -> bool {
+fn is<E>(got: &Result<Handed<Vec<u8>>, E>, bytes: &[u8]) -> bool {
     match got {
-        Ok(got) => got.as_slice() == bytes,
+        Ok(handed) => handed.written.is_ok() && handed.out.as_slice() == bytes,
         Err(_) => false,
     }
 }

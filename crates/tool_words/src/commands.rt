@@ -3,8 +3,9 @@ use crate::check::check;
 use crate::command_line::{Numbers, Task, Words};
 use crate::draw::draw;
 use crate::fault::Fault;
-use crate::folders::{dump, import};
+use crate::folders::dump;
 use crate::image_run::{image_length, now, put_making_room, read_image, run};
+use crate::importing::import;
 use crate::screen::Screen;
 use crate::stat::{list, stat};
 use crate::svg::draw_svg;
@@ -55,7 +56,7 @@ pub fn obey<R: Runtime + AllocGlobal + Wait + Files<File = File>, I: Read, O: Wr
         Task::Stat { json } => stat(rt, image, json, out)?,
         Task::Map { svg } => map(rt, screen, image, svg, out)?,
         Task::Dump { folder } => dump(rt, screen, image, folder, errors)?,
-        Task::Import { folder } => import(rt, screen, image, folder, errors)?,
+        Task::Import { folder } => import(rt, screen, image, folder, out, errors)?,
     }
     Ok(0)
 }
@@ -124,11 +125,11 @@ fn get<R: AllocGlobal + Wait + Files<File = File>, O: Write>(
     number: u32,
     out: &mut O,
 ) -> Result<(), Fault> {
-    let bytes = match name {
-        Some(name) => run(rt, image, Leave::Discard, Get { name })??,
-        None => run(rt, image, Leave::Discard, GetNumber { number })??,
+    let handed = match name {
+        Some(name) => run(rt, image, Leave::Discard, Get { name, out })??,
+        None => run(rt, image, Leave::Discard, GetNumber { number, out })??,
     };
-    out.write_all(bytes.as_slice())?;
+    handed.written?;
     Ok(())
 }
 

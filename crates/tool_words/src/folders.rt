@@ -1,19 +1,17 @@
-//! Many files at once, from and to a folder of the system.
+//! Many files at once, into a folder of the system.
 ghost use Rattle.std.specs.Prelude.{ℕ, IfOk};
 ghost use Rattle.device.specs.Parts.{IsBlockRun};
 
 use crate::fault::Fault;
-use crate::image_run::{now, put_making_room};
 use crate::screen::Screen;
 use file_device::open_image;
 use flash_volume::{Block, Leave, Meta, Parts, Work, work_on};
-use std::alloc::Global;
 use std::fs;
 use std::fs::{File, Files};
-use std::io::{Read, Write};
+use std::io::Write;
 use std::rt::Runtime;
 use std::sync::Wait;
-use tool_files::{Get, GetNumber, List, Listing, Put, Refusal};
+use tool_files::{Get, GetNumber, Handed, List, Listing, Refusal};
 use tool_folder::{Entry, FOLDER, is_name};
 
 /// Writes each file of a volume into a folder, which is made where there is none: under its name, or as `file-N` where the folder
@@ -56,7 +54,8 @@ fn dump_named<
         let name = entry.name.as_str();
         if is_name(name) {
             screen.tell(errors, "dump", name);
-            parts = dump_one(rt, parts, Get { name }, folder, name)?;
+            let out = Vec::new(rt.alloc());
+            parts = dump_one(rt, parts, Get { name, out }, folder, name)?;
         }
     }
     Ok(parts)
@@ -84,7 +83,8 @@ fn dump_unnamed<
         if is_unnamed(listing, number) {
             let name = format!(in rt.alloc(); "file-{number}")?;
             screen.tell(errors, "dump", name.as_str());
-            parts = dump_one(rt, parts, GetNumber { number }, folder, name.as_str())?;
+            let out = Vec::new(rt.alloc());
+            parts = dump_one(rt, parts, GetNumber { number, out }, folder, name.as_str())?;
         }
     }
     Ok(())
@@ -95,14 +95,15 @@ fn dump_one<
     M: Meta + Drop,
     B: Block + Drop,
     R: Runtime + AllocGlobal + Wait + Files<File = File>,
-    W: Work<M, B, Output = Result<Vec<u8>, Refusal>> + Drop,
+    W: Work<M, B, Output = Result<Handed<Vec<u8>>, Refusal>> + Drop,
 >(rt: &R, parts: Parts<M, B>, work: W, folder: &str, name: &str) -> Result<Parts<M, B>, Fault>
     requires run { (bytes : ℕ) × IsBlockRun B.address_of B.content_of bytes 1 parts.blocks.items }
     ensures run { IfOk result (λ left. (bytes : ℕ) × IsBlockRun B.address_of B.content_of bytes 1 left.blocks.items) }
 {
     let got = work_on(rt, rt.alloc(), parts, Leave::Discard, work)?;
-    let bytes = got.output?;
-    write_new(rt, folder, name, bytes.as_slice())?;
+    let handed = got.output?;
+    handed.written?;
+    write_new(rt, folder, name, handed.out.as_slice())?;
     Ok(got.parts)
 }
 
@@ -131,84 +132,4 @@ fn write_new<R: AllocGlobal + Files<File = File>>(
     let mut file = File::create_new(rt, path.as_str()).map_err(Fault::of_new_file)?;
     file.write_all(bytes)?;
     Ok(())
-}
-
-/// Puts each ordinary file of a folder of the system under its name, in the order of the names. Each is put whole or not at all;
-/// where one is refused it stops, and those before it are there.
-pub fn import<R: Runtime + AllocGlobal + Wait + Files<File = File>, E: Write>(
-    rt: &R,
-    screen: Screen,
-    image: &str,
-    folder: &str,
-    errors: &mut E,
-) -> Result<(), Fault> {
-    let names = names_in(rt, folder)?;
-    let parts = open_image(rt, rt.alloc(), image)?;
-    import_all(rt, screen, parts, folder, names.as_slice(), errors)?;
-    screen.clear(errors);
-    Ok(())
-}
-
-fn import_all<
-    M: Meta + Drop,
-    B: Block + Drop,
-    R: Runtime + AllocGlobal + Wait + Files<File = File>,
-    E: Write,
->(
-    rt: &R,
-    screen: Screen,
-    parts: Parts<M, B>,
-    folder: &str,
-    names: &[String],
-    errors: &mut E,
-) -> Result<(), Fault>
-    requires run { (bytes : ℕ) × IsBlockRun B.address_of B.content_of bytes 1 parts.blocks.items }
-{
-    let mut parts = parts;
-    for name in names {
-        screen.tell(errors, "import", name.as_str());
-        parts = import_one(rt, parts, folder, name.as_str())?;
-    }
-    Ok(())
-}
-
-fn import_one<
-    M: Meta + Drop,
-    B: Block + Drop,
-    R: Runtime + AllocGlobal + Wait + Files<File = File>,
->(rt: &R, parts: Parts<M, B>, folder: &str, name: &str) -> Result<Parts<M, B>, Fault>
-    requires run { (bytes : ℕ) × IsBlockRun B.address_of B.content_of bytes 1 parts.blocks.items }
-    ensures run { IfOk result (λ left. (bytes : ℕ) × IsBlockRun B.address_of B.content_of bytes 1 left.blocks.items) }
-{
-    let path = format!(in rt.alloc(); "{folder}/{name}")?;
-    let mut bytes = Vec::new(rt.alloc());
-    File::open(rt, path.as_str())?.read_to_end(&mut bytes)?;
-    let work = Put {
-        name,
-        bytes: bytes.as_slice(),
-        now: now(rt),
-    };
-    let (parts, number) = put_making_room(rt, parts, work)?;
-    let _number = number?;
-    Ok(parts)
-}
-
-// The names of the ordinary files in a folder, sorted.
-fn names_in<R: Runtime + AllocGlobal>(rt: &R, folder: &str) -> Result<Vec<String>, Fault> {
-    let alloc: Global = rt.alloc();
-    let mut names = Vec::new(alloc);
-    for entry in fs::read_dir(rt, folder)? {
-        let entry = entry?;
-        if entry.metadata()?.is_file() {
-            if !is_name(entry.file_name()) {
-                return Err(Fault::Name(Refusal::BadName));
-            }
-            names.push(String::from_str(alloc, entry.file_name())?)?;
-        }
-    }
-    if names.is_empty() {
-        return Err(Fault::NoFiles);
-    }
-    names.sort()?;
-    Ok(names)
 }

@@ -8,6 +8,7 @@ mod draw;
 mod fault;
 mod folders;
 mod image_run;
+mod importing;
 mod run;
 mod screen;
 mod stat;

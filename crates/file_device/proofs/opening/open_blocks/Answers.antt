@@ -26,6 +26,7 @@ loop-place-preserved c =
       run = subst (IsBlockRun _ _ size 1) (sym pushed.items)
           (run_push _ _ size 1 blocks made before.run (let count = before.count in let at = opened.address in omega arith) opened.length);
       count = let count = before.count in let l = pushed.len in omega arith;
+      size = opened.size ∙ before.size;
       read = ap (map is) pushed.items ∙ map-append is blocks (made ∷ [])
           ∙ ap₂ (λ (xs ys : List Bool). xs ++ ys) before.read (ap (λ (b : Bool). b ∷ []) opened.read)
           ∙ sym (take-suc named place false low) ∙ ap (λ n. take n named) next;

@@ -18,9 +18,9 @@ loop-block-preserved g c =
     let left = into_iter_items at.block-iterator in
     let Stands = λ (b : FileBlock g.row.S.Denot). b.kept.at ≡ block_place c.args.geometry.now b.kept.address in
     let kept = c.of.ensures.kept in
-    let address : made.kept.address ≡ c.in-Some.block.address = ap (λ (k : Kept). k.address) kept ∙ c.of_block-block.ensures.address in
-    let content : content_in made.kept.held ≡ (arc_value c.in-Some.block.bytes).items = ap (λ (k : Kept). content_in k.held) kept ∙ ap content_in c.of_block-block.ensures.held in
-    let here : Stands made = ap (λ (k : Kept). k.at) kept ∙ c.of_block-block.ensures.at ∙ c.place_of-at.ensures ∙ ap (block_place c.args.geometry.now) (c.address.ensures ∙ sym address) in (
+    let address : made.kept.address ≡ c.in-Some.block.address = ap (λ (k : Kept). k.address) kept ∙ c.new-block.ensures.address ∙ c.address-address.ensures in
+    let content : content_in made.kept.held ≡ (arc_value c.in-Some.block.bytes).items = ap (λ (k : Kept). content_in k.held) kept ∙ ap content_in c.new-block.ensures.held ∙ c.in_ok-from_slice.ensures.items ∙ c.as_slice.ensures in
+    let here : Stands made = ap (λ (k : Kept). k.at) kept ∙ c.new-block.ensures.at ∙ c.place_of.ensures ∙ ap (block_place c.args.geometry.now) (c.address-address.ensures ∙ sym address) in (
       subst (λ all. map (λ (b : FileBlock g.row.S.Denot). b.kept.address) all ++ map (λ (b : MemBlock). b.address) rest ≡ map (λ (b : MemBlock). b.address) c.args.device.parts.blocks.items) (sym c.push_reserved.ensures.items)
           (moved (λ (b : FileBlock g.row.S.Denot). b.kept.address) (λ (b : MemBlock). b.address) at.kept.items made c.in-Some.block left rest _ address c.in-Some.ensures.steps.0 at.invariant.0),
       subst (λ all. map (λ (b : FileBlock g.row.S.Denot). content_in b.kept.held) all ++ map (λ (b : MemBlock). (arc_value b.bytes).items) rest ≡ map (λ (b : MemBlock). (arc_value b.bytes).items) c.args.device.parts.blocks.items) (sym c.push_reserved.ensures.items)

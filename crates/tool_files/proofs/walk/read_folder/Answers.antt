@@ -5,7 +5,6 @@ use Rattle.tool_files.specs.Content.{all_bytes}
 use Rattle.tool_folder.specs.Folder.{Row, BeginsWith}
 use Rattle.tool_files.specs.Files.{file_at, HasFolder, IsPlace}
 use Rattle.tool_folder.specs.Rows.{row_of}
-use Rattle.tool_folder.specs.declared.entry.Entry.{Entry}
 use Rattle.tool_folder.proofs.Cases.{if_found, if_not_found}
 use Rattle.tool_files.proofs.Places.{file_at_place}
 use Rattle.tool_files.proofs.walk.read_folder.Goals as goal

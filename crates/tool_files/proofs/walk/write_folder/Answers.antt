@@ -1,8 +1,8 @@
-use Rattle.std.proofs.Common.{◌≡◌, ◌≢◌, ◌∙◌, ◌++◌, ◌<◌, ◌^◌, ℕ, length, map, get_or, replicate, ap, subst, sym, rules}
+use Rattle.std.proofs.Common.{◌≡◌, ◌∙◌, ◌++◌, ◌<◌, ◌^◌, length, replicate, ap, subst, sym, rules}
 use Rattle.std.proofs.lemmas.List.{length-map}
 use Rattle.geometry.specs.Shape.{block_bytes}
-use Rattle.tool_files.specs.Content.{all_bytes, HasBytes}
-use Rattle.tool_files.specs.Files.{HasFolder, IsPlace}
+use Rattle.tool_files.specs.Content.{HasBytes}
+use Rattle.tool_files.specs.Files.{IsPlace}
 use Rattle.tool_folder.specs.Rows.{row_of}
 use Rattle.tool_folder.proofs.Cases.{on_ok}
 use Rattle.tool_files.proofs.Places.{number_at_place}

@@ -1,5 +1,5 @@
 //! What becomes of the calls of a store where a crash comes.
-use crate::recorder::Call;
+use super::recorder::Call;
 use rand_core::utils::NextWord;
 use rand_pcg::Pcg32;
 use std::alloc::{AllocError, Global};

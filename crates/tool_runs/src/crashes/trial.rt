@@ -1,6 +1,6 @@
 //! A put that was recorded, and the states that its crashes leave.
-use crate::fates::Fates;
-use crate::recorder::{Call, Recorder};
+use super::fates::Fates;
+use super::recorder::{Call, Recorder};
 use file_device::{keep_in, read_device};
 use flash_volume::{Geometry, Leave, MemDevice, Shape, work_on, work_on_new};
 use std::sync::Wait;
@@ -72,7 +72,7 @@ impl Trial {
     pub fn count<R: AllocGlobal + Wait>(
         &self,
         rt: &R,
-        seeds: u64,
+        picks: u64,
         settles: bool,
     ) -> Result<Counts, Fault> {
         let mut counts = Counts {
@@ -81,7 +81,7 @@ impl Trial {
             bad: 0,
         };
         for end in 0..=self.put.len() {
-            self.try_after(rt, end, seeds, settles, &mut counts)?;
+            self.try_after(rt, end, picks, settles, &mut counts)?;
         }
         Ok(counts)
     }
@@ -91,11 +91,11 @@ impl Trial {
         &self,
         rt: &R,
         end: usize,
-        seeds: u64,
+        picks: u64,
         settles: bool,
         counts: &mut Counts,
     ) -> Result<(), Fault> {
-        for pick in 0..seeds.saturating_add(4) {
+        for pick in 0..picks.saturating_add(4) {
             self.try_crash(rt, end, settles, Fates::pick(pick), counts)?;
         }
         Ok(())
@@ -150,6 +150,12 @@ fn is(got: &Result<Vec<u8>, Fault>, bytes: &[u8]) -> bool {
 fn got<R: AllocGlobal + Wait>(rt: &R, image: &[u8], name: &str) -> Result<Vec<u8>, Fault> {
     let mut input = image;
     let (_geometry, device) = read_device(rt.alloc(), &mut input)?;
-    let done = work_on(rt, rt.alloc(), device.split(), Leave::Discard, Get { name })?;
-    Ok(done.output?)
+    let work = Get {
+        name,
+        out: Vec::new(rt.alloc()),
+    };
+    let done = work_on(rt, rt.alloc(), device.split(), Leave::Discard, work)?;
+    let handed = done.output?;
+    handed.written?;
+    Ok(handed.out)
 }

@@ -1,6 +1,6 @@
 //! What stands ready for the next words, and what a line does.
-use crate::input::Input;
-use crate::text::{word_at, words_of};
+use super::input::Input;
+use super::text::{word_at, words_of};
 use std::alloc::Global;
 use std::fs::{File, Files, OpenOptions};
 use std::io::Write;

@@ -3,39 +3,25 @@
 //! The store under the volume records each call of a put. A crash may come after any of them; what was written since the last settle is
 //! then kept, lost, torn or garbage. Each image made so is mounted: the other file must have its bytes, and the file that was put
 //! those from before or from after. That the test sees a bad state is seen where no settle counts.
-#![tactic(auto)]
-
 mod fates;
 mod recorder;
 mod trial;
 
 use std::io::Write;
-use std::process::ExitCode;
-use std::rt::Runtime;
 use std::sync::Wait;
-use tool_words::{Fault, words_of_call};
+use tool_words::Fault;
 use trial::{Counts, Trial};
 
-// So many times what becomes of the calls is picked by chance, where no word tells another number.
-const SEEDS: u64 = 2;
-
-fn main(rt: HostRuntime) -> ExitCode {
-    match try_states(&rt, &mut rt.stdout()) {
-        Ok(status) => ExitCode::from(status),
-        Err(fault) => ExitCode::from(fault.tell(&mut rt.stderr())),
-    }
-}
-
-// Tries all states, and answers the exit status.
-fn try_states<R: Runtime + AllocGlobal + Wait, O: Write>(rt: &R, out: &mut O) -> Result<u8, Fault> {
-    let words = words_of_call(rt)?;
-    let seeds = match words.as_slice().get(1) {
-        Some(word) => word.as_str().parse::<u64>().unwrap_or(SEEDS),
-        None => SEEDS,
-    };
+/// Tries all states, with what becomes of the calls picked by chance so many times, and tells the counts. Answers the exit status: 0
+/// where no state is bad, and one is where no settle counts.
+pub fn try_states<R: AllocGlobal + Wait, O: Write>(
+    rt: &R,
+    picks: u64,
+    out: &mut O,
+) -> Result<u8, Fault> {
     let trial = Trial::record(rt)?;
-    let counts = trial.count(rt, seeds, true)?;
-    let unsettled = trial.count(rt, seeds, false)?;
+    let counts = trial.count(rt, picks, true)?;
+    let unsettled = trial.count(rt, picks, false)?;
     writeln!(out, "one put makes {} calls of its store", trial.calls())?;
     tell(out, "as settled", counts)?;
     tell(out, "as if no settle counted", unsettled)?;
