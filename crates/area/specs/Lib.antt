@@ -6,3 +6,4 @@ pub mod Opening
 pub mod Rooms
 pub mod Freed
 pub mod Slips
+pub mod Hand

@@ -2,24 +2,21 @@
 ghost use Rattle.std.specs.Prelude.{◌≡◌, ◌<◌, ◌≤◌, ◌∷◌, ◌⊎◌, Some, length, MatchOption, OnOk, OnErr, IfOk, IfErr, IfSome, IfNone};
 ghost use Rattle.geometry.specs.declared.error.Error.TheVariants.{Device, NoSpace};
 ghost use Rattle.geometry.specs.Shape.{block_bytes};
-ghost use Rattle.geometry.specs.Address.{address_of};
-ghost use Rattle.geometry.specs.Area.{block_count};
-ghost use Rattle.sit.specs.Segment.{placed, HasPlaced};
 ghost use Rattle.geometry.specs.Owner.{IsOwner};
-ghost use Rattle.rights_names.specs.Names.{layout_of};
+ghost use Rattle.area.specs.Hand.{HasAppended};
 ghost use Rattle.area.specs.Slips.{HasDrawn, HasOpened};
 
-use crate::cells::{LogCell, SegmentCell};
+use crate::cells::LogCell;
 use crate::log::Log;
 use crate::main_area::MainArea;
 use device::Block;
 use geometry::{Error, Owner};
 use pool::Pool;
-use rights_books::{Books, Permit};
+use rights_books::Permit;
 use rights_names::VolumeName;
 use std::sync::Wait;
 use tickets::Ticket;
-use words::{FreeSlip, Words};
+use words::FreeSlip;
 
 /// Which free segments an append may draw on.
 #[derive(Clone, Copy, Debug, PartialEq, Eq)]
@@ -48,37 +45,6 @@ impl<V: VolumeName> LogCell<V> {
             Who::Reserved => pool.take_any(rt, &mut self.pass),
         }
     }
-
-    // Writes the next block of the log into its open segment.
-    fn append<B: Block + Drop>(
-        &mut self,
-        books: &Books,
-        words: &Words,
-        segment: &mut SegmentCell<V, B>,
-        hand: &mut Permit,
-        owner: Owner,
-        now: u64,
-        bytes: &[u8],
-    ) -> Result<Ticket<B>, Error>
-        requires books { books.now ≡ V.Books.books }
-        requires layout { V.Books.books.key ≡ layout_of V.Numbers.geometry }
-        requires words { words.now.table ≡ V.Words.words }
-        requires book { hand.old.book ≡ V.Books.books.book }
-        requires open { self.old.slip ≡ Some (record { table = V.Words.words; segment = segment.old.number }) }
-        requires owner { IsOwner owner }
-        requires bytes { length bytes.now ≡ block_bytes V.Numbers.geometry.shape }
-        ensures hand { IfOk result (λ ticket. hand.new ≡ record hand.old { tickets = ticket.mark ∷ hand.old.tickets }) }
-        ensures owner { IfOk result (λ ticket. ticket.mark.owner ≡ owner) }
-        ensures content { IfOk result (λ ticket. ticket.content ≡ bytes.now) }
-        ensures place { IfOk result (λ ticket. ticket.mark.address ≡ address_of V.Numbers.geometry.shape segment.old.number segment.old.state.segment.next) }
-        ensures placed { OnOk result (HasPlaced (placed segment.old.state.segment owner now segment.new.state.segment.failed) segment.new.state.segment) }
-        ensures low { IfOk result (λ ticket. 1 ≤ ticket.mark.address) }
-        ensures high { IfOk result (λ ticket. ticket.mark.address ≤ block_count V.Numbers.geometry) }
-        ensures err { OnErr result (hand.new ≡ hand.old) }
-        ensures error { IfErr result (λ error. error ≡ Device) }
-    {
-        segment.append(books, words, hand, &mut self.slip, owner, now, bytes)
-    }
 }
 
 impl<V: VolumeName, B: Block + Drop> MainArea<V, B> {
@@ -101,37 +67,29 @@ impl<V: VolumeName, B: Block + Drop> MainArea<V, B> {
         requires book { hand.old.book ≡ V.Books.books.book }
         requires owner { IsOwner owner }
         requires bytes { length bytes.now ≡ block_bytes V.Numbers.geometry.shape }
-        ensures hand { IfOk result (λ ticket. hand.new ≡ record hand.old { tickets = ticket.mark ∷ hand.old.tickets }) }
-        ensures owner { IfOk result (λ ticket. ticket.mark.owner ≡ owner) }
-        ensures content { IfOk result (λ ticket. ticket.content ≡ bytes.now) }
-        ensures low { IfOk result (λ ticket. 1 ≤ ticket.mark.address) }
-        ensures high { IfOk result (λ ticket. ticket.mark.address ≤ block_count V.Numbers.geometry) }
+        ensures appended { IfOk result (λ ticket. HasAppended V.Numbers.geometry owner bytes.now hand.old hand.new ticket) }
         ensures err { OnErr result (hand.new ≡ hand.old) }
         ensures error { IfErr result (λ error. (error ≡ Device) ⊎ (error ≡ NoSpace)) }
     {
-        let mut cell = self.lock_log(rt, log.number());
-        if let Some(ticket) = self.fill_hole(rt, &mut *cell, hand, owner, now, bytes)? {
+        let mut lock = self.lock_log(rt, log.number());
+        let cell = &mut *lock;
+        if let Some(ticket) = self.fill_hole(rt, cell, hand, owner, now, bytes)? {
             return Ok(ticket);
         }
-        match self.open_segment(rt, &mut *cell, who) {
-            Some(number) => {
-                let mut segment = self.lock_segment(rt, number);
-                let ticket = cell.append(
-                    self.books(),
-                    self.words(),
-                    &mut *segment,
-                    hand,
-                    owner,
-                    now,
-                    bytes,
-                )?;
-                Ok(ticket)
-            }
-            None if who == Who::Ordinary && log.is_data() => {
-                self.thread_segment(rt, &mut *cell, hand, owner, now, bytes)
-            }
-            None => Err(Error::NoSpace),
+        if let Some(number) = self.open_segment(rt, cell, who) {
+            let mut segment = self.lock_segment(rt, number);
+            let slip = &mut cell.slip;
+            return segment.append(self.books(), self.words(), hand, slip, owner, now, bytes);
         }
+        if who == Who::Reserved || !log.is_data() {
+            return Err(Error::NoSpace);
+        }
+        for number in 0..self.geometry().segments {
+            if let Some(ticket) = self.thread_one(rt, cell, hand, number, owner, now, bytes)? {
+                return Ok(ticket);
+            }
+        }
+        Err(Error::NoSpace)
     }
 
     // Writes the block in the next hole of the segment that the log threads. Where it threads none any more, it has no place.
@@ -147,13 +105,8 @@ impl<V: VolumeName, B: Block + Drop> MainArea<V, B> {
         requires book { hand.old.book ≡ V.Books.books.book }
         requires owner { IsOwner owner }
         requires bytes { length bytes.now ≡ block_bytes V.Numbers.geometry.shape }
-        ensures hand { IfOk result (λ found. MatchOption found (hand.new ≡ hand.old) (λ ticket. hand.new ≡ record hand.old { tickets = ticket.mark ∷ hand.old.tickets })) }
-        ensures owner { IfOk result (λ found. IfSome found (λ ticket. ticket.mark.owner ≡ owner)) }
-        ensures content { IfOk result (λ found. IfSome found (λ ticket. ticket.content ≡ bytes.now)) }
-        ensures low { IfOk result (λ found. IfSome found (λ ticket. 1 ≤ ticket.mark.address)) }
-        ensures high { IfOk result (λ found. IfSome found (λ ticket. ticket.mark.address ≤ block_count V.Numbers.geometry)) }
-        ensures err { OnErr result (hand.new ≡ hand.old) }
-        ensures error { IfErr result (λ error. error ≡ Device) }
+        ensures appended { IfOk result (λ found. MatchOption found (hand.new ≡ hand.old) (λ ticket. HasAppended V.Numbers.geometry owner bytes.now hand.old hand.new ticket)) }
+        ensures refused { IfErr result (λ error. (error ≡ Device) × (hand.new ≡ hand.old)) }
     {
         let Some(number) = log.threads else {
             return Ok(None);
@@ -164,35 +117,6 @@ impl<V: VolumeName, B: Block + Drop> MainArea<V, B> {
             log.threads = None;
         }
         Ok(found)
-    }
-
-    // Threads the first segment that can be threaded, and writes the block in its first hole.
-    fn thread_segment<R: Wait>(
-        &self,
-        rt: &R,
-        log: &mut LogCell<V>,
-        hand: &mut Permit,
-        owner: Owner,
-        now: u64,
-        bytes: &[u8],
-    ) -> Result<Ticket<B>, Error>
-        requires book { hand.old.book ≡ V.Books.books.book }
-        requires owner { IsOwner owner }
-        requires bytes { length bytes.now ≡ block_bytes V.Numbers.geometry.shape }
-        ensures hand { IfOk result (λ ticket. hand.new ≡ record hand.old { tickets = ticket.mark ∷ hand.old.tickets }) }
-        ensures owner { IfOk result (λ ticket. ticket.mark.owner ≡ owner) }
-        ensures content { IfOk result (λ ticket. ticket.content ≡ bytes.now) }
-        ensures low { IfOk result (λ ticket. 1 ≤ ticket.mark.address) }
-        ensures high { IfOk result (λ ticket. ticket.mark.address ≤ block_count V.Numbers.geometry) }
-        ensures err { OnErr result (hand.new ≡ hand.old) }
-        ensures error { IfErr result (λ error. (error ≡ Device) ⊎ (error ≡ NoSpace)) }
-    {
-        for number in 0..self.geometry().segments {
-            if let Some(ticket) = self.thread_one(rt, log, hand, number, owner, now, bytes)? {
-                return Ok(ticket);
-            }
-        }
-        Err(Error::NoSpace)
     }
 
     // Threads a segment, where it can be threaded, and writes the block in its first hole, under one hold of its lock.
@@ -210,13 +134,8 @@ impl<V: VolumeName, B: Block + Drop> MainArea<V, B> {
         requires within { number < V.Numbers.geometry.segments }
         requires owner { IsOwner owner }
         requires bytes { length bytes.now ≡ block_bytes V.Numbers.geometry.shape }
-        ensures hand { IfOk result (λ found. MatchOption found (hand.new ≡ hand.old) (λ ticket. hand.new ≡ record hand.old { tickets = ticket.mark ∷ hand.old.tickets })) }
-        ensures owner { IfOk result (λ found. IfSome found (λ ticket. ticket.mark.owner ≡ owner)) }
-        ensures content { IfOk result (λ found. IfSome found (λ ticket. ticket.content ≡ bytes.now)) }
-        ensures low { IfOk result (λ found. IfSome found (λ ticket. 1 ≤ ticket.mark.address)) }
-        ensures high { IfOk result (λ found. IfSome found (λ ticket. ticket.mark.address ≤ block_count V.Numbers.geometry)) }
-        ensures err { OnErr result (hand.new ≡ hand.old) }
-        ensures error { IfErr result (λ error. error ≡ Device) }
+        ensures appended { IfOk result (λ found. MatchOption found (hand.new ≡ hand.old) (λ ticket. HasAppended V.Numbers.geometry owner bytes.now hand.old hand.new ticket)) }
+        ensures refused { IfErr result (λ error. (error ≡ Device) × (hand.new ≡ hand.old)) }
     {
         let mut segment = self.lock_segment(rt, number);
         match segment.thread(

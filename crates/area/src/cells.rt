@@ -2,14 +2,13 @@
 ghost use Rattle.std.specs.Prelude.{◌≡◌, ◌<◌, ◌≤◌, ◌%◌, ◌∷◌, Some, None, false, length, MatchOption, OnOk, OnErr, IfOk, IfErr, IfSome};
 ghost use Rattle.geometry.specs.declared.error.Error.TheVariants.{Device};
 ghost use Rattle.geometry.specs.Address.{address_of, segment_of, offset_of};
-ghost use Rattle.geometry.specs.Area.{block_count};
 ghost use Rattle.geometry.specs.Mark.{same_mark};
 ghost use Rattle.geometry.specs.Owner.{IsOwner};
 ghost use Rattle.geometry.specs.Shape.{block_bytes, segment_blocks};
 ghost use Rattle.geometry.specs.declared.owner.Owner.TheVariants as owner;
 ghost use Rattle.rights_books.specs.Lists.{times, without};
 ghost use Rattle.rights_books.specs.Sameness.{same_entry};
-ghost use Rattle.rights_books.specs.Rules.{bare_entry, moved_to, with_lodged};
+ghost use Rattle.rights_books.specs.Rules.{bare_entry, moved_to};
 ghost use Rattle.rights_names.specs.Names.{layout_of};
 ghost use Rattle.nat.specs.Table.{IsShardAt};
 ghost use Rattle.nat.specs.Taken.{IsFree, IsTaken, IsLocated, placed_of};
@@ -21,6 +20,7 @@ ghost use Rattle.sit.specs.Thread.{ended, keeping, IsNextHole};
 ghost use Rattle.sit.specs.Threaded.{with_thread, HasThreaded, HasFilled};
 ghost use Rattle.area.specs.Threads.{HasBegunIn};
 ghost use Rattle.area.specs.Cells.{IsSegmentOf, LogStands, LogThreads};
+ghost use Rattle.area.specs.Hand.{HasAppended, having_given, having_swapped};
 
 use device::{Block, DeviceError};
 use geometry::{Error, Owner};
@@ -134,13 +134,9 @@ impl<V: VolumeName, B: Block + Drop> SegmentCell<V, B> {
         requires slip { slip.old ≡ Some (record { table = V.Words.words; segment = self.old.number }) }
         requires owner { IsOwner owner }
         requires bytes { length bytes.now ≡ block_bytes V.Numbers.geometry.shape }
-        ensures hand { IfOk result (λ ticket. hand.new ≡ record hand.old { tickets = ticket.mark ∷ hand.old.tickets }) }
-        ensures owner { IfOk result (λ ticket. ticket.mark.owner ≡ owner) }
-        ensures content { IfOk result (λ ticket. ticket.content ≡ bytes.now) }
+        ensures appended { IfOk result (λ ticket. HasAppended V.Numbers.geometry owner bytes.now hand.old hand.new ticket) }
         ensures place { IfOk result (λ ticket. ticket.mark.address ≡ address_of V.Numbers.geometry.shape self.old.number self.old.state.segment.next) }
         ensures placed { OnOk result (HasPlaced (placed self.old.state.segment owner now self.new.state.segment.failed) self.new.state.segment) }
-        ensures low { IfOk result (λ ticket. 1 ≤ ticket.mark.address) }
-        ensures high { IfOk result (λ ticket. ticket.mark.address ≤ block_count V.Numbers.geometry) }
         ensures slip { LogStands V.Words.words V.Numbers.geometry.segments slip.new }
         ensures number { self.new.number ≡ self.old.number }
         ensures err { OnErr result (hand.new ≡ hand.old) }
@@ -173,11 +169,7 @@ impl<V: VolumeName, B: Block + Drop> SegmentCell<V, B> {
         requires owner { IsOwner owner }
         requires bytes { length bytes.now ≡ block_bytes V.Numbers.geometry.shape }
         ensures threaded { IfOk result (λ found. MatchOption found (HasThreaded false log self.old.state self.new.state) (λ ticket. HasBegunIn log owner now bytes.now self.old.state self.new.state ticket)) }
-        ensures hand { IfOk result (λ found. MatchOption found (hand.new ≡ hand.old) (λ ticket. hand.new ≡ record hand.old { tickets = ticket.mark ∷ hand.old.tickets })) }
-        ensures owner { IfOk result (λ found. IfSome found (λ ticket. ticket.mark.owner ≡ owner)) }
-        ensures content { IfOk result (λ found. IfSome found (λ ticket. ticket.content ≡ bytes.now)) }
-        ensures low { IfOk result (λ found. IfSome found (λ ticket. 1 ≤ ticket.mark.address)) }
-        ensures high { IfOk result (λ found. IfSome found (λ ticket. ticket.mark.address ≤ block_count V.Numbers.geometry)) }
+        ensures appended { IfOk result (λ found. MatchOption found (hand.new ≡ hand.old) (λ ticket. HasAppended V.Numbers.geometry owner bytes.now hand.old hand.new ticket)) }
         ensures number { self.new.number ≡ self.old.number }
         ensures err { OnErr result (hand.new ≡ hand.old) }
         ensures error { IfErr result (λ error. error ≡ Device) }
@@ -218,11 +210,7 @@ impl<V: VolumeName, B: Block + Drop> SegmentCell<V, B> {
         requires owner { IsOwner owner }
         requires bytes { length bytes.now ≡ block_bytes V.Numbers.geometry.shape }
         ensures filled { IfOk result (λ found. MatchOption found (IsNextHole self.old.state.segment.thread log None) (λ ticket. HasFilled log owner now bytes.now self.old.state self.new.state ticket)) }
-        ensures hand { IfOk result (λ found. MatchOption found (hand.new ≡ hand.old) (λ ticket. hand.new ≡ record hand.old { tickets = ticket.mark ∷ hand.old.tickets })) }
-        ensures owner { IfOk result (λ found. IfSome found (λ ticket. ticket.mark.owner ≡ owner)) }
-        ensures content { IfOk result (λ found. IfSome found (λ ticket. ticket.content ≡ bytes.now)) }
-        ensures low { IfOk result (λ found. IfSome found (λ ticket. 1 ≤ ticket.mark.address)) }
-        ensures high { IfOk result (λ found. IfSome found (λ ticket. ticket.mark.address ≤ block_count V.Numbers.geometry)) }
+        ensures appended { IfOk result (λ found. MatchOption found (hand.new ≡ hand.old) (λ ticket. HasAppended V.Numbers.geometry owner bytes.now hand.old hand.new ticket)) }
         ensures number { self.new.number ≡ self.old.number }
         ensures err { OnErr result (hand.new ≡ hand.old) }
         ensures error { IfErr result (λ error. error ≡ Device) }
@@ -358,10 +346,7 @@ impl<V: VolumeName, B: Block + Drop> ShardCell<V, B> {
         requires home { token.number % 16 ≡ self.old.number }
         requires held { 0 < times same_entry token hand.old.tokens }
         ensures ticket { result ≡ placed_of token }
-        ensures hand { hand.new ≡ record hand.old {
-          tickets = with_lodged token hand.old.tickets;
-          tokens = without same_entry token hand.old.tokens;
-        } }
+        ensures hand { hand.new ≡ having_given token hand.old }
         ensures number { self.new.number ≡ self.old.number }
     {
         self.shard.give(books, hand, token)
@@ -382,10 +367,7 @@ impl<V: VolumeName, B: Block + Drop> ShardCell<V, B> {
         requires owner { ticket.mark.owner ≡ owner.Node token.old.number }
         ensures token { token.new ≡ moved_to ticket.mark.address ticket.content token.old }
         ensures before { result ≡ placed_of token.old }
-        ensures hand { hand.new ≡ record hand.old {
-          tickets = with_lodged token.old (without same_mark ticket.mark hand.old.tickets);
-          tokens = token.new ∷ without same_entry token.old hand.old.tokens;
-        } }
+        ensures hand { hand.new ≡ having_swapped token.old token.new ticket.mark hand.old }
         ensures number { self.new.number ≡ self.old.number }
     {
         self.shard.swap(books, hand, token, ticket)

@@ -3,10 +3,11 @@ ghost use Rattle.std.specs.Prelude.{◌≡◌, ◌<◌, ◌≤◌, ◌∷◌, le
 ghost use Rattle.geometry.specs.declared.error.Error.TheVariants.{NoFile, NoNode};
 ghost use Rattle.geometry.specs.declared.owner.Owner.TheVariants as owner;
 ghost use Rattle.geometry.specs.Mark.{same_mark};
-ghost use Rattle.rights_books.specs.Lists.{times, without};
+ghost use Rattle.rights_books.specs.Lists.{times};
 ghost use Rattle.rights_books.specs.Sameness.{same_entry};
-ghost use Rattle.rights_books.specs.Rules.{bare_entry, moved_to, with_lodged};
+ghost use Rattle.rights_books.specs.Rules.{bare_entry, moved_to};
 ghost use Rattle.nat.specs.Taken.{placed_of};
+ghost use Rattle.area.specs.Hand.{having_given, having_swapped};
 
 use crate::main_area::MainArea;
 use device::{Block, DeviceError};
@@ -109,10 +110,7 @@ impl<V: VolumeName, B: Block + Drop> MainArea<V, B> {
         requires book { hand.old.book ≡ V.Books.books.book }
         requires held { 0 < times same_entry token hand.old.tokens }
         ensures ticket { result ≡ placed_of token }
-        ensures hand { hand.new ≡ record hand.old {
-          tickets = with_lodged token hand.old.tickets;
-          tokens = without same_entry token hand.old.tokens;
-        } }
+        ensures hand { hand.new ≡ having_given token hand.old }
     {
         let number = token.number();
         let mut cell = self.lock_shard(rt, number % SHARDS);
@@ -138,10 +136,7 @@ impl<V: VolumeName, B: Block + Drop> MainArea<V, B> {
         requires owner { ticket.mark.owner ≡ owner.Node token.old.number }
         ensures token { token.new ≡ moved_to ticket.mark.address ticket.content token.old }
         ensures before { result ≡ placed_of token.old }
-        ensures hand { hand.new ≡ record hand.old {
-          tickets = with_lodged token.old (without same_mark ticket.mark hand.old.tickets);
-          tokens = token.new ∷ without same_entry token.old hand.old.tokens;
-        } }
+        ensures hand { hand.new ≡ having_swapped token.old token.new ticket.mark hand.old }
     {
         let mut cell = self.lock_shard(rt, token.number() % SHARDS);
         cell.swap(self.books(), hand, token, ticket)

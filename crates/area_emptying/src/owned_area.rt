@@ -1,13 +1,13 @@
 //! A main area that no thread shares any more, and how what is in hand comes back into it.
 ghost use Rattle.std.specs.Prelude.{◌≡◌, ◌<◌, ◌≤◌, ◌%◌, ℕ, List, [], vec_len, vec_capacity, length};
 ghost use Rattle.rights_books.specs.Lists.{times, without};
-ghost use Rattle.rights_books.specs.Rules.{with_lodged};
 ghost use Rattle.rights_books.specs.Sameness.{same_entry};
 ghost use Rattle.geometry.specs.Mark.{same_mark};
 ghost use Rattle.geometry.specs.Area.{block_count};
 ghost use Rattle.geometry.specs.Shape.{block_bytes};
 ghost use Rattle.rights_names.specs.Names.{layout_of};
 ghost use Rattle.nat.specs.Taken.{placed_of};
+ghost use Rattle.area.specs.Hand.{having_given};
 ghost use Rattle.area_emptying.specs.Rows.{AreSegments, AreShards};
 ghost use Rattle.area_emptying.specs.Home.{AreAtHome};
 
@@ -104,10 +104,7 @@ impl<V: VolumeName, B: Block + Drop> OwnedArea<V, B> {
         requires book { hand.old.book ≡ V.Books.books.book }
         requires held { 0 < times same_entry token hand.old.tokens }
         ensures ticket { result ≡ placed_of token }
-        ensures hand { hand.new ≡ record hand.old {
-          tickets = with_lodged token hand.old.tickets;
-          tokens = without same_entry token hand.old.tokens;
-        } }
+        ensures hand { hand.new ≡ having_given token hand.old }
         ensures segments { self.new.segments.items ≡ self.old.segments.items }
     {
         let shard = &mut self.shards[(token.number() % SHARDS) as usize];

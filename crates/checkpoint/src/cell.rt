@@ -3,7 +3,7 @@ ghost use Rattle.std.specs.Prelude.{◌≡◌, ◌≤◌, ◌+◌, ◌^◌, ◌-
 ghost use Rattle.geometry.specs.Area.{meta_bytes};
 ghost use Rattle.geometry.specs.declared.error.Error.TheVariants.{NoMemory, Device, Wounded, Exhausted};
 ghost use Rattle.image.specs.Rules.{IsInRange};
-ghost use Rattle.image.specs.View.{image_view};
+ghost use Rattle.checkpoint_image.specs.View.{taken_view};
 ghost use Rattle.checkpoint.specs.Holding.{AreWhole, IsInPack};
 ghost use Rattle.packs_format.specs.Holding.{HoldsTables};
 ghost use Rattle.device.specs.Disk.{Leaves};
@@ -112,13 +112,13 @@ impl<V: VolumeName, M: Meta> PacksCell<V, M> {
     ) -> Result<Stored<M, B>, Error>
         requires words { words.now.table ≡ V.Words.words }
         requires sound { self.old.wounded ≡ false }
-        requires range { IsInRange V.Numbers.geometry (image_view taken.image) }
-        requires next { taken.image.version ≡ self.old.packs.area.version + 1 }
+        requires range { IsInRange V.Numbers.geometry (taken_view taken.image) }
+        requires next { taken.image.tables.version ≡ self.old.packs.area.version + 1 }
         ensures taken { IfOk result (λ stored. stored.taken ≡ taken) }
         ensures sound { OnOk result (self.new.wounded ≡ false) }
-        ensures written { IfOk result (λ stored. IsInPack M.may_leave V.Numbers.geometry (image_view taken.image) stored.pack.shown.items) }
-        ensures complete { OnOk result (self.new.checkpoint.version ≡ taken.image.version) }
-        ensures held { OnOk result (Leaves M.may_leave self.new.packs.area.meta (HoldsTables V.Numbers.geometry (image_view taken.image))) }
+        ensures written { IfOk result (λ stored. IsInPack M.may_leave V.Numbers.geometry (taken_view taken.image) stored.pack.shown.items) }
+        ensures complete { OnOk result (self.new.checkpoint.version ≡ taken.image.tables.version) }
+        ensures held { OnOk result (Leaves M.may_leave self.new.packs.area.meta (HoldsTables V.Numbers.geometry (taken_view taken.image))) }
         ensures area { IfOk result (λ stored. stored.pack.shown.items ≡ (self.new.packs.area, self.new.packs.area.version) ∷ []) }
         ensures error { IfErr result (λ error. ((error ≡ NoMemory) × (self.new.wounded ≡ false)) ⊎ ((error ≡ Device) × (self.new.wounded ≡ true))) }
         ensures memory { IfErr result (λ error. error ≡ NoMemory → self.new.packs ≡ self.old.packs) }
@@ -127,7 +127,7 @@ impl<V: VolumeName, M: Meta> PacksCell<V, M> {
         ensures slips { (self.new.pass ≡ self.old.pass) × (self.new.kept ≡ self.old.kept) }
     {
         // A version fits its field.
-        let _version = taken.image().version;
+        let _version = taken.tables().version;
         match self.packs.write(alloc, taken) {
             Ok(stored) => {
                 words.advance(&mut self.checkpoint);

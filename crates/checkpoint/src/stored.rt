@@ -1,11 +1,12 @@
 //! What shows that an image was written.
 ghost use Rattle.std.specs.Prelude.{◌≡◌, All};
 ghost use Rattle.image.specs.Pack.{pack_body};
-ghost use Rattle.image.specs.View.{image_view};
+ghost use Rattle.checkpoint_image.specs.View.{taken_view};
 ghost use Rattle.packs.specs.Area.{reading_of};
 ghost use Rattle.packs.specs.Device.{body_of};
 
 use crate::Taken;
+use checkpoint_image::TakenImage;
 use device::{Block, Meta};
 use geometry::Geometry;
 use image::Image;
@@ -20,19 +21,19 @@ pub struct Stored<M: Meta, B: Block> {
     pub(crate) geometry: Geometry,
     pub(crate) pack: packs::Stored<M>,
     ghost written: { All (λ entry. body_of (reading_of entry.0.geometry) M.seen entry.0
-        ≡ pack_body geometry.shape (image_view taken.image)) pack.shown.items },
+        ≡ pack_body geometry.shape (taken_view taken.image)) pack.shown.items },
 }
 
 impl<M: Meta, B: Block> Stored<M, B> {
-    /// What was written.
-    pub fn image(&self) -> &Image
-        ensures { result.now ≡ self.now.taken.image }
+    /// The tables that were written.
+    pub fn tables(&self) -> &Image
+        ensures { result.now ≡ self.now.taken.image.tables }
     {
-        self.taken.image()
+        self.taken.tables()
     }
 
     /// Gives up all but what was written.
-    pub fn into_image(self) -> Image
+    pub fn into_image(self) -> TakenImage
         ensures { result ≡ self.taken.image }
     {
         let Stored {

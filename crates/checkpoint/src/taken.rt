@@ -2,10 +2,11 @@
 ghost use Rattle.std.specs.Prelude.{◌≡◌, ℕ, [], ◌∷◌, All};
 ghost use Rattle.geometry.specs.File.{Block as Bytes};
 ghost use Rattle.image.specs.Files.{file_of as image_file};
-ghost use Rattle.image.specs.View.{image_view};
 ghost use Rattle.nodes.specs.File.{IsFile, file_of};
+ghost use Rattle.checkpoint_image.specs.View.{taken_view};
 ghost use Rattle.checkpoint.specs.Files.{IsStateOf, HoldContents, files_of};
 
+use checkpoint_image::TakenImage;
 use device::Block;
 use device::log::Log;
 use image::Image;
@@ -15,14 +16,14 @@ use nodes::FileState;
 /// number, the latest first. They take no memory.
 #[derive(Drop)]
 pub struct Taken<B: Block> {
-    pub(crate) image: Image,
+    pub(crate) image: TakenImage,
     pub(crate) added: Log<u32, FileState<B>>,
-    ghost of_image: { All (λ entry. IsStateOf (image_view image) entry.1) added.items },
+    ghost of_image: { All (λ entry. IsStateOf (taken_view image) entry.1) added.items },
 }
 
 impl<B: Block> Taken<B> {
     /// An image, and no file of it.
-    pub fn of(image: Image) -> Taken<B>
+    pub fn of(image: TakenImage) -> Taken<B>
         ensures image { result.image ≡ image }
         ensures files { files_of result.added.items ≡ [] }
     {
@@ -33,20 +34,20 @@ impl<B: Block> Taken<B> {
     /// Adds the file that a state's tickets show. Its kind, its length and the address at each index are those that the
     /// image has for its number, so it is the image's file wherever the main blocks hold what the tickets show.
     pub fn add(&mut self, file: &FileState<B>)
-        requires { IsStateOf (image_view self.old.image) file.now }
+        requires { IsStateOf (taken_view self.old.image) file.now }
         ensures image { self.new.image ≡ self.old.image }
         ensures of_image { IsFile file.now → (blocks : ℕ → Bytes) → HoldContents blocks file.now
-            → image_file file.now.shape (image_view self.old.image) blocks file.now.token.number ≡ file_of file.now }
+            → image_file file.now.shape (taken_view self.old.image) blocks file.now.token.number ≡ file_of file.now }
         ensures files { files_of self.new.added.items ≡ (file.now.token.number, file_of file.now) ∷ files_of self.old.added.items }
     {
         let number = file.number();
         self.added = self.added.and(&number, file);
     }
 
-    /// What was taken.
-    pub fn image(&self) -> &Image
-        ensures { result.now ≡ self.now.image }
+    /// The tables that were taken.
+    pub fn tables(&self) -> &Image
+        ensures { result.now ≡ self.now.image.tables }
     {
-        &self.image
+        &self.image.tables
     }
 }

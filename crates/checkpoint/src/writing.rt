@@ -6,7 +6,7 @@ ghost use Rattle.device.specs.Disk.{Leaves, LeavesOnly};
 ghost use Rattle.image.specs.Pack.{pack_body};
 ghost use Rattle.image.specs.Reading.{image_in};
 ghost use Rattle.image.specs.Rules.{IsInRange};
-ghost use Rattle.image.specs.View.{image_view};
+ghost use Rattle.checkpoint_image.specs.View.{taken_view};
 ghost use Rattle.packs.specs.Pack.{Between};
 ghost use Rattle.packs.specs.Area.{reading_of};
 ghost use Rattle.packs.specs.Device.{IsSameArea, KeepsArea};
@@ -15,9 +15,9 @@ ghost use Rattle.checkpoint.specs.Holding.{AreWhole, counting_body, read_with};
 ghost use Rattle.packs_format.specs.Holding.{HoldsTables};
 
 use crate::{ImagePacks, Stored, Taken};
+use checkpoint_image::TakenImage;
 use device::{Block, Meta};
 use geometry::Error;
-use image::Image;
 use packs_format::encode;
 use std::alloc::Global;
 
@@ -29,20 +29,20 @@ impl<M: Meta> ImagePacks<M> {
     /// then it is not known which of the two packs counts, and the area has to be opened again.
     pub fn write<B: Block>(&mut self, alloc: Global, taken: Taken<B>) -> Result<Stored<M, B>, Error>
         requires whole { AreWhole M.seen M.may_leave self.old }
-        requires range { IsInRange self.old.geometry (image_view taken.image) }
-        requires next { taken.image.version ≡ self.old.area.version + 1 }
+        requires range { IsInRange self.old.geometry (taken_view taken.image) }
+        requires next { taken.image.tables.version ≡ self.old.area.version + 1 }
 
         ensures whole { OnOk result (AreWhole M.seen M.may_leave self.new) }
-        ensures held { OnOk result (Leaves M.may_leave self.new.area.meta (HoldsTables self.old.geometry (image_view taken.image))) }
+        ensures held { OnOk result (Leaves M.may_leave self.new.area.meta (HoldsTables self.old.geometry (taken_view taken.image))) }
         ensures read_back { OnOk result ((blocks : ℕ → Block) → image_in self.old.geometry (counting_body M.seen self.new) blocks
-            ≡ read_with self.old.geometry.shape blocks (image_view taken.image)) }
+            ≡ read_with self.old.geometry.shape blocks (taken_view taken.image)) }
         ensures taken { IfOk result (λ stored. stored.taken ≡ taken) }
         ensures area { IfOk result (λ stored. stored.pack.shown.items ≡ (self.new.area, self.new.area.version) ∷ []) }
 
         // A crash at any moment of the call leaves the old pack or the new one, also where it fails.
         ensures any_moment { LeavesOnly M.moment M.left_since self.old.area.meta self.new.area.meta
             (KeepsArea (M.seen self.old.area.meta) (Between (reading_of self.old.area.geometry)
-            (counting_body M.seen self.old) (pack_body self.old.geometry.shape (image_view taken.image)))) }
+            (counting_body M.seen self.old) (pack_body self.old.geometry.shape (taken_view taken.image)))) }
 
         ensures errors { IfErr result (λ e. (e ≡ NoMemory) ⊎ (e ≡ Device)) }
         ensures memory { IfErr result (λ e. e ≡ NoMemory → self.new ≡ self.old) }
@@ -61,17 +61,17 @@ impl<M: Meta> ImagePacks<M> {
     }
 
     // The body is made before the first call of the device.
-    fn store(&mut self, alloc: Global, image: &Image) -> Result<packs::Stored<M>, Error>
+    fn store(&mut self, alloc: Global, image: &TakenImage) -> Result<packs::Stored<M>, Error>
         requires whole { AreWhole M.seen M.may_leave self.old }
-        requires range { IsInRange self.old.geometry (image_view image.now) }
-        requires next { image.now.version ≡ self.old.area.version + 1 }
+        requires range { IsInRange self.old.geometry (taken_view image.now) }
+        requires next { image.now.tables.version ≡ self.old.area.version + 1 }
 
         ensures whole { OnOk result (AreWhole M.seen M.may_leave self.new) }
-        ensures spelled { OnOk result (SpellsTables self.old.geometry (counting_body M.seen self.new) (image_view image.now)) }
+        ensures spelled { OnOk result (SpellsTables self.old.geometry (counting_body M.seen self.new) (taken_view image.now)) }
         ensures stored { IfOk result (λ stored. stored.shown.items ≡ (self.new.area, self.new.area.version) ∷ []) }
         ensures any_moment { LeavesOnly M.moment M.left_since self.old.area.meta self.new.area.meta
             (KeepsArea (M.seen self.old.area.meta) (Between (reading_of self.old.area.geometry)
-            (counting_body M.seen self.old) (pack_body self.old.geometry.shape (image_view image.now)))) }
+            (counting_body M.seen self.old) (pack_body self.old.geometry.shape (taken_view image.now)))) }
 
         ensures errors { IfErr result (λ e. (e ≡ NoMemory) ⊎ (e ≡ Device)) }
         ensures memory { IfErr result (λ e. e ≡ NoMemory → self.new ≡ self.old) }
@@ -81,8 +81,8 @@ impl<M: Meta> ImagePacks<M> {
         ensures numbers { self.new.area.geometry ≡ self.old.area.geometry }
     {
         // A version fits its field.
-        let _version = image.version;
-        let body = encode(alloc, &self.geometry, image)?;
+        let _version = image.tables.version;
+        let body = encode(alloc, &self.geometry, &image.tables)?;
         match self.area.write(body.as_slice()) {
             Ok(stored) => Ok(stored),
             Err(_) => Err(Error::Device),

@@ -1,4 +1,3 @@
-pub mod Putting
 pub mod Stored
 pub mod Held
 pub mod Slots
@@ -6,4 +5,3 @@ pub mod Laws
 pub mod Owned
 pub mod Contents
 pub mod Filing
-pub mod TreeRows

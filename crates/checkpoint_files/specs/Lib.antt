@@ -1,5 +1,3 @@
-pub mod Rows
-pub mod FileRows
 pub mod TreeOf
 pub mod Owned
 pub mod FileParts

@@ -16,8 +16,8 @@ use Rattle.image_law.proofs.Weighing.{among_of_weigh, among-map, of_among-map, a
 use Rattle.image_law.proofs.Linking.{of_nid, stored_found}
 use Rattle.image_law.proofs.Marks.{sum_one}
 use Rattle.image_law.proofs.Tables.{entry_is, length-table}
-use Rattle.checkpoint_image.specs.Taken.{put_rows, node_in, nodes_in, all_nodes, AreNumbered, IsTakenOf, AreSized}
-use Rattle.checkpoint_image.proofs.Rowing.{of_number, is_counted, put_other, put_found}
+use Rattle.checkpoint_image.specs.Taken.{put_rows, node_in, nodes_in, all_nodes, IsTakenOf, AreSized}
+use Rattle.checkpoint_image.proofs.Rowing.{AreNumbered, of_number, is_counted, put_other, put_found}
 
 -- an item of what each of some lists has
 of_among-flat_map : {A B : Type 0} (f : A → List B) (z : B) (xs : List A) → Among z (flat_map f xs) → (x : A) × Among x xs × Among z (f x)

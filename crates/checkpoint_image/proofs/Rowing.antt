@@ -5,7 +5,11 @@ use Rattle.std.proofs.lemmas.List.{length-set, get_or-set_same, get_or-set_other
 use Rattle.image.specs.Node.{Node}
 use Rattle.geometry.specs.Weights.{weigh}
 use Rattle.image_law.specs.Items.{Among}
-use Rattle.checkpoint_image.specs.Taken.{put_rows, AreNumbered}
+use Rattle.checkpoint_image.specs.Taken.{put_rows}
+
+-- each of these nodes has a row of its number
+abbrev pub AreNumbered : ℕ → List Node → Type 0
+AreNumbered count nodes = (n : Node) → Among n nodes → (1 ≤ n.nid) × (n.nid ≤ count)
 
 abbrev pub of_number : ℕ → Node → ℕ
 of_number nid n = if n.nid == nid then 1 else 0

@@ -1,27 +1,24 @@
 -- What is held is shown item by item, so counts, places and rows read off it are those of its parts; rows that are put
 -- file after file are the rows of all nodes.
-use Rattle.std.proofs.Common.{◌≡◌, refl, sym, ◌∙◌, ap, subst, ℕ, zero, suc, ◌+◌, ◌-◌, ◌<◌, ◌≤◌, ◌%◌, List, [], ◌∷◌, ◌++◌, map, take, set, length, get_or, replicate, fold, arith}
-use Rattle.std.specs.Prelude.{Option, Some, None, IfSome, All, slice_get, sum_by}
+use Rattle.std.proofs.Common.{◌≡◌, refl, sym, ◌∙◌, ap, subst, ℕ, zero, suc, ◌+◌, ◌<◌, ◌≤◌, ◌%◌, List, [], ◌∷◌, ◌++◌, map, length, get_or, replicate, fold, arith}
+use Rattle.std.specs.Prelude.{Option, Some, None, IfSome, slice_get, sum_by}
 use Rattle.std.specs.List.{flat_map}
 use Rattle.std.proofs.lemmas.List.{length-map, get_or-map}
 use Rattle.geometry.specs.declared.geometry.Geometry.{Geometry}
 use Rattle.geometry.specs.Shape.{segment_blocks}
 use Rattle.geometry.proofs.Addresses.{segment_blocks-most}
-use Rattle.image.specs.Node.{Node}
 use Rattle.image.specs.Image.{Image, no_node}
 use Rattle.image.specs.Walk.{up_to}
 use Rattle.sit.specs.Registered.{Registered}
 use Rattle.nat.specs.Shard.{ShardNodes}
 use Rattle.image_law.specs.Items.{Among}
 use Rattle.image_law.specs.Parts.{Token, Stored, FileTree, stored_of, info, found, summaries_in, Balanced}
-use Rattle.image_law.proofs.Weighing.{among_at, among-map, among-flat_map}
 use Rattle.checkpoint_image.specs.Cells.{Cells, CellsLaw, Filed, IsOpenAt, IsWrittenIn, segment_part, shard_part, place_in, tree_in, parts_of}
-use Rattle.checkpoint_image.specs.Taken.{AreNumbered, AreSized, nodes_in, put_rows}
+use Rattle.checkpoint_image.specs.Taken.{AreSized, nodes_in, put_rows}
 use Rattle.checkpoint_image.specs.PartsLaw.{IsFaithfulImage}
 use Rattle.image_law.specs.Parts.{IsImageOf}
 use Rattle.checkpoint_image.proofs.Places.{below_length}
 use Rattle.checkpoint_image.proofs.Written.{filed_at}
-use Rattle.checkpoint_image.proofs.Imaging.{numbered}
 use Rattle.checkpoint_image.proofs.Laws.{parts_law, taken_holds}
 use Rattle.checkpoint_image.specs.Held.{segment_in, part_in, segments_in, infos_in, summaries_in as all_summaries, total_in, HaveBlocks, AreOwnShards, entries_in, places_in, AreWithin, cells_in}
 
@@ -100,13 +97,6 @@ module _ {S H L F : Type 0} (segment : S → Registered) (shard : H → ShardNod
       written.spelled.0.entries
 
   module _ (even : Balanced (parts_of cells)) where
-    pub rows_numbered : All (λ f. AreNumbered geometry.nodes (nodes_in (file f).tree)) files
-    rows_numbered = λ k d low n m.
-        let here : Among (file (get_or files k d)).tree (map tree_in (map file files))
-        = among-map tree_in (file (get_or files k d)) (map file files) (among-map file (get_or files k d) files (among_at files k d low)) in
-        numbered geometry (parts_of cells) (parts_law geometry cells law) even n
-        (among-flat_map nodes_in n (file (get_or files k d)).tree (map tree_in (map file files)) here m)
-
     pub taken_is : (image : Image) → 1 ≤ image.version → image.total ≡ total_in segment segments → image.logs ≡ places_in log (segments_in segment segments) logs
         → image.segments ≡ infos_in segment segments → image.summaries ≡ all_summaries segment segments → image.node_table ≡ entries_in shard shards geometry.nodes
         → image.nodes ≡ put_rows (replicate geometry.nodes no_node) (flat_map (λ f. nodes_in (file f).tree) files)
@@ -122,32 +112,3 @@ module _ {S H L F : Type 0} (segment : S → Registered) (shard : H → ShardNod
           table = table ∙ ap (λ (ss : List (List Token)). map (λ nid. found nid (get_or ss (nid % 16) [])) (up_to geometry.nodes)) (map_twice shard shard_part shards);
           nodes = nodes ∙ ap (put_rows (replicate geometry.nodes no_node)) (flat_twice (λ f. (file f).tree) nodes_in files ∙ ap (flat_map nodes_in) (map_twice file tree_in files));
         })
-
--- nodes that are put into rows one file after another
-append_none : (l : List Node) → l ≡ l ++ []
-append_none [] = refl
-append_none (y ∷ l) = ap (λ (z : List Node). y ∷ z) (append_none l)
-
-append_three : (a b c : List Node) → (a ++ b) ++ c ≡ a ++ (b ++ c)
-append_three [] b c = refl
-append_three (y ∷ a) b c = ap (λ (z : List Node). y ∷ z) (append_three a b c)
-
-put_both : (rows xs ys : List Node) → put_rows (put_rows rows xs) ys ≡ put_rows rows (xs ++ ys)
-put_both rows [] ys = refl
-put_both rows (x ∷ xs) ys = put_both (set rows (x.nid - 1) x) xs ys
-
-module _ {A : Type 0} (nodes : A → List Node) where
-  one_more : (xs : List A) (k : ℕ) (x : A) → k < length xs → x ≡ get_or xs k x → flat_map nodes (take k xs) ++ nodes x ≡ flat_map nodes (take (suc k) xs)
-  one_more [] k x low is = absurd (omega arith)
-  one_more (y ∷ xs) zero x low is = ap nodes is ∙ append_none (nodes y)
-  one_more (y ∷ xs) (suc k) x low is =
-      append_three (nodes y) (flat_map nodes (take k xs)) (nodes x)
-      ∙ ap (λ (z : List Node). nodes y ++ z) (one_more xs k x (omega arith) is)
-
-  pub put_more : (rows : List Node) (xs : List A) (k : ℕ) (x : A) → k < length xs → x ≡ get_or xs k x
-      → put_rows (put_rows rows (flat_map nodes (take k xs))) (nodes x) ≡ put_rows rows (flat_map nodes (take (k + 1) xs))
-  put_more rows xs k x low is =
-      let next : suc k ≡ k + 1 = omega arith in
-      put_both rows (flat_map nodes (take k xs)) (nodes x)
-      ∙ ap (put_rows rows) (one_more xs k x low is)
-      ∙ ap (λ (j : ℕ). put_rows rows (flat_map nodes (take j xs))) next

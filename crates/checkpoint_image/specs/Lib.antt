@@ -5,3 +5,4 @@ pub mod Taken
 pub mod PartsLaw
 pub mod Held
 pub mod Learning
+pub mod View

@@ -23,10 +23,6 @@ nodes_in file = map node_in (each stored_of file)
 abbrev pub all_nodes : Parts → List Node
 all_nodes parts = flat_map nodes_in parts.files
 
--- each of these nodes has a row of its number
-abbrev pub AreNumbered : ℕ → List Node → Type 0
-AreNumbered count nodes = (n : Node) → Among n nodes → (1 ≤ n.nid) × (n.nid ≤ count)
-
 pub record IsTakenOf (geometry : Geometry) (parts : Parts) (image : Image) : Type 0 where
   pub version : 1 ≤ image.version
   pub total : image.total ≡ sum_by (λ (s : SegmentState). (info s).count) parts.segments

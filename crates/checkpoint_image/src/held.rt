@@ -1,16 +1,12 @@
 //! What holds the parts of a volume, as the guards of its locks do.
-ghost use Rattle.std.specs.Prelude.{◌≡◌, ℕ, Option, map, vec_len, OnOk};
-ghost use Rattle.image.specs.View.{node_or_none};
+ghost use Rattle.std.specs.Prelude.{◌≡◌, ℕ, Option};
 ghost use Rattle.checkpoint_image.specs.Cells.{Filed};
-ghost use Rattle.checkpoint_image.specs.Taken.{put_rows, nodes_in, AreNumbered};
 ghost use Rattle.sit.specs.Registered.{Registered};
 ghost use Rattle.nat.specs.Shard.{ShardNodes};
 
 use device::Block;
-use image::Node;
 use nat::Shard;
 use sit::SegmentState;
-use std::alloc::{AllocError, Global};
 
 /// What holds a segment.
 pub trait HoldsSegment<B: Block + Drop> {
@@ -58,10 +54,4 @@ pub trait HoldsLog {
 /// What holds a file.
 pub trait HoldsFile {
     ghost shown: { Self → Filed };
-
-    /// Copies each node of its index tree into the row of its number. After a refusal the rows have any nodes.
-    fn copy_nodes(&self, alloc: Global, rows: &mut Vec<Option<Node>>) -> Result<(), AllocError>
-        requires rows { AreNumbered (vec_len rows.old) (nodes_in (shown self.now).tree) }
-        ensures rows { OnOk result (map node_or_none rows.new.items ≡ put_rows (map node_or_none rows.old.items) (nodes_in (shown self.now).tree)) }
-        ensures count { vec_len rows.new ≡ vec_len rows.old };
 }

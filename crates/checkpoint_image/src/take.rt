@@ -2,22 +2,23 @@
 ghost use Rattle.std.specs.Prelude.{◌≡◌, ◌≤◌, [], map, IfOk, IfErr};
 ghost use Rattle.geometry.specs.declared.error.Error.TheVariants.{NoMemory};
 ghost use Rattle.rights_books.specs.Accounts.{AreFiles};
-ghost use Rattle.image.specs.View.{image_view};
 ghost use Rattle.image_law.specs.Parts.{IsImageOf};
 ghost use Rattle.checkpoint_image.specs.Cells.{CellsLaw, parts_of};
 ghost use Rattle.checkpoint_image.specs.PartsLaw.{ArePartsOf, IsFaithfulImage};
 ghost use Rattle.checkpoint_image.specs.Held.{cells_in};
 ghost use Rattle.checkpoint_image.specs.Learning.{AreSegmentsOf, AreShardsOf};
+ghost use Rattle.checkpoint_image.specs.View.{taken_view};
 
-use crate::{AuditedFile, AuditedSegment, AuditedShard, HoldsLog, learn_all, take_image};
+use crate::{
+    AuditedFile, AuditedSegment, AuditedShard, HoldsLog, TakenImage, learn_all, take_image,
+};
 use device::Block;
 use geometry::{Error, Geometry};
-use image::Image;
 use rights_books::{Audit, Books};
 use std::alloc::Global;
 
 /// Takes an image of this version of all that is held: the audit, which all permits are in, learns each account, so nothing
-/// is in flight; then all is copied. The image keeps all ten rules, has the files' contents whatever the main blocks hold,
+/// is in flight; then the tables are copied. The image keeps all ten rules, has the files' contents whatever the main blocks hold,
 /// and names exactly what is marked (Linux `filesystems/f2fs`, checkpoint). What is held stays as it was.
 ///
 /// The only error is NoMemory.
@@ -37,7 +38,7 @@ pub fn take_audited<
     shards: &mut Vec<H>,
     logs: &Vec<L>,
     files: &mut Vec<F>,
-) -> Result<Image, Error>
+) -> Result<TakenImage, Error>
     requires version { 1 ≤ version }
     requires audit { audit.old ≡ record { book = books.now.book; copies = [] } }
     requires layout { (books.now.key.segments ≡ geometry.now.segments) × (books.now.key.files ≡ geometry.now.files) }
@@ -51,9 +52,9 @@ pub fn take_audited<
     ensures same_files { map F.shown files.new.items ≡ map F.shown files.old.items }
     ensures accounts { map F.account files.new.items ≡ map F.account files.old.items }
     ensures parts { ArePartsOf geometry.now (cells_in S.shown H.shown L.shown F.shown segments.old.items shards.old.items logs.now.items files.old.items) }
-    ensures version { IfOk result (λ image. image.version ≡ version) }
-    ensures image { IfOk result (λ image. IsImageOf geometry.now (parts_of (cells_in S.shown H.shown L.shown F.shown segments.old.items shards.old.items logs.now.items files.old.items)) (image_view image)) }
-    ensures faithful { IfOk result (λ image. IsFaithfulImage geometry.now (parts_of (cells_in S.shown H.shown L.shown F.shown segments.old.items shards.old.items logs.now.items files.old.items)) (image_view image)) }
+    ensures version { IfOk result (λ image. image.tables.version ≡ version) }
+    ensures image { IfOk result (λ image. IsImageOf geometry.now (parts_of (cells_in S.shown H.shown L.shown F.shown segments.old.items shards.old.items logs.now.items files.old.items)) (taken_view image)) }
+    ensures faithful { IfOk result (λ image. IsFaithfulImage geometry.now (parts_of (cells_in S.shown H.shown L.shown F.shown segments.old.items shards.old.items logs.now.items files.old.items)) (taken_view image)) }
     ensures err { IfErr result (λ error. error ≡ NoMemory) }
 {
     learn_all(books, audit, segments, shards, files);

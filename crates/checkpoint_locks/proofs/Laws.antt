@@ -5,13 +5,13 @@ use Rattle.std.specs.Prelude.{Result, IfOk, Some, None, IfSome, All, AllPairs, s
 use Rattle.std.proofs.lemmas.List.{length-map}
 use Rattle.atomic_table.specs.Seated.{TableId}
 use Rattle.geometry.specs.declared.geometry.Geometry.{Geometry}
-use Rattle.image.specs.declared.image.Image.{Image as ImageValue}
-use Rattle.image.specs.View.{image_view}
 use Rattle.image.specs.Rules.{IsInRange}
 use Rattle.sit.specs.Registered.{Registered}
 use Rattle.nat.specs.Shard.{ShardNodes}
 use Rattle.image_law.specs.Parts.{Parts, IsImageOf}
 use Rattle.image_law.proofs.Linking.{file_held}
+use Rattle.checkpoint_image.specs.declared.taken_image.TakenImage.{TakenImage}
+use Rattle.checkpoint_image.specs.View.{taken_view}
 use Rattle.checkpoint_image.specs.Cells.{CellsLaw, Filed, IsSegmentAt, IsOpenAt, OpenApart, parts_of, tree_in}
 use Rattle.checkpoint_image.specs.PartsLaw.{ArePartsOf, IsFaithfulImage}
 use Rattle.checkpoint_image.proofs.Joining.{if_ok}
@@ -77,23 +77,23 @@ module _ {F : Type 0} (filed : F → Filed) (geometry' geometry : Geometry) (are
   pub parts_on : ArePartsOf geometry' (held_cells filed area' files) → ArePartsOf geometry (held_cells filed area files)
   parts_on = both (λ x y. ArePartsOf x (held_cells filed y files))
 
-  module _ {E : Type 0} (result : Result ImageValue E) where
-    pub image_on : IfOk result (λ image. IsImageOf geometry' (parts_of (held_cells filed area' files)) (image_view image))
-        → IfOk result (λ image. IsImageOf geometry (parts_of (held_cells filed area files)) (image_view image))
-    image_on = both (λ x y. IfOk result (λ image. IsImageOf x (parts_of (held_cells filed y files)) (image_view image)))
+  module _ {E : Type 0} (result : Result TakenImage E) where
+    pub image_on : IfOk result (λ image. IsImageOf geometry' (parts_of (held_cells filed area' files)) (taken_view image))
+        → IfOk result (λ image. IsImageOf geometry (parts_of (held_cells filed area files)) (taken_view image))
+    image_on = both (λ x y. IfOk result (λ image. IsImageOf x (parts_of (held_cells filed y files)) (taken_view image)))
 
-    pub faithful_on : IfOk result (λ image. IsFaithfulImage geometry' (parts_of (held_cells filed area' files)) (image_view image))
-        → IfOk result (λ image. IsFaithfulImage geometry (parts_of (held_cells filed area files)) (image_view image))
-    faithful_on = both (λ x y. IfOk result (λ image. IsFaithfulImage x (parts_of (held_cells filed y files)) (image_view image)))
+    pub faithful_on : IfOk result (λ image. IsFaithfulImage geometry' (parts_of (held_cells filed area' files)) (taken_view image))
+        → IfOk result (λ image. IsFaithfulImage geometry (parts_of (held_cells filed area files)) (taken_view image))
+    faithful_on = both (λ x y. IfOk result (λ image. IsFaithfulImage x (parts_of (held_cells filed y files)) (taken_view image)))
 
 -- of a faithful image the first rule says that it is in range
-pub in_range : {E : Type 0} (geometry : Geometry) (parts : Parts) (result : Result ImageValue E) → IfOk result (λ image. IsFaithfulImage geometry parts (image_view image))
-    → IfOk result (λ image. IsInRange geometry (image_view image))
+pub in_range : {E : Type 0} (geometry : Geometry) (parts : Parts) (result : Result TakenImage E) → IfOk result (λ image. IsFaithfulImage geometry parts (taken_view image))
+    → IfOk result (λ image. IsInRange geometry (taken_view image))
 in_range geometry parts result = if_ok result (λ image is. is.lawful 1 (omega arith) (omega arith))
 
 -- an image of the parts has the trees of all files
-pub has_trees : {F E : Type 0} (filed : F → Filed) (geometry : Geometry) (area : AreaView) (files : List F) (result : Result ImageValue E)
-    → ArePartsOf geometry (held_cells filed area files) → IfOk result (λ image. IsImageOf geometry (parts_of (held_cells filed area files)) (image_view image))
-    → IfOk result (λ image. HasTrees (image_view image) (map filed files))
+pub has_trees : {F E : Type 0} (filed : F → Filed) (geometry : Geometry) (area : AreaView) (files : List F) (result : Result TakenImage E)
+    → ArePartsOf geometry (held_cells filed area files) → IfOk result (λ image. IsImageOf geometry (parts_of (held_cells filed area files)) (taken_view image))
+    → IfOk result (λ image. HasTrees (taken_view image) (map filed files))
 has_trees filed geometry area files result parts = if_ok result (λ image is k f tree got has.
-    file_held geometry (parts_of (held_cells filed area files)) (image_view image) parts.law parts.balanced is k tree (at_some tree_in None (map filed files) k f got ∙ has))
+    file_held geometry (parts_of (held_cells filed area files)) (taken_view image) parts.law parts.balanced is k tree (at_some tree_in None (map filed files) k f got ∙ has))

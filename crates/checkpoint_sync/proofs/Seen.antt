@@ -5,13 +5,7 @@ use Rattle.atomic_table.specs.Seated.{TableId}
 use Rattle.rights_books.proofs.Dealing.{slice_get_push}
 use Rattle.geometry.specs.declared.geometry.Geometry.{Geometry}
 use Rattle.file_cells.specs.Cell.{CellView}
-use Rattle.checkpoint_image.specs.Taken.{nodes_in, AreNumbered}
-use Rattle.checkpoint_files.specs.FileParts.{filed_of}
 use Rattle.checkpoint_sync.specs.Held.{IsWrittenCell, AreWritten}
-
--- rows that have room for its nodes
-pub room_still : {B L : Type 0} (rows : ℕ) (x y : CellView B L) → x ≡ y → AreNumbered rows (nodes_in ((filed_of y.account y.state).tree)) → AreNumbered rows (nodes_in ((filed_of x.account x.state).tree))
-room_still {B} {L} rows x y is = subst (λ (c : CellView B L). AreNumbered rows (nodes_in ((filed_of c.account c.state).tree))) (sym is)
 
 -- one more file
 pub one_more : {B L : Type 0} (book : TableId) (geometry : Geometry) (files : List (CellView B L)) (c : CellView B L) → AreWritten book geometry files

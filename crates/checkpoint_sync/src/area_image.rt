@@ -2,18 +2,17 @@
 ghost use Rattle.std.specs.Prelude.{◌≡◌, ◌≤◌, map, vec_len, IfOk, IfErr};
 ghost use Rattle.geometry.specs.declared.error.Error.TheVariants.{NoMemory};
 ghost use Rattle.image.specs.Rules.{IsLawful};
-ghost use Rattle.image.specs.View.{image_view};
 ghost use Rattle.rights_books.specs.Accounts.{AreFiles};
+ghost use Rattle.checkpoint_image.specs.View.{taken_view};
 ghost use Rattle.checkpoint_locks.specs.Held.{AreHeldFiles, HasTrees};
 ghost use Rattle.rights_permits.specs.Turns.{at_home};
 ghost use Rattle.checkpoint_sync.specs.TakenFrom.{IsTakenFrom};
 
 use area::MainArea;
-use checkpoint_image::AuditedFile;
+use checkpoint_image::{AuditedFile, TakenImage};
 use checkpoint_locks::lock_area;
 use device::Block;
 use geometry::Error;
-use image::Image;
 use rights_names::VolumeName;
 use rights_permits::AllPermits;
 use std::alloc::Global;
@@ -31,7 +30,7 @@ pub fn take_image<V: VolumeName, B: Block + Drop, F: AuditedFile, R: Wait>(
     files: &mut Vec<F>,
     all: AllPermits<V::Books, V::Turns>,
     version: u32,
-) -> (AllPermits<V::Books, V::Turns>, Result<Image, Error>)
+) -> (AllPermits<V::Books, V::Turns>, Result<TakenImage, Error>)
     requires home { all.hand ≡ at_home V.Books.books.book }
     requires accounts { AreFiles V.Books.books.book (map F.account files.old.items) }
     requires files { AreHeldFiles V.Numbers.geometry (map F.shown files.old.items) }
@@ -40,10 +39,10 @@ pub fn take_image<V: VolumeName, B: Block + Drop, F: AuditedFile, R: Wait>(
     ensures home { result.0.hand ≡ at_home V.Books.books.book }
     ensures accounts { map F.account files.new.items ≡ map F.account files.old.items }
     ensures files { map F.shown files.new.items ≡ map F.shown files.old.items }
-    ensures taken { IfOk result.1 (λ image. IsTakenFrom V.Numbers.geometry (map F.shown files.old.items) (image_view image)) }
-    ensures trees { IfOk result.1 (λ image. HasTrees (image_view image) (map F.shown files.old.items)) }
-    ensures version { IfOk result.1 (λ image. image.version ≡ version) }
-    ensures lawful { IfOk result.1 (λ image. IsLawful V.Numbers.geometry (image_view image)) }
+    ensures taken { IfOk result.1 (λ image. IsTakenFrom V.Numbers.geometry (map F.shown files.old.items) (taken_view image)) }
+    ensures trees { IfOk result.1 (λ image. HasTrees (taken_view image) (map F.shown files.old.items)) }
+    ensures version { IfOk result.1 (λ image. image.tables.version ≡ version) }
+    ensures lawful { IfOk result.1 (λ image. IsLawful V.Numbers.geometry (taken_view image)) }
     ensures error { IfErr result.1 (λ error. error ≡ NoMemory) }
 {
     let mut held = match lock_area(rt, alloc, area) {

@@ -8,17 +8,14 @@ ghost use Rattle.checkpoint_sync.specs.Held.{IsWrittenCell};
 
 use crate::flushing::flush_cell;
 use area::MainArea;
-use checkpoint_files::copy_tree;
 use checkpoint_image::{AuditedFile, HoldsFile};
 use device::Block;
 use file_cells::{FileCell, FilePass};
 use file_flush::FlushBuffer;
 use geometry::Error;
-use image::Node;
 use nodes::FileState;
 use rights_books::{Audit, Books, Permit};
 use rights_names::VolumeName;
-use std::alloc::{AllocError, Global};
 use std::marker::Model;
 use std::sync::{MutexGuard, Wait};
 
@@ -95,10 +92,6 @@ impl<'a, V: VolumeName + 'a, B: Block + Drop + 'a> HoldsFile for HeldFile<'a, V,
     ghost use Rattle.checkpoint_files.specs.FileParts.{filed_of};
 
     ghost shown = { λ h. filed_of h.account h.state };
-
-    fn copy_nodes(&self, alloc: Global, rows: &mut Vec<Option<Node>>) -> Result<(), AllocError> {
-        copy_tree(alloc, &self.cell.state, rows)
-    }
 }
 
 impl<'a, V: VolumeName + 'a, B: Block + Drop + 'a> AuditedFile for HeldFile<'a, V, B> {

@@ -1,7 +1,7 @@
 //! The files of the passes that are lent to a checkpoint.
 ghost use Rattle.std.specs.Prelude.{◌≡◌, map, reverse, vec_len};
 ghost use Rattle.rights_books.specs.Accounts.{AreFiles};
-ghost use Rattle.image.specs.View.{image_view};
+ghost use Rattle.checkpoint_image.specs.View.{taken_view};
 ghost use Rattle.checkpoint_files.specs.FileParts.{filed_of};
 ghost use Rattle.checkpoint_locks.specs.Held.{HasTrees};
 ghost use Rattle.checkpoint.specs.Files.{files_of};
@@ -9,23 +9,23 @@ ghost use Rattle.checkpoint_sync.specs.Lent.{shown_by};
 
 use crate::HeldFile;
 use checkpoint::Taken;
+use checkpoint_image::TakenImage;
 use device::Block;
 use file_cells::FilePass;
-use image::Image;
 use rights_books::Books;
 use rights_names::VolumeName;
 
 // An image, which has the trees of all files, and with it the file of each pass, the last one first.
 pub(crate) fn add_files<'a, V: VolumeName + 'a, B: Block + Drop + 'a>(
     books: &Books,
-    image: Image,
+    image: TakenImage,
     files: &Vec<HeldFile<'a, V, B>>,
     passes: &[&FilePass<V>],
 ) -> Taken<B>
     requires books { books.now ≡ V.Books.books }
     requires every { vec_len files.now ≡ V.Numbers.geometry.files }
     requires accounts { AreFiles V.Books.books.book (map (λ file. file.account) files.now.items) }
-    requires trees { HasTrees (image_view image) (map (λ file. filed_of file.account file.state) files.now.items) }
+    requires trees { HasTrees (taken_view image) (map (λ file. filed_of file.account file.state) files.now.items) }
     ensures image { result.image ≡ image }
     ensures files { files_of result.added.items ≡ reverse (map (λ pass. shown_by pass.now) passes.now) }
 {

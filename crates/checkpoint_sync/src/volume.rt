@@ -2,7 +2,7 @@
 ghost use Rattle.std.specs.Prelude.{◌≡◌, ◌≤◌, ◌⊎◌, map, reverse, vec_len, IfOk, IfErr};
 ghost use Rattle.geometry.specs.declared.error.Error.TheVariants.{NoMemory, Device, NoSpace};
 ghost use Rattle.image.specs.Rules.{IsLawful};
-ghost use Rattle.image.specs.View.{image_view};
+ghost use Rattle.checkpoint_image.specs.View.{taken_view};
 ghost use Rattle.checkpoint.specs.Files.{files_of};
 ghost use Rattle.rights_permits.specs.Turns.{at_home};
 ghost use Rattle.checkpoint_sync.specs.Held.{AreWritten};
@@ -40,8 +40,8 @@ pub fn take_volume<V: VolumeName, B: Block + Drop, R: Wait>(
     requires every { vec_len files.now ≡ V.Numbers.geometry.files }
     requires version { 1 ≤ version }
     ensures home { result.0.hand ≡ at_home V.Books.books.book }
-    ensures version { IfOk result.1 (λ taken. taken.image.version ≡ version) }
-    ensures lawful { IfOk result.1 (λ taken. IsLawful V.Numbers.geometry (image_view taken.image)) }
+    ensures version { IfOk result.1 (λ taken. taken.image.tables.version ≡ version) }
+    ensures lawful { IfOk result.1 (λ taken. IsLawful V.Numbers.geometry (taken_view taken.image)) }
     ensures files { IfOk result.1 (λ taken. files_of taken.added.items ≡ reverse (map (λ pass. shown_by pass.now) passes.now)) }
     ensures error { IfErr result.1 (λ error. (error ≡ NoMemory) ⊎ ((error ≡ Device) ⊎ (error ≡ NoSpace))) }
 {
@@ -68,8 +68,8 @@ fn take_held<'a, V: VolumeName + 'a, B: Block + Drop + 'a, R: Wait>(
     requires every { vec_len files ≡ V.Numbers.geometry.files }
     requires version { 1 ≤ version }
     ensures home { result.0.hand ≡ at_home V.Books.books.book }
-    ensures version { IfOk result.1 (λ taken. taken.image.version ≡ version) }
-    ensures lawful { IfOk result.1 (λ taken. IsLawful V.Numbers.geometry (image_view taken.image)) }
+    ensures version { IfOk result.1 (λ taken. taken.image.tables.version ≡ version) }
+    ensures lawful { IfOk result.1 (λ taken. IsLawful V.Numbers.geometry (taken_view taken.image)) }
     ensures files { IfOk result.1 (λ taken. files_of taken.added.items ≡ reverse (map (λ pass. shown_by pass.now) passes.now)) }
     ensures error { IfErr result.1 (λ error. error ≡ NoMemory) }
 {

@@ -1,27 +1,37 @@
 //! A state comes to an image that has its file.
 ghost use Rattle.std.specs.Prelude.{◌≡◌};
 ghost use Rattle.geometry.specs.declared.kind.Kind.TheVariants.{File};
+ghost use Rattle.image.specs.View.{image_view};
+ghost use Rattle.checkpoint_image.specs.View.{taken_view};
 
 use checkpoint::Taken;
+use checkpoint_image::TakenImage;
 use device::MemBlock;
 use geometry::Kind;
+use image::Image;
 use nodes::FileState;
+use std::alloc::Global;
 
-/// Adds the state of an empty file where the image has an empty file of its number, and answers whether it has. A number that
-/// is not taken there is no file, not even an empty one.
-pub fn add_empty(taken: &mut Taken<MemBlock>, state: &FileState<MemBlock>) -> bool
+/// Takes an image, and adds the state of an empty file where the image has an empty file of its number; and answers whether it
+/// has. A number that is not taken there is no file, not even an empty one.
+pub fn take_with_empty(
+    alloc: Global,
+    image: Image,
+    state: &FileState<MemBlock>,
+) -> (Taken<MemBlock>, bool)
     requires kind { state.now.kind ≡ File }
     requires length { state.now.length ≡ 0 }
-    ensures image { taken.new.image ≡ taken.old.image }
+    ensures image { taken_view result.0.image ≡ image_view image }
 {
     let number = state.number();
-    let is_empty = match taken.image().node(number) {
+    let is_empty = match image.node(number) {
         Some(node) => node.kind == Kind::File && node.length == 0,
         None => true,
     };
-    if !is_empty || taken.image().entry(number).address == 0 {
-        return false;
+    let is_there = image.entry(number).address != 0;
+    let mut taken = Taken::of(TakenImage::of(alloc, image));
+    if is_empty && is_there {
+        taken.add(state);
     }
-    taken.add(state);
-    true
+    (taken, is_empty && is_there)
 }

@@ -7,9 +7,11 @@ ghost use Rattle.rights_books.specs.Lists.{times};
 ghost use Rattle.rights_books.specs.Sameness.{same_entry};
 ghost use Rattle.nodes.specs.File.{IsBare};
 ghost use Rattle.checkpoint.specs.Holding.{AreWhole};
+ghost use Rattle.checkpoint_image.specs.View.{taken_view};
 
-use crate::adding::add_empty;
+use crate::adding::take_with_empty;
 use checkpoint::{ImagePacks, Taken};
+use checkpoint_image::TakenImage;
 use device::{Faulty, Fuse, MemBlock, MemMeta, Meta};
 use geometry::{Error, Geometry, Kind, Shape};
 use image::{Image, NodeEntry};
@@ -89,20 +91,20 @@ fn opened<M: Meta + Drop>(
 fn write_total<M: Meta>(
     packs: &mut ImagePacks<M>,
     alloc: Global,
-    image: Image,
+    image: TakenImage,
     total: u32,
-) -> Result<Image, Error>
+) -> Result<TakenImage, Error>
     requires whole { AreWhole M.seen M.may_leave packs.old }
-    requires range { IsInRange packs.old.geometry (image_view image) }
+    requires range { IsInRange packs.old.geometry (taken_view image) }
     ensures whole { OnOk result (AreWhole M.seen M.may_leave packs.new) }
-    ensures range { IfOk result (λ image. IsInRange packs.new.geometry (image_view image)) }
+    ensures range { IfOk result (λ image. IsInRange packs.new.geometry (taken_view image)) }
 {
     if packs.area.version > 1_000 {
         return Err(Error::Exhausted);
     }
     let mut image = image;
-    image.version = packs.area.version + 1;
-    image.total = total;
+    image.tables.version = packs.area.version + 1;
+    image.tables.total = total;
     let taken = Taken::<MemBlock>::of(image);
     let stored = packs.write(alloc, taken)?;
     Ok(stored.into_image())
@@ -124,7 +126,7 @@ fn each_image_is_read_back(rt: HostRuntime) -> Result<(), Fail> {
     let file = empty_file(alloc)?;
     let (mut packs, image) = opened(alloc, area_of(alloc, &file)?, &file)?;
     assert!(rt; read_numbers(&mut packs, alloc) == Ok((1, 0)));
-    let image = write_total(&mut packs, alloc, image, 7)?;
+    let image = write_total(&mut packs, alloc, TakenImage::of(alloc, image), 7)?;
     assert!(rt; read_numbers(&mut packs, alloc) == Ok((2, 7)));
     let _image = write_total(&mut packs, alloc, image, 9)?;
     assert!(rt; read_numbers(&mut packs, alloc) == Ok((3, 9)));
@@ -138,7 +140,7 @@ fn crash_in_write(alloc: Global, nth: u32, late: bool) -> Result<(bool, u32), Er
     let meta = Faulty::new(area_of(alloc, &file)?, Arc::try_clone(&fuse)?);
     let (mut packs, image) = opened(alloc, meta, &file)?;
     fuse.arm(nth, late)?;
-    let done = write_total(&mut packs, alloc, image, 7).is_ok();
+    let done = write_total(&mut packs, alloc, TakenImage::of(alloc, image), 7).is_ok();
     let (again, _image) = opened(alloc, packs.area.meta.into_inner(), &file)?;
     Ok((done, again.area.version))
 }
@@ -216,19 +218,17 @@ fn an_empty_file_is_added_where_the_image_has_it(rt: HostRuntime) -> Result<(), 
     let (_segment, dealer) = books.deal_segment(dealer);
     let (mut shard, _dealer) = books.deal_shard(dealer);
     let state = empty_state(&rt, alloc, &books, &mut shard, &mut permit);
-    let mut without = Taken::of(without);
-    let added_without = add_empty(&mut without, &state);
+    let (_without, added_without) = take_with_empty(alloc, without, &state);
     for entry in image.nat.iter_mut().skip(15) {
         *entry = NodeEntry {
             inode: 16,
             address: 9,
         };
     }
-    let mut taken = Taken::of(image);
-    let added = add_empty(&mut taken, &state);
+    let (taken, added) = take_with_empty(alloc, image, &state);
     give_back(&rt, &books, &mut shard, &mut permit, state);
     assert!(rt; !added_without);
     assert!(rt; added);
-    assert!(rt; taken.image().version == 1);
+    assert!(rt; taken.tables().version == 1);
     Ok(())
 }

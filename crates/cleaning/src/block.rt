@@ -1,17 +1,13 @@
 //! A data block is moved.
-ghost use Rattle.std.specs.Prelude.{◌≡◌, ℕ, ◌<◌, ◌⊎◌, Some, None, length, OnOk, OnErr, IfOk, IfErr};
+ghost use Rattle.std.specs.Prelude.{◌≡◌, ◌<◌, ◌⊎◌, Some, None, length, OnOk, OnErr, IfOk, IfErr};
 ghost use Rattle.geometry.specs.declared.error.Error.TheVariants.{NoSpace, Device};
 ghost use Rattle.geometry.specs.declared.owner.Owner.TheVariants.{Data};
 ghost use Rattle.geometry.specs.Path.{path};
-ghost use Rattle.geometry.specs.Shape.{block_bytes};
 ghost use Rattle.tickets.specs.Placed.{Placed};
-ghost use Rattle.nodes.specs.File.{address_of, ticket_at, file_of};
-ghost use Rattle.nodes.specs.Held.{Others};
+ghost use Rattle.nodes.specs.File.{address_of, ticket_at};
 ghost use Rattle.nodes.specs.Owners.{owner_at};
-ghost use Rattle.nodes.specs.Useful.{IsUseful, each_node};
-ghost use Rattle.nodes_law.specs.Law.{FileStateLaw};
-ghost use Rattle.file_calls.specs.Contents.{IsStored, InHand, Serves};
 ghost use Rattle.cleaning.specs.Moves.{HasMoved, IsGone, MovesAt};
+ghost use Rattle.cleaning.specs.Served.{CanMove, HasServed};
 ghost use Rattle.cleaning.specs.declared.fate.Fate.TheVariants.{Moved, Gone};
 
 use crate::fate::Fate;
@@ -42,17 +38,8 @@ pub fn migrate_block<V: VolumeName, B: Block + Drop, R: Wait>(
     now: u64,
     bytes: &mut [u8],
 ) -> Result<Fate, Error>
-    requires book { hand.old.book ≡ V.Books.books.book }
-    requires shape { file.old.shape ≡ V.Numbers.geometry.shape }
-    requires address { 0 < address }
-    requires bytes { length bytes.old ≡ block_bytes file.old.shape }
-    requires stored { IsStored file.old }
-    requires law { FileStateLaw V.Numbers.geometry.files file.old }
-    requires held { (others : Others) × InHand others file.old hand.old }
-    ensures serves { Serves file.old file.new hand.old hand.new }
-    ensures law { FileStateLaw V.Numbers.geometry.files file.new }
-    ensures useful { IsUseful each_node file.old → IsUseful each_node file.new }
-    ensures file { file_of file.new ≡ file_of file.old }
+    requires file { CanMove V.Numbers.geometry V.Books.books.book address file.old hand.old bytes.old }
+    ensures served { HasServed V.Numbers.geometry.files file.old file.new hand.old hand.new }
     ensures moved { IfOk result (λ fate. fate ≡ Moved → HasMoved address (Data nid slot) file.old file.new) }
     ensures gone { IfOk result (λ fate. fate ≡ Gone → IsGone address (Data nid slot) file.old × (file.new ≡ file.old) × (hand.new ≡ hand.old)) }
     ensures err { OnErr result ((file.new ≡ file.old) × (hand.new ≡ hand.old)) }
@@ -82,20 +69,11 @@ fn move_block<V: VolumeName, B: Block + Drop, R: Wait>(
     now: u64,
     bytes: &mut [u8],
 ) -> Result<(), Error>
-    requires book { hand.old.book ≡ V.Books.books.book }
-    requires shape { file.old.shape ≡ V.Numbers.geometry.shape }
+    requires file { CanMove V.Numbers.geometry V.Books.books.book mark.address file.old hand.old bytes.old }
     requires inside { index < file.old.length }
     requires there { address_of (ticket_at file.old index) ≡ mark.address }
     requires owner { owner_at file.old (path file.old.shape index) ≡ Some mark.owner }
-    requires address { 0 < mark.address }
-    requires bytes { length bytes.old ≡ block_bytes file.old.shape }
-    requires stored { IsStored file.old }
-    requires law { FileStateLaw V.Numbers.geometry.files file.old }
-    requires held { (others : Others) × InHand others file.old hand.old }
-    ensures serves { Serves file.old file.new hand.old hand.new }
-    ensures law { FileStateLaw V.Numbers.geometry.files file.new }
-    ensures useful { IsUseful each_node file.old → IsUseful each_node file.new }
-    ensures file { file_of file.new ≡ file_of file.old }
+    ensures served { HasServed V.Numbers.geometry.files file.old file.new hand.old hand.new }
     ensures moved { OnOk result ((before : Placed) × (after : Placed) × MovesAt mark file.old file.new index before after) }
     ensures err { OnErr result ((file.new ≡ file.old) × (hand.new ≡ hand.old)) }
     ensures error { IfErr result (λ error. (error ≡ Device) ⊎ (error ≡ NoSpace)) }

@@ -1,16 +1,12 @@
 //! A node's block is moved.
-ghost use Rattle.std.specs.Prelude.{◌≡◌, ◌≢◌, ◌<◌, ◌∷◌, ◌⊎◌, length, OnOk, OnErr, IfOk, IfErr};
+ghost use Rattle.std.specs.Prelude.{◌≡◌, ◌≢◌, ◌<◌, ◌⊎◌, length, OnOk, OnErr, IfOk, IfErr};
 ghost use Rattle.geometry.specs.declared.error.Error.TheVariants.{NoSpace, Device};
 ghost use Rattle.geometry.specs.declared.owner.Owner.TheVariants.{Node};
 ghost use Rattle.geometry.specs.Shape.{block_bytes};
 ghost use Rattle.rights_books.specs.Lists.{times};
 ghost use Rattle.rights_books.specs.Sameness.{same_entry};
-ghost use Rattle.nodes.specs.File.{file_of};
-ghost use Rattle.nodes.specs.Held.{Others};
-ghost use Rattle.nodes.specs.Useful.{IsUseful, each_node};
-ghost use Rattle.nodes_law.specs.Law.{FileStateLaw};
-ghost use Rattle.file_calls.specs.Contents.{IsStored, InHand, Serves};
 ghost use Rattle.cleaning.specs.Moves.{HasMoved, IsGone, MovesToken, KeepsWeights};
+ghost use Rattle.cleaning.specs.Served.{CanMove, HasServed};
 ghost use Rattle.cleaning.specs.declared.fate.Fate.TheVariants.{Moved, Gone};
 
 use crate::fate::Fate;
@@ -43,17 +39,8 @@ pub fn migrate_node<V: VolumeName, B: Block + Drop, R: Wait>(
     now: u64,
     bytes: &mut [u8],
 ) -> Result<Fate, Error>
-    requires book { hand.old.book ≡ V.Books.books.book }
-    requires shape { file.old.shape ≡ V.Numbers.geometry.shape }
-    requires address { 0 < address }
-    requires bytes { length bytes.old ≡ block_bytes file.old.shape }
-    requires stored { IsStored file.old }
-    requires law { FileStateLaw V.Numbers.geometry.files file.old }
-    requires held { (others : Others) × InHand others file.old hand.old }
-    ensures serves { Serves file.old file.new hand.old hand.new }
-    ensures law { FileStateLaw V.Numbers.geometry.files file.new }
-    ensures useful { IsUseful each_node file.old → IsUseful each_node file.new }
-    ensures file { file_of file.new ≡ file_of file.old }
+    requires file { CanMove V.Numbers.geometry V.Books.books.book address file.old hand.old bytes.old }
+    ensures served { HasServed V.Numbers.geometry.files file.old file.new hand.old hand.new }
     ensures moved { IfOk result (λ fate. fate ≡ Moved → HasMoved address (Node nid) file.old file.new) }
     ensures gone { IfOk result (λ fate. fate ≡ Gone → IsGone address (Node nid) file.old × KeepsWeights file.old file.new × (hand.new ≡ hand.old)) }
     ensures err { OnErr result ((file.new ≡ file.old) × (hand.new ≡ hand.old)) }

@@ -1,8 +1,9 @@
 //! A block that cleaning moves gets a new place.
-ghost use Rattle.std.specs.Prelude.{◌≡◌, ◌≢◌, ◌∷◌, ◌<◌, ◌⊎◌, length, OnErr, IfOk, IfErr};
+ghost use Rattle.std.specs.Prelude.{◌≡◌, ◌≢◌, ◌⊎◌, length, OnErr, IfOk, IfErr};
 ghost use Rattle.geometry.specs.declared.error.Error.TheVariants.{NoSpace, Device};
 ghost use Rattle.geometry.specs.Owner.{IsOwner};
 ghost use Rattle.geometry.specs.Shape.{block_bytes};
+ghost use Rattle.area.specs.Hand.{HasAppended};
 
 use area::{Log, MainArea, Who};
 use device::Block;
@@ -25,10 +26,7 @@ pub(crate) fn append_elsewhere<V: VolumeName, B: Block + Drop, R: Wait>(
     requires book { hand.old.book ≡ V.Books.books.book }
     requires owner { IsOwner mark.owner }
     requires bytes { length bytes.now ≡ block_bytes V.Numbers.geometry.shape }
-    ensures hand { IfOk result (λ ticket. hand.new ≡ record hand.old { tickets = ticket.mark ∷ hand.old.tickets }) }
-    ensures owner { IfOk result (λ ticket. ticket.mark.owner ≡ mark.owner) }
-    ensures content { IfOk result (λ ticket. ticket.content ≡ bytes.now) }
-    ensures some { IfOk result (λ ticket. 0 < ticket.mark.address) }
+    ensures appended { IfOk result (λ ticket. HasAppended V.Numbers.geometry mark.owner bytes.now hand.old hand.new ticket) }
     ensures elsewhere { IfOk result (λ ticket. ticket.mark.address ≢ mark.address) }
     ensures err { OnErr result (hand.new ≡ hand.old) }
     ensures error { IfErr result (λ error. (error ≡ Device) ⊎ (error ≡ NoSpace)) }

@@ -6,8 +6,8 @@ ghost use Rattle.device.specs.Disk.{Leaves};
 ghost use Rattle.checkpoint_files.specs.FileParts.{filed_of};
 ghost use Rattle.checkpoint_sync.specs.Held.{AreWritten};
 ghost use Rattle.image.specs.Rules.{IsLawful};
-ghost use Rattle.image.specs.View.{image_view};
 ghost use Rattle.checkpoint_sync.specs.TakenFrom.{IsTakenFrom};
+ghost use Rattle.checkpoint_image.specs.View.{taken_view};
 ghost use Rattle.rights_permits.specs.Turns.{at_home};
 ghost use Rattle.close_area.specs.Returned.{living};
 ghost use Rattle.close_area.specs.Refused.{IsNotWritten};
@@ -16,13 +16,13 @@ use crate::count_living;
 use crate::telling::tell_written;
 use area::MainArea;
 use checkpoint::{PacksCell, Taken};
+use checkpoint_image::TakenImage;
 use checkpoint_sync::take_image;
 use close_files::{WrittenFile, own_files, share_files};
 use device::{Block, Meta};
 use file_cells::FileCell;
 use file_flush::FlushBuffer;
 use geometry::{Error, Geometry};
-use image::Image;
 use rights_names::VolumeName;
 use rights_permits::AllPermits;
 use std::alloc::Global;
@@ -32,7 +32,7 @@ use std::sync::{Mutex, Wait};
 pub struct Last<V: VolumeName, B: Block + Drop> {
     pub all: AllPermits<V::Books, V::Turns>,
     pub files: Vec<WrittenFile<V, B>>,
-    pub image: Image,
+    pub image: TakenImage,
 }
 
 /// Takes all permits and the files out of their locks, writes the marked nodes of all files, and then an image of the volume
@@ -50,14 +50,14 @@ pub fn write_last<V: VolumeName, M: Meta, B: Block + Drop, R: Wait>(
     passes: usize,
 ) -> Result<Last<V, B>, (Vec<Mutex<FileCell<V, B>>>, Error)>
     requires every { vec_len files ≡ V.Numbers.geometry.files }
-    ensures tables { IfOk result (λ last. Leaves M.may_leave packs.new.packs.area.meta (HoldsTables V.Numbers.geometry (image_view last.image))) }
+    ensures tables { IfOk result (λ last. Leaves M.may_leave packs.new.packs.area.meta (HoldsTables V.Numbers.geometry (taken_view last.image))) }
     ensures sound { OnOk result (packs.new.wounded ≡ false) }
     ensures home { IfOk result (λ last. last.all.hand ≡ at_home V.Books.books.book) }
     ensures written { IfOk result (λ last. AreWritten V.Books.books.book V.Numbers.geometry last.files.items) }
     ensures every { IfOk result (λ last. vec_len last.files ≡ V.Numbers.geometry.files) }
     ensures enough { IfOk result (λ last. living last.files.items ≤ passes) }
-    ensures taken { IfOk result (λ last. IsTakenFrom V.Numbers.geometry (map (λ c. filed_of c.account c.state) last.files.items) (image_view last.image)) }
-    ensures lawful { IfOk result (λ last. IsLawful V.Numbers.geometry (image_view last.image)) }
+    ensures taken { IfOk result (λ last. IsTakenFrom V.Numbers.geometry (map (λ c. filed_of c.account c.state) last.files.items) (taken_view last.image)) }
+    ensures lawful { IfOk result (λ last. IsLawful V.Numbers.geometry (taken_view last.image)) }
     ensures back { IfErr result (λ refused. vec_len refused.0 ≡ V.Numbers.geometry.files) }
     ensures error { IfErr result (λ refused. IsNotWritten refused.1) }
     // Only a device that failed in the pack write wounds.
@@ -125,7 +125,7 @@ fn store_image<V: VolumeName, M: Meta, B: Block + Drop, R: Wait>(
     packs: &mut PacksCell<V, M>,
     version: u32,
     passes: usize,
-) -> (AllPermits<V::Books, V::Turns>, Result<Image, Error>)
+) -> (AllPermits<V::Books, V::Turns>, Result<TakenImage, Error>)
     requires home { all.hand ≡ at_home V.Books.books.book }
     requires files { AreWritten V.Books.books.book V.Numbers.geometry files.old.items }
     requires every { vec_len files.old ≡ V.Numbers.geometry.files }
@@ -135,9 +135,9 @@ fn store_image<V: VolumeName, M: Meta, B: Block + Drop, R: Wait>(
     ensures files { AreWritten V.Books.books.book V.Numbers.geometry files.new.items }
     ensures every { vec_len files.new ≡ V.Numbers.geometry.files }
     ensures enough { OnOk result.1 (living files.new.items ≤ passes) }
-    ensures taken { IfOk result.1 (λ image. IsTakenFrom V.Numbers.geometry (map (λ c. filed_of c.account c.state) files.new.items) (image_view image)) }
-    ensures lawful { IfOk result.1 (λ image. IsLawful V.Numbers.geometry (image_view image)) }
-    ensures tables { IfOk result.1 (λ image. Leaves M.may_leave packs.new.packs.area.meta (HoldsTables V.Numbers.geometry (image_view image))) }
+    ensures taken { IfOk result.1 (λ image. IsTakenFrom V.Numbers.geometry (map (λ c. filed_of c.account c.state) files.new.items) (taken_view image)) }
+    ensures lawful { IfOk result.1 (λ image. IsLawful V.Numbers.geometry (taken_view image)) }
+    ensures tables { IfOk result.1 (λ image. Leaves M.may_leave packs.new.packs.area.meta (HoldsTables V.Numbers.geometry (taken_view image))) }
     ensures sound { OnOk result.1 (packs.new.wounded ≡ false) }
     ensures error { IfErr result.1 IsNotWritten }
     ensures packs { IfErr result.1 (λ error. ((packs.new.packs ≡ packs.old.packs) × (packs.new.wounded ≡ packs.old.wounded))

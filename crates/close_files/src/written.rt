@@ -7,18 +7,15 @@ ghost use Rattle.file_cells.specs.Cell.{IsLodged};
 ghost use Rattle.checkpoint_sync.specs.Held.{IsWrittenCell};
 
 use area::MainArea;
-use checkpoint_files::copy_tree;
 use checkpoint_image::{AuditedFile, HoldsFile};
 use checkpoint_sync::flush_cell;
 use device::Block;
 use file_cells::{FileCell, FilePass};
 use file_flush::FlushBuffer;
 use geometry::Error;
-use image::Node;
 use nodes::FileState;
 use rights_books::{Audit, Books, FileAccount, Permit};
 use rights_names::VolumeName;
-use std::alloc::{AllocError, Global};
 use std::marker::Model;
 use std::sync::Wait;
 
@@ -124,10 +121,6 @@ impl<V: VolumeName, B: Block + Drop> HoldsFile for WrittenFile<V, B> {
     ghost use Rattle.checkpoint_files.specs.FileParts.{filed_of};
 
     ghost shown = { λ w. filed_of w.account w.state };
-
-    fn copy_nodes(&self, alloc: Global, rows: &mut Vec<Option<Node>>) -> Result<(), AllocError> {
-        copy_tree(alloc, &self.cell.state, rows)
-    }
 }
 
 impl<V: VolumeName, B: Block + Drop> AuditedFile for WrittenFile<V, B> {

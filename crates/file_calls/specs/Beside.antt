@@ -1,6 +1,9 @@
 -- A call that works on a file with spare nodes beside it: what is in hand is the file's, the spare nodes' and others'.
-use Rattle.std.specs.Prelude.{◌≡◌, ℕ}
-use Rattle.geometry.specs.Path.{node_entries}
+use Rattle.std.specs.Prelude.{◌≡◌, ◌<◌, ℕ, List, length}
+use Rattle.atomic_table.specs.Seated.{TableId}
+use Rattle.geometry.specs.declared.geometry.Geometry.{Geometry}
+use Rattle.geometry.specs.Path.{node_entries, largest_length}
+use Rattle.geometry.specs.Shape.{block_bytes}
 use Rattle.rights_books.specs.Accounts.{HandView}
 use Rattle.tree.specs.Change.{unnumbered}
 use Rattle.nodes.specs.declared.file.FileState.{FileState}
@@ -28,3 +31,15 @@ pub record ServesBeside {B L : Type 0} (old new : FileState B L) (had has : Spar
 pub record HasLawBeside {B L : Type 0} (files : ℕ) (f : FileState B L) (spares : SparePath B L) : Type 0 where
   pub law : FileStateLaw files f
   pub own : HaveOwnTokens files f.shape f.token.number spares
+
+-- A block of these bytes may be written at an index of a lawful file of the volume: nodes that may come into it are beside it,
+-- and what is lodged in both is in hand.
+pub record CanWriteBeside {B L : Type 0} (geometry : Geometry) (book : TableId) (index : ℕ) (file : FileState B L) (spares : SparePath B L) (hand : HandView) (bytes : List ℕ) : Type 0 where
+  pub book_is : hand.book ≡ book
+  pub shape_is : file.shape ≡ geometry.shape
+  pub inside : index < largest_length file.shape
+  pub whole : length bytes ≡ block_bytes file.shape
+  pub stored : IsStored file
+  pub spare : IsSpareFor file spares
+  pub law : HasLawBeside geometry.files file spares
+  pub held : (others : Others) × InHand (with_spares spares others) file hand

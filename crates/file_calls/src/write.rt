@@ -5,12 +5,12 @@ ghost use Rattle.geometry.specs.File.{written};
 ghost use Rattle.geometry.specs.Path.{largest_length};
 ghost use Rattle.geometry.specs.Shape.{block_bytes};
 ghost use Rattle.nodes.specs.File.{file_of};
-ghost use Rattle.nodes.specs.Held.{Others, with_spares};
+ghost use Rattle.nodes.specs.Held.{Others};
 ghost use Rattle.nodes.specs.Lacking.{lacking_to};
 ghost use Rattle.nodes.specs.Useful.{IsUseful, each_node};
 ghost use Rattle.nodes_law.specs.Law.{FileStateLaw};
 ghost use Rattle.file_calls.specs.Contents.{IsStored, InHand, Serves};
-ghost use Rattle.file_calls.specs.Beside.{IsSpareFor, ServesBeside, HasLawBeside};
+ghost use Rattle.file_calls.specs.Beside.{CanWriteBeside, ServesBeside, HasLawBeside};
 
 use crate::path::{give_back, plant_path, prepare_path};
 use area::{MainArea, Who, log_for};
@@ -70,14 +70,7 @@ fn write_with<V: VolumeName, B: Block + Drop, R: Wait>(
     bytes: &[u8],
     now: u64,
 ) -> Result<(), Error>
-    requires book { hand.old.book ≡ V.Books.books.book }
-    requires shape { file.old.shape ≡ V.Numbers.geometry.shape }
-    requires inside { index < largest_length file.old.shape }
-    requires bytes { length bytes.now ≡ block_bytes file.old.shape }
-    requires stored { IsStored file.old }
-    requires spare { IsSpareFor file.old spares.old }
-    requires law { HasLawBeside V.Numbers.geometry.files file.old spares.old }
-    requires held { (others : Others) × InHand (with_spares spares.old others) file.old hand.old }
+    requires file { CanWriteBeside V.Numbers.geometry V.Books.books.book index file.old spares.old hand.old bytes.now }
     ensures serves { ServesBeside file.old file.new spares.old spares.new hand.old hand.new }
     ensures law { HasLawBeside V.Numbers.geometry.files file.new spares.new }
     ensures file { OnOk result (file_of file.new ≡ written (file_of file.old) index bytes.now) }
@@ -100,15 +93,8 @@ fn append_at<V: VolumeName, B: Block + Drop, R: Wait>(
     bytes: &[u8],
     now: u64,
 ) -> Result<(), Error>
-    requires book { hand.old.book ≡ V.Books.books.book }
-    requires shape { file.old.shape ≡ V.Numbers.geometry.shape }
-    requires inside { index < largest_length file.old.shape }
-    requires bytes { length bytes.now ≡ block_bytes file.old.shape }
-    requires stored { IsStored file.old }
-    requires spare { IsSpareFor file.old spares.old }
-    requires law { HasLawBeside V.Numbers.geometry.files file.old spares.old }
+    requires file { CanWriteBeside V.Numbers.geometry V.Books.books.book index file.old spares.old hand.old bytes.now }
     requires ready { lacking_to file.old index spares.old ≡ 0 }
-    requires held { (others : Others) × InHand (with_spares spares.old others) file.old hand.old }
     ensures serves { ServesBeside file.old file.new spares.old spares.new hand.old hand.new }
     ensures law { HasLawBeside V.Numbers.geometry.files file.new spares.new }
     ensures file { OnOk result (file_of file.new ≡ written (file_of file.old) index bytes.now) }

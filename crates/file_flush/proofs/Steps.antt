@@ -7,13 +7,14 @@ use Rattle.image_codec.proofs.SpellingLemmas.{length-node_bytes}
 use Rattle.rights_books.specs.declared.claim.Entry.{Entry}
 use Rattle.rights_books.specs.Accounts.{HandView}
 use Rattle.tickets.specs.Placed.{Placed}
-use Rattle.tree.specs.Tree.{Same}
 use Rattle.tree.specs.Change.{TreeNode, of_tickets, of_tokens, unnumbered}
 use Rattle.tree_walks.specs.Writing.{rewritten, WritesOne}
+use Rattle.nodes_walks.specs.Kept.{KeepsFile}
 use Rattle.nodes_walks.proofs.Flushed.{fewer_marked}
+use Rattle.nodes_walks.proofs.Keeping.{kept_same, kept_both}
 use Rattle.nodes.specs.declared.file.FileState.{FileState}
-use Rattle.nodes.specs.File.{IsFile, inode_of, content_of, ticket_at, below_weight, weight_of, file_of}
-use Rattle.nodes.specs.Owners.{HasNumbers, namer_at}
+use Rattle.nodes.specs.File.{IsFile, inode_of, content_of, below_weight, weight_of, file_of}
+use Rattle.nodes.specs.Owners.{HasNumbers}
 use Rattle.nodes.specs.Held.{Others, AreHeldBeside}
 use Rattle.nodes.proofs.Files.{shows_file_of, only_file}
 use Rattle.nodes.proofs.Shown.{same_shows}
@@ -37,16 +38,10 @@ whole_spelled shape inode n token spelled =
 module _ {B L : Type 0} (files : ℕ) (f : FileState B L) (is : IsFile f) (numbers : HasNumbers f) (law : FileStateLaw files f) where
   pub flushed_none : (hand : HandView) → HasFlushed files f f hand hand
   flushed_none hand = record {
-    file = is;
+    kept = kept_same f is f refl;
     law = law;
     numbered = numbers;
     fewer = omega arith;
-    same = λ j. refl;
-    namer = λ j. refl;
-    number = refl;
-    length_is = refl;
-    shape_is = refl;
-    kind_is = refl;
     tickets = λ h. refl;
     book = refl;
     hand_tickets = λ h. refl;
@@ -56,10 +51,9 @@ module _ {B L : Type 0} (files : ℕ) (f : FileState B L) (is : IsFile f) (numbe
 module _ {B L : Type 0} (files : ℕ) (first old new : FileState B L) (start before after : HandView) (so_far : HasFlushed files first old start before)
     (n : TreeNode) (token : Entry) (one : WritesOne (weight_of old) (weight_of new) n token) (swapped : HasSwapped before after n.token token)
     (written : IsWrittenTo old.shape old.token.number n token)
-    (is : IsFile new) (same : Same (ticket_at old) (ticket_at new)) (namer : Same (namer_at old) (namer_at new))
-    (number : new.token.number ≡ old.token.number) (length_is : new.length ≡ old.length) (shape : new.shape ≡ old.shape) (kind : new.kind ≡ old.kind) where
+    (kept : KeepsFile old new) where
   old_is : IsFile old
-  old_is = so_far.file
+  old_is = so_far.kept.file
 
   -- what weighs a token by its number and its inode alone
   even : (h : Entry → ℕ) → h token ≡ h n.token → weight_of new (of_tokens h) ≡ weight_of old (of_tokens h)
@@ -84,16 +78,16 @@ module _ {B L : Type 0} (files : ℕ) (first old new : FileState B L) (start bef
       let b = so_far.law.tokens.inode in
       let top : strange files old.token.number new.token ≡ strange files old.token.number old.token =
       let inodes : new.token.inode ≡ old.token.inode = a ∙ sym b in
-      λ i. if (inodes i == old.token.number) && nat_lt files (number i) then 0 else 1 in
+      λ i. if (inodes i == old.token.number) && nat_lt files (kept.number i) then 0 else 1 in
       let was = so_far.law.tokens.below in
       let none : below_weight new (of_tokens (strange files old.token.number)) ≡ 0 = omega arith in
       let whole = one.trades (of_tokens (ragged (block_bytes old.shape))) in
       let whole_was = so_far.law.tokens.whole in
       let now = whole_spelled old.shape old.token.number n token written.spelled in
       record {
-        inode = a ∙ sym number;
-        below = subst (λ k. below_weight new (of_tokens (strange files k)) ≡ 0) (sym number) none;
-        whole = subst (λ s. weight_of new (of_tokens (ragged (block_bytes s))) ≡ 0) (sym shape) (omega arith);
+        inode = a ∙ sym kept.number;
+        below = subst (λ k. below_weight new (of_tokens (strange files k)) ≡ 0) (sym kept.number) none;
+        whole = subst (λ s. weight_of new (of_tokens (ragged (block_bytes s))) ≡ 0) (sym kept.shape_is) (omega arith);
       }
 
   tickets_still : (h : Placed → ℕ) → weight_of new (of_tickets h) ≡ weight_of old (of_tickets h)
@@ -101,20 +95,14 @@ module _ {B L : Type 0} (files : ℕ) (first old new : FileState B L) (start bef
 
   pub flushed_more : HasFlushed files first new start after
   flushed_more = record {
-    file = is;
+    kept = kept_both first old new so_far.kept kept;
     law = record {
-      spelled = spells_written old new n token one written.spelled shape number so_far.law.spelled;
+      spelled = spells_written old new n token one written.spelled kept.shape_is kept.number so_far.law.spelled;
       tokens = own_still;
       placed = tickets_still _ ∙ so_far.law.placed;
     };
     numbered = even unnumbered (λ i. if written.number i == 0 then 1 else 0) ∙ so_far.numbered;
     fewer = (let less = fewer_marked (weight_of old) (weight_of new) n token one in let was = so_far.fewer in omega arith);
-    same = λ j. same j ∙ so_far.same j;
-    namer = λ j. namer j ∙ so_far.namer j;
-    number = number ∙ so_far.number;
-    length_is = length_is ∙ so_far.length_is;
-    shape_is = shape ∙ so_far.shape_is;
-    kind_is = kind ∙ so_far.kind_is;
     tickets = λ h. tickets_still h ∙ so_far.tickets h;
     book = swapped.book ∙ so_far.book;
     hand_tickets = λ h. swapped.tickets h ∙ so_far.hand_tickets h;
@@ -130,5 +118,5 @@ module _ {B L : Type 0} (files : ℕ) (old new : FileState B L) (before after : 
 
   pub still_shown : IsFile old → file_of new ≡ file_of old
   still_shown is =
-      sym (only_file new done.file (file_of old)
-      (same_shows old new (file_of old) (shows_file_of old is) done.kind_is done.length_is (λ i. ap content_of (done.same i))))
+      sym (only_file new done.kept.file (file_of old)
+      (same_shows old new (file_of old) (shows_file_of old is) done.kept.kind_is done.kept.length_is (λ i. ap content_of (done.kept.same i))))

@@ -4,15 +4,15 @@ ghost use Rattle.geometry.specs.declared.error.Error.TheVariants.{Device, NoSpac
 ghost use Rattle.geometry.specs.Path.{node_entries};
 ghost use Rattle.geometry.specs.Shape.{block_bytes};
 ghost use Rattle.rights_books.specs.declared.claim.Entry.{Entry};
-ghost use Rattle.tree.specs.Tree.{Same};
 ghost use Rattle.tree.specs.Change.{TreeNode, each_marked};
 ghost use Rattle.tree_walks.specs.Writing.{WritesOne};
-ghost use Rattle.nodes.specs.File.{IsFile, ticket_at, weight_of, file_of};
+ghost use Rattle.nodes.specs.File.{IsFile, weight_of, file_of};
 ghost use Rattle.nodes.specs.Held.{Others, AreHeldBeside};
-ghost use Rattle.nodes.specs.Owners.{HasNumbers, namer_at};
+ghost use Rattle.nodes.specs.Owners.{HasNumbers};
 ghost use Rattle.nodes_law.specs.Law.{FileStateLaw, IsWritten};
 ghost use Rattle.file_flush.specs.Written.{HasSwapped, IsWrittenTo};
-ghost use Rattle.file_flush.specs.Flushed.{HasFlushed};
+ghost use Rattle.nodes_walks.specs.Kept.{KeepsFile};
+ghost use Rattle.file_flush.specs.Flushed.{CanFlush, HasFlushed};
 
 use crate::buffer::FlushBuffer;
 use crate::node::Source;
@@ -70,14 +70,9 @@ fn flush_all<R: Wait, V: VolumeName, B: Block + Drop>(
     numbers: &mut [u32],
     bytes: &mut [u8],
 ) -> Result<(), Error>
-    requires book { hand.old.book ≡ V.Books.books.book }
     requires room { node_entries V.Numbers.geometry.shape ≤ length numbers.old }
     requires block { length bytes.old ≡ block_bytes V.Numbers.geometry.shape }
-    requires shape { file.old.shape ≡ V.Numbers.geometry.shape }
-    requires file { IsFile file.old }
-    requires numbered { HasNumbers file.old }
-    requires law { FileStateLaw V.Numbers.geometry.files file.old }
-    requires held { (others : Others) × AreHeldBeside others file.old hand.old.tickets hand.old.tokens }
+    requires file { CanFlush V.Numbers.geometry V.Books.books.book file.old hand.old }
     ensures clean { OnOk result (weight_of file.new each_marked ≡ 0) }
     ensures flushed { HasFlushed V.Numbers.geometry.files file.old file.new hand.old hand.new }
     ensures error { IfErr result (λ error. (error ≡ Device) ⊎ (error ≡ NoSpace)) }
@@ -96,26 +91,15 @@ fn flush_node<R: Wait, V: VolumeName, B: Block + Drop>(
     numbers: &mut [u32],
     bytes: &mut [u8],
 ) -> Result<bool, Error>
-    requires book { hand.old.book ≡ V.Books.books.book }
     requires room { node_entries V.Numbers.geometry.shape ≤ length numbers.old }
     requires block { length bytes.old ≡ block_bytes V.Numbers.geometry.shape }
-    requires shape { file.old.shape ≡ V.Numbers.geometry.shape }
-    requires file { IsFile file.old }
-    requires numbered { HasNumbers file.old }
-    requires law { FileStateLaw V.Numbers.geometry.files file.old }
-    requires held { (others : Others) × AreHeldBeside others file.old hand.old.tickets hand.old.tokens }
+    requires file { CanFlush V.Numbers.geometry V.Books.books.book file.old hand.old }
     ensures one { IfOk result (λ found. found ≡ true → (n : TreeNode) × (token : Entry) × WritesOne (weight_of file.old) (weight_of file.new) n token
         × HasSwapped hand.old hand.new n.token token × IsWrittenTo file.old.shape file.old.token.number n token) }
     ensures none { IfOk result (λ found. found ≡ false → (weight_of file.old each_marked ≡ 0) × (file.new ≡ file.old) × (hand.new ≡ hand.old)) }
     ensures refused { OnErr result ((file.new ≡ file.old) × (hand.new ≡ hand.old)) }
     ensures error { IfErr result (λ error. (error ≡ Device) ⊎ (error ≡ NoSpace)) }
-    ensures same { Same (ticket_at file.old) (ticket_at file.new) }
-    ensures namer { Same (namer_at file.old) (namer_at file.new) }
-    ensures number { file.new.token.number ≡ file.old.token.number }
-    ensures length { file.new.length ≡ file.old.length }
-    ensures shape { file.new.shape ≡ file.old.shape }
-    ensures kind { file.new.kind ≡ file.old.kind }
-    ensures file { IsFile file.new }
+    ensures kept { KeepsFile file.old file.new }
 {
     let source = Source {
         inode: file.number(),

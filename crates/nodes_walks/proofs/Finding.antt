@@ -65,7 +65,7 @@ module _ {B L : Type 0} (f : FileState B L) (nid at : ℕ) where
       owner_is at (omega arith) (at_first d own (joined (2 * e) one (joined (2 * (e * e)) two three)) at low ∙ ap (λ n. Some n) number)
       (ap last_entry (path_1 d e at low))
 
-  pub owner_direct : (k : ℕ) → k < 2 * (e * 1) → one k ≡ Some nid → ((before : ℕ) → (before * (e * 1) + k) % e ≡ at) → owner_at f (path f.shape (d + k)) ≡ Some (Data nid at)
+  owner_direct : (k : ℕ) → k < 2 * (e * 1) → one k ≡ Some nid → ((before : ℕ) → (before * (e * 1) + k) % e ≡ at) → owner_at f (path f.shape (d + k)) ≡ Some (Data nid at)
   owner_direct k low names entry =
       let back : d + k - d ≡ k = omega arith in
       let digit : 0 * (e * 1) + k ≡ k = omega arith in
@@ -73,7 +73,7 @@ module _ {B L : Type 0} (f : FileState B L) (nid at : ℕ) where
       (in_second d (2 * e) (2 * (e * e)) own one two three (d + k) (omega arith) (omega arith) ∙ (ap one back ∙ names))
       (ap last_entry (path_2 d e (d + k) (omega arith) (omega arith)) ∙ (ap (λ x. x % e) (back ∙ sym digit) ∙ entry 0))
 
-  pub owner_indirect : (k : ℕ) → k < 2 * (e * (e * 1)) → two k ≡ Some nid → ((before : ℕ) → (before * (e * (e * 1)) + k) % e ≡ at)
+  owner_indirect : (k : ℕ) → k < 2 * (e * (e * 1)) → two k ≡ Some nid → ((before : ℕ) → (before * (e * (e * 1)) + k) % e ≡ at)
       → owner_at f (path f.shape (d + 2 * e + k)) ≡ Some (Data nid at)
   owner_indirect k low names entry =
       let i = d + 2 * e + k in
@@ -84,7 +84,7 @@ module _ {B L : Type 0} (f : FileState B L) (nid at : ℕ) where
       (in_third d (2 * e) (2 * (e * e)) own one two three i (omega arith) (omega arith) (omega arith) ∙ (ap two steps ∙ names))
       (ap last_entry (path_3 d e i (omega arith) (omega arith)) ∙ (ap (λ x. x % e) (back ∙ sym digit) ∙ entry 0))
 
-  pub owner_double : (k : ℕ) → k < 1 * (e * (e * (e * 1))) → three k ≡ Some nid → ((before : ℕ) → (before * (e * (e * (e * 1))) + k) % e ≡ at)
+  owner_double : (k : ℕ) → k < 1 * (e * (e * (e * 1))) → three k ≡ Some nid → ((before : ℕ) → (before * (e * (e * (e * 1))) + k) % e ≡ at)
       → owner_at f (path f.shape (d + 2 * e + 2 * (e * e) + k)) ≡ Some (Data nid at)
   owner_double k low names entry =
       let i = d + 2 * e + 2 * (e * e) + k in
@@ -96,10 +96,28 @@ module _ {B L : Type 0} (f : FileState B L) (nid at : ℕ) where
       (in_fourth d (2 * e) (2 * (e * e)) own one two three i (omega arith) (omega arith) (omega arith) ∙ (ap three steps ∙ names))
       (ap last_entry (path_4 d e i (omega arith) inside) ∙ (ap (λ x. x % e) (back ∙ sym digit) ∙ entry 0))
 
-  -- the same by other names of the two widths
-  pub owner_double_at : (w n : ℕ) → w ≡ d → n ≡ e → (k : ℕ) → k < 1 * (n * (n * (n * 1))) → find_in (namer_double n) (n * (n * (n * 1))) f.double.slots.items k ≡ Some nid
+  -- The same by other names of the two widths.
+  abbrev OwnsDirect : ℕ → ℕ → Type 0
+  OwnsDirect w n = (k : ℕ) → k < 2 * (n * 1) → find_in (namer_direct n) (n * 1) f.direct.slots.items k ≡ Some nid
+      → ((before : ℕ) → (before * (n * 1) + k) % n ≡ at) → owner_at f (path f.shape (w + k)) ≡ Some (Data nid at)
+
+  abbrev OwnsIndirect : ℕ → ℕ → Type 0
+  OwnsIndirect w n = (k : ℕ) → k < 2 * (n * (n * 1)) → find_in (namer_indirect n) (n * (n * 1)) f.indirect.slots.items k ≡ Some nid
+      → ((before : ℕ) → (before * (n * (n * 1)) + k) % n ≡ at) → owner_at f (path f.shape (w + 2 * n + k)) ≡ Some (Data nid at)
+
+  abbrev OwnsDouble : ℕ → ℕ → Type 0
+  OwnsDouble w n = (k : ℕ) → k < 1 * (n * (n * (n * 1))) → find_in (namer_double n) (n * (n * (n * 1))) f.double.slots.items k ≡ Some nid
       → ((before : ℕ) → (before * (n * (n * (n * 1))) + k) % n ≡ at) → owner_at f (path f.shape (w + 2 * n + 2 * (n * n) + k)) ≡ Some (Data nid at)
-  owner_double_at w n slots entries =
-      subst (λ (m : ℕ). (k : ℕ) → k < 1 * (m * (m * (m * 1))) → find_in (namer_double m) (m * (m * (m * 1))) f.double.slots.items k ≡ Some nid
-      → ((before : ℕ) → (before * (m * (m * (m * 1))) + k) % m ≡ at) → owner_at f (path f.shape (w + 2 * m + 2 * (m * m) + k)) ≡ Some (Data nid at)) (sym entries)
-      (λ k low names entry. ap (λ a. owner_at f (path f.shape (a + 2 * e + 2 * (e * e) + k))) slots ∙ owner_double k low names entry)
+
+  module _ (w n : ℕ) (slots : w ≡ d) (entries : n ≡ e) where
+    at_widths : (P : ℕ → ℕ → Type 0) → P d e → P w n
+    at_widths P owns = subst (λ (p : ℕ × ℕ). P p.0 p.1) (λ i. (sym slots i, sym entries i)) owns
+
+    pub owner_direct_at : OwnsDirect w n
+    owner_direct_at = at_widths OwnsDirect owner_direct
+
+    pub owner_indirect_at : OwnsIndirect w n
+    owner_indirect_at = at_widths OwnsIndirect owner_indirect
+
+    pub owner_double_at : OwnsDouble w n
+    owner_double_at = at_widths OwnsDouble owner_double

@@ -2,3 +2,4 @@ pub mod Flushed
 pub mod Search
 pub mod Ranges
 pub mod Finding
+pub mod Keeping

@@ -1,2 +1,3 @@
 pub mod Unmarked
 pub mod Data
+pub mod Kept

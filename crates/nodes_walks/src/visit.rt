@@ -1,13 +1,11 @@
 //! The node of a number in a whole file.
 ghost use Rattle.std.specs.Prelude.{Bool, ℕ, ◌≡◌, true, false, OnOk, OnErr, IfOk, IfErr};
 ghost use Rattle.rights_books.specs.declared.claim.Entry.{Entry};
-ghost use Rattle.tree.specs.Tree.{Same};
 ghost use Rattle.tree.specs.Change.{TreeNode};
 ghost use Rattle.tree_walks.specs.Writing.{IsAmong};
 ghost use Rattle.tree_walks.specs.Moving.{MovesOne, each_numbered};
-ghost use Rattle.nodes.specs.File.{IsFile, ticket_at, inode_of, below_weight, weight_of};
-ghost use Rattle.nodes.specs.Owners.{namer_at};
-ghost use Rattle.nodes.specs.Useful.{IsUseful};
+ghost use Rattle.nodes.specs.File.{IsFile, inode_of, below_weight, weight_of};
+ghost use Rattle.nodes_walks.specs.Kept.{KeepsFile};
 
 use device::Block;
 use geometry::{Class, Error};
@@ -28,14 +26,7 @@ pub fn visit_node<B: Block, V: NodeVisitor>(
     ensures none { IfOk result (λ found. found ≡ false → (weight_of file.old (each_numbered nid) ≡ 0) × (file.new ≡ file.old) × (visitor.new ≡ visitor.old)) }
     ensures refused { IfErr result (λ e. (file.new ≡ file.old) × (n : TreeNode)
         × IsAmong (weight_of file.old) n × V.refused visitor.old n.token e visitor.new) }
-    ensures same { Same (ticket_at file.old) (ticket_at file.new) }
-    ensures namer { Same (namer_at file.old) (namer_at file.new) }
-    ensures useful { (asked : ℕ → ℕ → Bool) → IsUseful asked file.old → IsUseful asked file.new }
-    ensures number { file.new.token.number ≡ file.old.token.number }
-    ensures length { file.new.length ≡ file.old.length }
-    ensures shape { file.new.shape ≡ file.old.shape }
-    ensures kind { file.new.kind ≡ file.old.kind }
-    ensures file { IsFile file.new }
+    ensures kept { KeepsFile file.old file.new }
 {
     if file.token.number() != nid {
         return visit_below(file, nid, visitor);
@@ -77,14 +68,8 @@ fn visit_below<B: Block, V: NodeVisitor>(
     ensures none { IfOk result (λ found. found ≡ false → (below_weight file.old (each_numbered nid) ≡ 0) × (file.new ≡ file.old) × (visitor.new ≡ visitor.old)) }
     ensures refused { IfErr result (λ e. (file.new ≡ file.old) × (n : TreeNode)
         × IsAmong (below_weight file.old) n × V.refused visitor.old n.token e visitor.new) }
-    ensures same { Same (ticket_at file.old) (ticket_at file.new) }
-    ensures namer { Same (namer_at file.old) (namer_at file.new) }
-    ensures useful { (asked : ℕ → ℕ → Bool) → IsUseful asked file.old → IsUseful asked file.new }
     ensures inode { inode_of file.new ≡ inode_of file.old }
-    ensures length { file.new.length ≡ file.old.length }
-    ensures shape { file.new.shape ≡ file.old.shape }
-    ensures kind { file.new.kind ≡ file.old.kind }
-    ensures file { IsFile file.new }
+    ensures kept { KeepsFile file.old file.new }
 {
     let entries = file.shape.node_entries() as usize;
     if visit_in(&mut file.direct, 2, entries, nid, visitor)? {

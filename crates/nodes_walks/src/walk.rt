@@ -3,12 +3,10 @@ ghost use Rattle.std.specs.Prelude.{Bool, ℕ, ◌≡◌, ◌≤◌, ◌<◌, �
 ghost use Rattle.geometry.specs.Path.{node_entries};
 ghost use Rattle.rights_books.specs.declared.claim.Entry.{Entry};
 ghost use Rattle.tickets.specs.Placed.{Placed};
-ghost use Rattle.tree.specs.Tree.{Same};
 ghost use Rattle.tree.specs.Change.{TreeNode, Weighing, each_marked};
 ghost use Rattle.tree_walks.specs.Writing.{IsAmong, WritesOne};
-ghost use Rattle.nodes.specs.File.{address_of, nid_of, IsFile, ticket_at, inode_of, below_weight, weight_of};
-ghost use Rattle.nodes.specs.Owners.{namer_at};
-ghost use Rattle.nodes.specs.Useful.{IsUseful};
+ghost use Rattle.nodes.specs.File.{address_of, nid_of, IsFile, inode_of, below_weight, weight_of};
+ghost use Rattle.nodes_walks.specs.Kept.{KeepsFile};
 ghost use Rattle.nodes_walks.specs.Unmarked.{unmarked};
 
 use device::Block;
@@ -37,14 +35,7 @@ pub fn flush_next<B: Block, W: NodeWriter>(
     ensures clean { IfOk result (λ found. found ≡ false → (weight_of file.old each_marked ≡ 0) × (file.new ≡ file.old) × (writer.new ≡ writer.old)) }
     ensures refused { IfErr result (λ e. (file.new ≡ file.old) × (n : TreeNode) × (n.dirty ≡ true)
         × IsAmong (weight_of file.old) n × W.refused writer.old n e writer.new) }
-    ensures same { Same (ticket_at file.old) (ticket_at file.new) }
-    ensures namer { Same (namer_at file.old) (namer_at file.new) }
-    ensures useful { (asked : ℕ → ℕ → Bool) → IsUseful asked file.old → IsUseful asked file.new }
-    ensures number { file.new.token.number ≡ file.old.token.number }
-    ensures length { file.new.length ≡ file.old.length }
-    ensures shape { file.new.shape ≡ file.old.shape }
-    ensures kind { file.new.kind ≡ file.old.kind }
-    ensures file { IsFile file.new }
+    ensures kept { KeepsFile file.old file.new }
     ensures room { length numbers.new ≡ length numbers.old }
 {
     if !is_inode_marked(file) {
@@ -104,7 +95,6 @@ fn write_inode<B: Block, W: NodeWriter>(
     ensures refused { IfErr result (λ e. W.refused writer.old (inode_of file.old) e writer.new) }
     ensures clean { OnOk result (file.new ≡ unmarked (record file.old { token = file.new.token })) }
     ensures same { OnErr result (file.new ≡ file.old) }
-    ensures useful { (asked : ℕ → ℕ → Bool) → IsUseful asked file.old → IsUseful asked file.new }
     ensures number { file.new.token.number ≡ file.old.token.number }
     ensures room { length numbers.new ≡ length numbers.old }
 {
@@ -143,14 +133,8 @@ fn flush_below<B: Block, W: NodeWriter>(
     ensures clean { IfOk result (λ found. found ≡ false → (below_weight file.old each_marked ≡ 0) × (file.new ≡ file.old) × (writer.new ≡ writer.old)) }
     ensures refused { IfErr result (λ e. (file.new ≡ file.old) × (n : TreeNode) × (n.dirty ≡ true)
         × IsAmong (below_weight file.old) n × W.refused writer.old n e writer.new) }
-    ensures same { Same (ticket_at file.old) (ticket_at file.new) }
-    ensures namer { Same (namer_at file.old) (namer_at file.new) }
-    ensures useful { (asked : ℕ → ℕ → Bool) → IsUseful asked file.old → IsUseful asked file.new }
     ensures inode { inode_of file.new ≡ inode_of file.old }
-    ensures length { file.new.length ≡ file.old.length }
-    ensures shape { file.new.shape ≡ file.old.shape }
-    ensures kind { file.new.kind ≡ file.old.kind }
-    ensures file { IsFile file.new }
+    ensures kept { KeepsFile file.old file.new }
     ensures room { length numbers.new ≡ length numbers.old }
 {
     let entries = file.shape.node_entries() as usize;

@@ -1,6 +1,6 @@
 -- Whatever is in range is below a geometry's limits, which fit the widths of the rows: so such an image has a spelling,
 -- once version, counts, times and owners fit theirs.
-use Rattle.std.proofs.Common.{ℕ, ◌*◌, ◌^◌, ◌<◌, ◌≤◌, Option, Some, None, arith}
+use Rattle.std.proofs.Common.{ℕ, ◌*◌, ◌^◌, ◌<◌, ◌≤◌, List, Option, Some, None, arith}
 use Rattle.std.specs.Prelude.{All, IfSome}
 use Rattle.std.proofs.lemmas.List.Elements.{All-weaker}
 use Rattle.geometry.specs.declared.shape.Shape.{Shape}
@@ -9,6 +9,7 @@ use Rattle.geometry.specs.declared.geometry.Geometry.{Geometry}
 use Rattle.geometry.specs.Shape.{segment_blocks}
 use Rattle.image.specs.declared.image.Place.{Place}
 use Rattle.image.specs.Image.{Image}
+use Rattle.image.specs.Node.{Node}
 use Rattle.image.specs.Rules.{IsInRange, IsPlace}
 use Rattle.packs_format.specs.Grammar.{HasSpelling, IsPlaceRow, IsSummaryRow}
 
@@ -34,8 +35,9 @@ pub record HasSmallNumbers (image : Image) : Type 0 where
   pub infos : All (λ info. (info.count < 2 ^ 32) × (info.mtime < 2 ^ 64)) image.segments
   pub owners : All IsSummaryRow image.summaries
 
-pub has_spelling : (geometry : Geometry) (image : Image) → HasSmallNumbers image → IsInRange geometry image → HasSpelling geometry image
-has_spelling geometry image small range =
+-- whichever nodes are in range with the tables
+pub has_spelling : (geometry : Geometry) (image : Image) (rows : List Node) → HasSmallNumbers image → IsInRange geometry (record image { nodes = rows }) → HasSpelling geometry image
+has_spelling geometry image rows small range =
     let blocks = blocks_few geometry.shape geometry.segments geometry.limits.segments_fit in
     let nodes = geometry.limits.nodes_fit in
     record {

@@ -1,10 +1,10 @@
 //! A pack's body is written.
-ghost use Rattle.std.specs.Prelude.{◌≡◌, ◌≤◌, ◌<◌, ◌+◌, ◌/◌, ◌^◌, ◌++◌, [], ◌∷◌, length, map, All, IfOk, IfErr, OnOk};
+ghost use Rattle.std.specs.Prelude.{◌≡◌, ◌≤◌, ◌<◌, ◌+◌, ◌/◌, ◌^◌, ◌++◌, List, [], ◌∷◌, length, map, All, IfOk, IfErr, OnOk};
 ghost use Rattle.std.specs.List.{flat_map};
 ghost use Rattle.byteorder.specs.Endian.{little_bytes};
 ghost use Rattle.geometry.specs.declared.error.Error.TheVariants.{NoMemory};
 ghost use Rattle.geometry.specs.Shape.{segment_blocks};
-ghost use Rattle.image.specs.Node.{numbers};
+ghost use Rattle.image.specs.Node.{Node, numbers};
 ghost use Rattle.image.specs.Pack.{pack_body, log_bytes, entry_bytes, segment_bytes, summary_bytes, bits_number, bitmap};
 ghost use Rattle.image.specs.Rules.{IsInRange};
 ghost use Rattle.image.specs.View.{image_view, info_view};
@@ -109,8 +109,8 @@ fn push_segments(
 /// other error.
 pub fn encode(alloc: Global, geometry: &Geometry, image: &Image) -> Result<Vec<u8>, Error>
     ensures bytes { IfOk result (λ body. body.items ≡ pack_body geometry.now.shape (image_view image.now)) }
-    // So that it is read back, where its numbers are in range.
-    ensures spelled { IfOk result (λ body. IsInRange geometry.now (image_view image.now)
+    // So that it is read back, where its numbers are in range with any nodes.
+    ensures spelled { IfOk result (λ body. (nodes : List Node) → IsInRange geometry.now (record (image_view image.now) { nodes = nodes })
         → SpellsTables geometry.now body.items (image_view image.now)) }
     ensures refused { IfErr result (λ e. e ≡ NoMemory) }
 {

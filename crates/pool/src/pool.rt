@@ -89,44 +89,10 @@ impl<W: WordsName, J: PoolName> Pool<W, J> {
         ensures full { IfErr result (λ _. WasFull 4 pass.old.reserve
             × WasFull J.ordinary.slots pass.old.ordinary) }
     {
-        match self.put_reserve(rt, pass, slip) {
-            Ok(()) => Ok(()),
-            Err(back) => self.put_ordinary(rt, pass, back),
-        }
-    }
-
-    fn put_reserve<R: Wait>(
-        &self,
-        rt: &R,
-        pass: &mut PoolPass<W, J>,
-        slip: FreeSlip,
-    ) -> Result<(), FreeSlip>
-        requires words { slip.table ≡ W.words }
-        ensures put { IfOk result (λ _. pass.new ≡ put_reserve pass.old slip.segment) }
-        ensures back { IfErr result (λ back. back ≡ slip) }
-        ensures unchanged { IfErr result (λ _. pass.new ≡ pass.old) }
-        ensures full { IfErr result (λ _. WasFull 4 pass.old.reserve) }
-    {
         let slip = StoredSlip::store(slip);
-        match self.reserve.push_as::<Put, R>(rt, &mut pass.reserve, slip) {
-            Ok(()) => Ok(()),
-            Err(back) => Err(back.restore()),
-        }
-    }
-
-    fn put_ordinary<R: Wait>(
-        &self,
-        rt: &R,
-        pass: &mut PoolPass<W, J>,
-        slip: FreeSlip,
-    ) -> Result<(), FreeSlip>
-        requires words { slip.table ≡ W.words }
-        ensures put { IfOk result (λ _. pass.new ≡ put_ordinary pass.old slip.segment) }
-        ensures back { IfErr result (λ back. back ≡ slip) }
-        ensures unchanged { IfErr result (λ _. pass.new ≡ pass.old) }
-        ensures full { IfErr result (λ _. WasFull J.ordinary.slots pass.old.ordinary) }
-    {
-        let slip = StoredSlip::store(slip);
+        let Err(slip) = self.reserve.push_as::<Put, R>(rt, &mut pass.reserve, slip) else {
+            return Ok(());
+        };
         match self
             .ordinary
             .push_as::<Put, R>(rt, &mut pass.ordinary, slip)

@@ -242,7 +242,7 @@ impl<'a, V: VolumeName, M: Meta, B: Block + Drop> Session<'a, V, M, B> {
     {
         let passes = lend_all(self.alloc, self.passes.as_slice())?;
         let stored = self.volume.sync(rt, passes.as_slice())?;
-        Ok(Synced::of(stored.image(), &self.volume.geometry()))
+        Ok(Synced::of(stored.tables(), &self.volume.geometry()))
     }
 
     /// Takes a reader of a file as it is now, and answers its number. Answers SeatsOut with all seats where none is left.

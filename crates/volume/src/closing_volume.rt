@@ -1,7 +1,7 @@
 //! How a volume is closed.
 ghost use Rattle.std.specs.Prelude.{◌≡◌, ◌⊎◌, ◌≤◌, vec_len, IfOk, IfErr};
 ghost use Rattle.image.specs.Files.{files as files_of};
-ghost use Rattle.image.specs.View.{image_view};
+ghost use Rattle.checkpoint_image.specs.View.{taken_view};
 ghost use Rattle.image_codec.specs.Blocks.{bytes_at};
 ghost use Rattle.volume_format.specs.Mountable.{IsMountable};
 ghost use Rattle.close_area.specs.Shown.{AreShown};
@@ -11,11 +11,11 @@ ghost use Rattle.volume.specs.Leaving.{IsLeftOut};
 use crate::cells::SpareCell;
 use crate::leaving::CloseFault;
 use crate::volume::Volume;
+use checkpoint_image::TakenImage;
 use close_area::{Last, close_area, write_last};
 use device::{Block, Meta, Parts};
 use file_cells::FilePass;
 use file_readers::Seat;
-use image::Image;
 use rights_names::VolumeName;
 use std::sync::atomic::Ordering;
 use std::sync::{Mutex, Wait};
@@ -23,7 +23,7 @@ use std::sync::{Mutex, Wait};
 /// What a close hands back: the parts of the device, and the image that stands on them.
 pub struct Closed<M: Meta, B: Block> {
     pub parts: Parts<M, B>,
-    pub image: Image,
+    pub image: TakenImage,
 }
 
 impl<V: VolumeName, M: Meta, B: Block + Drop> Volume<V, M, B> {
@@ -42,8 +42,8 @@ impl<V: VolumeName, M: Meta, B: Block + Drop> Volume<V, M, B> {
         seats: Vec<Seat<V>>,
         passes: Vec<FilePass<V>>,
     ) -> Result<Closed<M, B>, CloseFault<V, M, B>>
-        ensures mountable { IfOk result (λ closed. IsMountable M.seen M.may_leave B.address_of B.content_of V.Numbers.geometry (image_view closed.image) closed.parts) }
-        ensures files { IfOk result (λ closed. AreShown (files_of V.Numbers.geometry (image_view closed.image) (bytes_at B.content_of closed.parts.blocks.items)) passes.items) }
+        ensures mountable { IfOk result (λ closed. IsMountable M.seen M.may_leave B.address_of B.content_of V.Numbers.geometry (taken_view closed.image) closed.parts) }
+        ensures files { IfOk result (λ closed. AreShown (files_of V.Numbers.geometry (taken_view closed.image) (bytes_at B.content_of closed.parts.blocks.items)) passes.items) }
         ensures complete { IfOk result (λ closed. 64 ≤ vec_len seats) }
         ensures base { IfErr result (λ fault. fault.volume.base ≡ self.base) }
         // What lies under the locks of its files and its packs is not told.

@@ -2,7 +2,7 @@
 ghost use Rattle.std.specs.Prelude.{◌≡◌, ◌<◌, ◌⊎◌, ◌+◌, ◌∷◌, [], map, reverse, true, false, IfOk, IfErr};
 ghost use Rattle.geometry.specs.declared.error.Error.TheVariants.{NoMemory, Device, NoSpace, Wounded, Exhausted};
 ghost use Rattle.image.specs.Rules.{IsInRange, IsLawful};
-ghost use Rattle.image.specs.View.{image_view};
+ghost use Rattle.checkpoint_image.specs.View.{taken_view};
 ghost use Rattle.checkpoint.specs.Files.{files_of};
 ghost use Rattle.checkpoint.specs.Holding.{IsInPack};
 ghost use Rattle.checkpoint_sync.specs.Lent.{shown_by};
@@ -28,10 +28,10 @@ impl<V: VolumeName, M: Meta, B: Block + Drop> Volume<V, M, B> {
     /// where a growth was refused, NoSpace where a log has no open segment for a node and none is free, and Device where the
     /// device failed. What the files are stays. Only where the device failed in the pack write is the volume wounded.
     pub fn sync<R: Wait>(&self, rt: &R, passes: &[&FilePass<V>]) -> Result<Stored<M, B>, Error>
-        ensures lawful { IfOk result (λ stored. IsLawful V.Numbers.geometry (image_view stored.taken.image)) }
+        ensures lawful { IfOk result (λ stored. IsLawful V.Numbers.geometry (taken_view stored.taken.image)) }
         ensures files { IfOk result (λ stored. files_of stored.taken.added.items ≡ reverse (map (λ pass. shown_by pass.now) passes.now)) }
-        ensures written { IfOk result (λ stored. IsInPack M.may_leave V.Numbers.geometry (image_view stored.taken.image) stored.pack.shown.items) }
-        ensures later { IfOk result (λ stored. self.now.base.version < stored.taken.image.version) }
+        ensures written { IfOk result (λ stored. IsInPack M.may_leave V.Numbers.geometry (taken_view stored.taken.image) stored.pack.shown.items) }
+        ensures later { IfOk result (λ stored. self.now.base.version < stored.taken.image.tables.version) }
         ensures error { IfErr result (λ error. (error ≡ Wounded) ⊎ ((error ≡ Exhausted) ⊎ ((error ≡ NoMemory) ⊎ ((error ≡ NoSpace) ⊎ (error ≡ Device))))) }
     {
         let mut packs = self.packs.lock(rt);
@@ -68,10 +68,10 @@ impl<V: VolumeName, M: Meta, B: Block + Drop> Volume<V, M, B> {
         taken: Taken<B>,
     ) -> Result<Stored<M, B>, Error>
         requires sound { packs.old.wounded ≡ false }
-        requires range { IsInRange V.Numbers.geometry (image_view taken.image) }
-        requires next { taken.image.version ≡ packs.old.packs.area.version + 1 }
+        requires range { IsInRange V.Numbers.geometry (taken_view taken.image) }
+        requires next { taken.image.tables.version ≡ packs.old.packs.area.version + 1 }
         ensures taken { IfOk result (λ stored. stored.taken ≡ taken) }
-        ensures written { IfOk result (λ stored. IsInPack M.may_leave V.Numbers.geometry (image_view stored.taken.image) stored.pack.shown.items) }
+        ensures written { IfOk result (λ stored. IsInPack M.may_leave V.Numbers.geometry (taken_view stored.taken.image) stored.pack.shown.items) }
         ensures error { IfErr result (λ error. (error ≡ NoMemory) ⊎ (error ≡ Device)) }
     {
         match packs.store(self.alloc, self.area.words(), taken) {

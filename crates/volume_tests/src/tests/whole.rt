@@ -52,7 +52,7 @@ pub(crate) fn sync<V: VolumeName, M: Meta, B: Block + Drop, R: Wait>(
     volume: &Volume<V, M, B>,
 ) -> Result<Seen, Error> {
     let stored = volume.sync(rt, &[])?;
-    Ok(Seen::Version(stored.image().version))
+    Ok(Seen::Version(stored.tables().version))
 }
 
 /// Writes a checkpoint that lends a pass twice.
@@ -64,7 +64,7 @@ pub(crate) fn sync_twice<V: VolumeName, M: Meta, B: Block + Drop, R: Wait>(
 ) -> Result<Seen, Error> {
     let pass = rights.passes.as_slice().get(place).ok_or(Error::NoFile)?;
     let stored = volume.sync(rt, &[pass, pass])?;
-    Ok(Seen::Version(stored.image().version))
+    Ok(Seen::Version(stored.tables().version))
 }
 
 /// Where the node address table of a checkpoint says that the inodes of the first two files stand.
@@ -77,7 +77,7 @@ pub(crate) fn find_inodes<V: VolumeName, M: Meta, B: Block + Drop, R: Wait>(
         return Err(Error::NoFile);
     };
     let stored = volume.sync(rt, &[one, other])?;
-    match stored.image().nat.as_slice() {
+    match stored.tables().nat.as_slice() {
         [first, second, ..] => Ok(Seen::At(first.address, second.address)),
         _ => Err(Error::NoNode),
     }

@@ -1,6 +1,6 @@
 -- The files come in ascending order, so nothing is learned yet of those past the present one; what is learned weighs
 -- what the first files have, and a turn adds the next.
-use Rattle.std.proofs.Common.{rules, ◌≡◌, ℕ, ◌+◌, ◌<◌, ◌∷◌, map, refl, sym, ap, ◌∙◌, subst, arith}
+use Rattle.std.proofs.Common.{rules, ◌≡◌, ℕ, ◌+◌, ◌∷◌, map, refl, sym, ap, ◌∙◌, subst, arith}
 use Rattle.geometry.specs.Weights.{weigh}
 use Rattle.rights_books.specs.Weights.{file_copy, past}
 use Rattle.rights_books.specs.Accounts.{CensusView, FileView}

@@ -1,6 +1,6 @@
 -- The segments come in ascending order, so nothing is learned yet from the present one on; what is learned weighs what
 -- the first segments have, and a turn adds the next.
-use Rattle.std.proofs.Common.{rules, ◌≡◌, ℕ, ◌+◌, ◌<◌, map, refl, sym, ◌∙◌, subst, arith}
+use Rattle.std.proofs.Common.{rules, ◌≡◌, ℕ, ◌+◌, map, refl, sym, ◌∙◌, subst, arith}
 use Rattle.geometry.specs.Weights.{weigh}
 use Rattle.rights_books.specs.Weights.{segment_copy, past}
 use Rattle.rights_books.proofs.Learning.{weigh_take_more, past_here, segments_next, no_segments}

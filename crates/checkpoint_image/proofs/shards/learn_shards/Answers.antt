@@ -1,6 +1,6 @@
 -- The shards come in ascending order, so nothing is learned yet from the present one on; what is learned weighs what
 -- the first shards have, and a turn adds the next.
-use Rattle.std.proofs.Common.{rules, ◌≡◌, ℕ, ◌+◌, ◌<◌, ◌∷◌, map, refl, sym, ap, ◌∙◌, subst, arith}
+use Rattle.std.proofs.Common.{rules, ◌≡◌, ℕ, ◌+◌, ◌∷◌, map, refl, sym, ap, ◌∙◌, subst, arith}
 use Rattle.geometry.specs.Weights.{weigh}
 use Rattle.rights_books.specs.Weights.{shard_copy, past}
 use Rattle.rights_books.specs.Accounts.{CensusView}

@@ -1,9 +1,9 @@
-use Rattle.std.proofs.Common.{sym, ◌∙◌, subst}
-use Rattle.image.specs.View.{image_view}
+use Rattle.std.proofs.Common.{sym, subst}
 use Rattle.image_law.specs.Parts.{Balanced, IsImageOf}
 use Rattle.checkpoint_image.specs.Cells.{Cells, CellsLaw, parts_of}
 use Rattle.checkpoint_image.specs.PartsLaw.{IsFaithfulImage}
-use Rattle.image.specs.declared.image.Image.{Image}
+use Rattle.checkpoint_image.specs.declared.taken_image.TakenImage.{TakenImage}
+use Rattle.checkpoint_image.specs.View.{taken_view}
 use Rattle.checkpoint_image.proofs.Joining.{slices_same, are_parts, if_ok}
 use Rattle.checkpoint_image.proofs.take.take_audited.Goals as goal
 
@@ -30,10 +30,10 @@ pub returns-clause-image : goal.returns-clause-image
 returns-clause-image g c =
     let same = slices_same g.S.HoldsSegment.shown g.H.HoldsShard.shown g.L.HoldsLog.shown g.F.HoldsFile.shown g.F.AuditedFile.account g.met.F.AuditedFile.lodged _ _ _ _ _ _ _ _ _ _ _
     c.as_slice.ensures.value c.learn_all.ensures.same_segments c.as_slice-2.ensures.value c.learn_all.ensures.same_shards c.as_slice-3.ensures.value c.as_slice-4.ensures.value c.learn_all.ensures.same_files in
-    if_ok c.take_image.result (λ (image : Image). subst (λ (cells : Cells). IsImageOf c.args.geometry.now (parts_of cells) (image_view image)) same) c.take_image.ensures.image
+    if_ok c.take_image.result (λ (image : TakenImage). subst (λ (cells : Cells). IsImageOf c.args.geometry.now (parts_of cells) (taken_view image)) same) c.take_image.ensures.image
 
 pub returns-clause-faithful : goal.returns-clause-faithful
 returns-clause-faithful g c =
     let same = slices_same g.S.HoldsSegment.shown g.H.HoldsShard.shown g.L.HoldsLog.shown g.F.HoldsFile.shown g.F.AuditedFile.account g.met.F.AuditedFile.lodged _ _ _ _ _ _ _ _ _ _ _
     c.as_slice.ensures.value c.learn_all.ensures.same_segments c.as_slice-2.ensures.value c.learn_all.ensures.same_shards c.as_slice-3.ensures.value c.as_slice-4.ensures.value c.learn_all.ensures.same_files in
-    if_ok c.take_image.result (λ (image : Image). subst (λ (cells : Cells). IsFaithfulImage c.args.geometry.now (parts_of cells) (image_view image)) same) c.take_image.ensures.faithful
+    if_ok c.take_image.result (λ (image : TakenImage). subst (λ (cells : Cells). IsFaithfulImage c.args.geometry.now (parts_of cells) (taken_view image)) same) c.take_image.ensures.faithful

@@ -1,8 +1,7 @@
 -- Each table is copied row by row off what is held, so it is an image taken of those parts; that they keep their law
 -- and balance makes it lawful and faithful.
 use Rattle.std.proofs.Common.{sym, ◌∙◌}
-use Rattle.image.specs.View.{image_view}
-use Rattle.checkpoint_image.proofs.Taking.{have_blocks, own_shards, logs_within, rows_numbered, taken_is}
+use Rattle.checkpoint_image.proofs.Taking.{have_blocks, own_shards, logs_within, taken_is}
 use Rattle.checkpoint_image.proofs.taken.take_image.Goals as goal
 
 pub total_of-requires-clause-blocks : goal.total_of-requires-clause-blocks
@@ -28,18 +27,12 @@ pub entries_of-requires-clause-own : goal.entries_of-requires-clause-own
 entries_of-requires-clause-own g c =
     own_shards g.S.HoldsSegment.shown g.H.HoldsShard.shown g.L.HoldsLog.shown g.F.HoldsFile.shown c.args.geometry.now c.args.segments.now c.args.shards.now c.args.logs.now c.args.files.now c.requires.cells
 
-pub rows_of-requires : goal.rows_of-requires
-rows_of-requires g c =
-    rows_numbered g.S.HoldsSegment.shown g.H.HoldsShard.shown g.L.HoldsLog.shown g.F.HoldsFile.shown c.args.geometry.now c.args.segments.now c.args.shards.now c.args.logs.now c.args.files.now c.requires.cells c.requires.balanced
-
 pub returns-clause-image : goal.returns-clause-image
 returns-clause-image g c =
-    (taken_is g.S.HoldsSegment.shown g.H.HoldsShard.shown g.L.HoldsLog.shown g.F.HoldsFile.shown c.args.geometry.now c.args.segments.now c.args.shards.now c.args.logs.now c.args.files.now c.requires.cells c.requires.balanced
-    (image_view (record { version = c.args.version; total = c.total_of.result; logs = c.in_ok-places_of.field-0; nat = c.in_ok-entries_of.field-0; sit = c.in_ok-infos_of.field-0; ssa = c.in_ok-summaries_of.field-0; nodes = c.in_ok-rows_of.field-0 }))
-    c.requires.version c.total_of.ensures c.in_ok-places_of.ensures c.in_ok-infos_of.ensures c.in_ok-summaries_of.ensures c.in_ok-entries_of.ensures c.in_ok-rows_of.ensures).0
+    (taken_is g.S.HoldsSegment.shown g.H.HoldsShard.shown g.L.HoldsLog.shown g.F.HoldsFile.shown c.args.geometry.now c.args.segments.now c.args.shards.now c.args.logs.now c.args.files.now c.requires.cells c.requires.balanced _
+    c.requires.version c.total_of.ensures c.in_ok-places_of.ensures c.in_ok-infos_of.ensures c.in_ok-summaries_of.ensures c.in_ok-entries_of.ensures c.of-nodes.ensures).0
 
 pub returns-clause-faithful : goal.returns-clause-faithful
 returns-clause-faithful g c =
-    (taken_is g.S.HoldsSegment.shown g.H.HoldsShard.shown g.L.HoldsLog.shown g.F.HoldsFile.shown c.args.geometry.now c.args.segments.now c.args.shards.now c.args.logs.now c.args.files.now c.requires.cells c.requires.balanced
-    (image_view (record { version = c.args.version; total = c.total_of.result; logs = c.in_ok-places_of.field-0; nat = c.in_ok-entries_of.field-0; sit = c.in_ok-infos_of.field-0; ssa = c.in_ok-summaries_of.field-0; nodes = c.in_ok-rows_of.field-0 }))
-    c.requires.version c.total_of.ensures c.in_ok-places_of.ensures c.in_ok-infos_of.ensures c.in_ok-summaries_of.ensures c.in_ok-entries_of.ensures c.in_ok-rows_of.ensures).1
+    (taken_is g.S.HoldsSegment.shown g.H.HoldsShard.shown g.L.HoldsLog.shown g.F.HoldsFile.shown c.args.geometry.now c.args.segments.now c.args.shards.now c.args.logs.now c.args.files.now c.requires.cells c.requires.balanced _
+    c.requires.version c.total_of.ensures c.in_ok-places_of.ensures c.in_ok-infos_of.ensures c.in_ok-summaries_of.ensures c.in_ok-entries_of.ensures c.of-nodes.ensures).1

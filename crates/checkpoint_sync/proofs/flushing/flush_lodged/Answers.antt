@@ -52,4 +52,4 @@ returns-clause-hand g c =
     c.unlodge_all.ensures.permit c.flush_file-done.ensures.flushed.book c.lodge_all.ensures.permit
 
 pub returns-clause-number : goal.returns-clause-number
-returns-clause-number g c = c.flush_file-done.ensures.flushed.number
+returns-clause-number g c = c.flush_file-done.ensures.flushed.kept.number

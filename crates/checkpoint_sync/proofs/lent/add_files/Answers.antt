@@ -1,6 +1,6 @@
 use Rattle.std.proofs.Common.{◌≡◌, ◌+◌, ◌-◌, ◌<◌, length, sym, subst, ◌∙◌, arith}
 use Rattle.checkpoint_image.proofs.Turning.{got}
-use Rattle.image.specs.View.{image_view}
+use Rattle.checkpoint_image.specs.View.{taken_view}
 use Rattle.checkpoint.specs.Files.{IsStateOf}
 use Rattle.checkpoint_sync.proofs.Laws.{number_is, state_is}
 use Rattle.checkpoint_sync.proofs.lent.add_files.Goals as goal
@@ -31,6 +31,6 @@ add-requires g c =
     let every = c.requires.every in
     let long = c.args.files.now.ok.0 in
     let low : c.number.result - 1 < length files = omega arith in
-    subst (λ i. IsStateOf (image_view i) c.find.result.now) (sym c.loop-k.invariant.0)
-    (state_is book geometry (image_view c.args.image) files (c.number.result - 1) file c.find.result.now c.requires.trees (got files (c.number.result - 1) file low c.index-file.ensures) c.law.ensures
+    subst (λ i. IsStateOf (taken_view i) c.find.result.now) (sym c.loop-k.invariant.0)
+    (state_is book geometry (taken_view c.args.image) files (c.number.result - 1) file c.find.result.now c.requires.trees (got files (c.number.result - 1) file low c.index-file.ensures) c.law.ensures
     c.find.ensures.state)

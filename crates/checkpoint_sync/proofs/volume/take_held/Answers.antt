@@ -1,6 +1,6 @@
 use Rattle.std.proofs.Common.{List, IfOk, map, sym, subst}
 use Rattle.rights_books.specs.Accounts.{AreFiles}
-use Rattle.image.specs.View.{image_view}
+use Rattle.checkpoint_image.specs.View.{taken_view}
 use Rattle.checkpoint_image.specs.Cells.{Filed}
 use Rattle.checkpoint_files.specs.FileParts.{filed_of}
 use Rattle.checkpoint_locks.specs.Held.{HasTrees}
@@ -20,5 +20,5 @@ add_files-requires-clause-accounts g c =
 
 pub add_files-requires-clause-trees : goal.add_files-requires-clause-trees
 add_files-requires-clause-trees g c =
-    let trees = subst (λ (shown : List Filed). IfOk c.take_image-all.result.1 (λ image. HasTrees (image_view image) shown)) (sym c.take_image-all.ensures.files) c.take_image-all.ensures.trees in
-    subst (λ r. IfOk r (λ image. HasTrees (image_view image) (map (λ file. filed_of file.account file.state) c.take_image-all.new.files.items))) c.in-Ok.is trees
+    let trees = subst (λ (shown : List Filed). IfOk c.take_image-all.result.1 (λ image. HasTrees (taken_view image) shown)) (sym c.take_image-all.ensures.files) c.take_image-all.ensures.trees in
+    subst (λ r. IfOk r (λ image. HasTrees (taken_view image) (map (λ file. filed_of file.account file.state) c.take_image-all.new.files.items))) c.in-Ok.is trees

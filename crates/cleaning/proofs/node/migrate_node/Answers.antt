@@ -5,80 +5,59 @@ use Rattle.std.proofs.lemmas.Bool.{cases_Bool}
 use Rattle.geometry.specs.Shape.{block_bytes}
 use Rattle.nodes.specs.File.{weight_of}
 use Rattle.nodes.specs.Useful.{each_node}
-use Rattle.nodes_law.specs.Law.{FileStateLaw}
 use Rattle.file_calls.proofs.Serving.{same_file}
 use Rattle.cleaning.specs.Moves.{IsMovable}
 use Rattle.cleaning.proofs.Lawful.{law_moved}
-use Rattle.cleaning.proofs.Moving.{nodes_movable, carries, fares, serves_moved, serves_stays, serves_given, given, stays_even}
+use Rattle.cleaning.proofs.Served.{served_stays}
+use Rattle.cleaning.proofs.Moving.{nodes_movable, carries, fares, serves_moved, serves_given, given, stays_even}
 use Rattle.cleaning.proofs.node.migrate_node.Goals as goal
 
 pub visit_node-requires-clause-ready : goal.visit_node-requires-clause-ready
 visit_node-requires-clause-ready g c = λ n numbered among. (
-  c.requires.book,
-  c.requires.address,
-  c.requires.bytes ∙ ap block_bytes c.requires.shape,
+  c.requires.file.book_is,
+  c.requires.file.some,
+  c.requires.file.room ∙ ap block_bytes c.requires.file.shape_is,
   search rules,
   numbered,
-  subst (λ k. IsMovable k n.token c.args.hand.now) (ap block_bytes c.requires.shape)
-      (nodes_movable c.args.file.now c.args.hand.now c.requires.stored c.requires.law c.requires.held.0 c.requires.held.1 n among),
+  subst (λ k. IsMovable k n.token c.args.hand.now) (ap block_bytes c.requires.file.shape_is)
+      (nodes_movable c.args.file.now c.args.hand.now c.requires.file.stored c.requires.file.law c.requires.file.held.0 c.requires.file.held.1 n among),
 )
 
-pub returns-in-Ok-clause-file : goal.returns-in-Ok-clause-file
-returns-in-Ok-clause-file g c =
+pub returns-in-Ok-clause-served : goal.returns-in-Ok-clause-served
+returns-in-Ok-clause-served g c =
+    let files = g.V.Numbers.GeometryName.geometry.files in
+    let was = c.requires.file in
     let done = c.in-Ok.ensures in
-    same_file c.args.file.now c.visit_node.new.file c.requires.stored done.file done.shape done.kind done.length done.same
-
-pub returns-in-Err-clause-file : goal.returns-in-Err-clause-file
-returns-in-Err-clause-file g c =
-    let done = c.in-Err.ensures in
-    same_file c.args.file.now c.visit_node.new.file c.requires.stored done.file done.shape done.kind done.length done.same
-
-pub returns-in-Ok-clause-useful : goal.returns-in-Ok-clause-useful
-returns-in-Ok-clause-useful g c = c.in-Ok.ensures.useful each_node
-
-pub returns-in-Err-clause-useful : goal.returns-in-Err-clause-useful
-returns-in-Err-clause-useful g c = c.in-Err.ensures.useful each_node
-
-pub returns-in-Ok-clause-serves : goal.returns-in-Ok-clause-serves
-returns-in-Ok-clause-serves g c =
-    let done = c.in-Ok.ensures in
+    let kept = done.kept in
     let old = c.args.file.now in
     let new = c.visit_node.new.file in
     let x = c.args.hand.now in
+    let y = c.visit_node.new.visitor.hand.now in
     elim (cases_Bool c.in-Ok.field-0) [
       | inl found ↦ (
           let one = done.visited found in
           let name = one.3.0 in
-          serves_given old new x _ c.visit_node.new.visitor.hand.now (search (rules, name))
-          (serves_moved old new x c.visit_node.new.visitor.hand.now c.requires.stored done.file done.shape done.kind done.length done.number done.same done.namer one.0 one.1 one.2
-          c.args.address (fares c.args.address one.0.token one.1 x c.visit_node.new.visitor.hand.now c.visit_node.new.visitor.fate one.3.2) c.requires.law))
+          let fared = fares c.args.address one.0.token one.1 x y c.visit_node.new.visitor.fate one.3.2 in
+          record {
+            serves = serves_given old new x _ y (search (rules, name))
+                (serves_moved old new x y was.stored kept.file kept.shape_is kept.kind_is kept.length_is kept.number kept.same kept.namer one.0 one.1 one.2
+                c.args.address fared was.law);
+            law = law_moved files old new was.law kept.shape_is kept.number one.0 one.1 one.2 (carries c.args.address one.0.token one.1 x y was.some fared);
+            useful = kept.useful each_node;
+            file = same_file old new was.stored kept.file kept.shape_is kept.kind_is kept.length_is kept.same;
+          })
       | inr missing ↦ (
           let none = done.none missing in
           let name = ap (λ v. v.hand.ghost_name) none.2 in
-          let kept = ap (λ v. v.hand.now) none.2 in
-          serves_given old new x _ c.visit_node.new.visitor.hand.now (search (rules, name))
-          (serves_stays old new x c.visit_node.new.visitor.hand.now c.requires.stored none.1 kept))
+          served_stays files old new x _ was.stored was.law none.1 (given _ y x (search (rules, name)) (ap (λ v. v.hand.now) none.2)))
     ]
 
-pub returns-in-Ok-clause-law : goal.returns-in-Ok-clause-law
-returns-in-Ok-clause-law g c =
-    let files = g.V.Numbers.GeometryName.geometry.files in
-    let done = c.in-Ok.ensures in
-    let old = c.args.file.now in
-    let new = c.visit_node.new.file in
-    let x = c.args.hand.now in
-    elim (cases_Bool c.in-Ok.field-0) [
-      | inl found ↦ (
-          let one = done.visited found in
-          law_moved files old new c.requires.law done.shape done.number one.0 one.1 one.2
-          (carries c.args.address one.0.token one.1 x c.visit_node.new.visitor.hand.now c.requires.address
-          (fares c.args.address one.0.token one.1 x c.visit_node.new.visitor.hand.now c.visit_node.new.visitor.fate one.3.2)))
-      | inr missing ↦ subst (λ f. FileStateLaw files f) (sym (done.none missing).1) c.requires.law
-    ]
-
-pub returns-in-Err-clause-law : goal.returns-in-Err-clause-law
-returns-in-Err-clause-law g c =
-    subst (λ f. FileStateLaw g.V.Numbers.GeometryName.geometry.files f) (sym (c.in-Err.ensures.refused).0) c.requires.law
+pub returns-in-Err-clause-served : goal.returns-in-Err-clause-served
+returns-in-Err-clause-served g c =
+    let refused = c.in-Err.ensures.refused in
+    let name = refused.3.0 in
+    served_stays g.V.Numbers.GeometryName.geometry.files c.args.file.now c.visit_node.new.file c.args.hand.now _ c.requires.file.stored c.requires.file.law refused.0
+    (given _ c.visit_node.new.visitor.hand.now c.args.hand.now (search (rules, name)) refused.3.1)
 
 pub returns-in-Ok-clause-moved : goal.returns-in-Ok-clause-moved
 returns-in-Ok-clause-moved g c = λ is.

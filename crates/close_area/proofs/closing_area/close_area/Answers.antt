@@ -1,6 +1,6 @@
 use Rattle.std.proofs.Common.{◌≡◌, ◌+◌, length, ap, sym, subst, ◌∙◌, arith}
 use Rattle.image_law.specs.Items.{Among}
-use Rattle.image.specs.View.{image_view}
+use Rattle.checkpoint_image.specs.View.{taken_view}
 use Rattle.checkpoint.specs.Files.{HoldContents}
 use Rattle.close_files.specs.HeldTokens.{HoldTokens}
 use Rattle.nodes.specs.File.{file_of}
@@ -24,7 +24,7 @@ returns-clause-nodes g c =
     let none : living c.return_files.new.files.items ≡ 0 = omega arith in
     let home = c.return_files.ensures.home bytes c.empty.ensures.home in
     let hold = all_left (λ k d f. HoldContents bytes f × HoldTokens bytes d.account.tokens) c.args.files.items c.return_files.new.files.items none home.1 in
-    nodes_are g.V.Books.BooksName.books.book g.V.Numbers.GeometryName.geometry c.args.files.items (image_view c.args.image.now) bytes c.args.passes.items c.requires.files c.requires.taken hold
+    nodes_are g.V.Books.BooksName.books.book g.V.Numbers.GeometryName.geometry c.args.files.items (taken_view c.args.image.now) bytes c.args.passes.items c.requires.files c.requires.taken hold
 
 pub returns-clause-files : goal.returns-clause-files
 returns-clause-files g c =
@@ -36,5 +36,5 @@ returns-clause-files g c =
     let hold = all_left (λ k d f. HoldContents bytes f × HoldTokens bytes d.account.tokens) c.args.files.items c.return_files.new.files.items none home.1 in
     let given = all_left (λ k d f. Among (record { number = k + 1; file = file_of f }) c.args.passes.items) c.args.files.items c.return_files.new.files.items none c.return_files.ensures.given in
     let long = c.args.files.ok.0 in
-    files_shown g.V.Books.BooksName.books.book g.V.Numbers.GeometryName.geometry c.args.files.items (image_view c.args.image.now) bytes c.args.passes.items c.requires.files c.requires.taken hold given c.return_files.ensures.shown
+    files_shown g.V.Books.BooksName.books.book g.V.Numbers.GeometryName.geometry c.args.files.items (taken_view c.args.image.now) bytes c.args.passes.items c.requires.files c.requires.taken hold given c.return_files.ensures.shown
     (sym long ∙ c.requires.every)

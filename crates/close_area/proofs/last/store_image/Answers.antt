@@ -3,7 +3,7 @@ use Rattle.packs_format.specs.Holding.{HoldsTables}
 use Rattle.device.specs.Disk.{Leaves}
 use Rattle.rights_books.specs.Accounts.{AreFiles}
 use Rattle.image.specs.Rules.{IsLawful, IsInRange}
-use Rattle.image.specs.View.{image_view}
+use Rattle.checkpoint_image.specs.View.{taken_view}
 use Rattle.checkpoint_sync.proofs.Laws.{accounts_are, held_are}
 use Rattle.close_area.proofs.last.store_image.Goals as goal
 
@@ -20,13 +20,13 @@ tell_written-requires g c =
 
 pub store-requires-clause-range : goal.store-requires-clause-range
 store-requires-clause-range g c =
-    let lawful = subst (λ r. IfOk r (λ image. IsLawful g.V.Numbers.GeometryName.geometry (image_view image))) c.in-Ok.is c.take_image-all.ensures.lawful in
-    subst (λ image. IsInRange g.V.Numbers.GeometryName.geometry (image_view image)) (sym c.of.ensures.image) (lawful 1 (omega arith) (omega arith))
+    let lawful = subst (λ r. IfOk r (λ image. IsLawful g.V.Numbers.GeometryName.geometry (taken_view image))) c.in-Ok.is c.take_image-all.ensures.lawful in
+    subst (λ image. IsInRange g.V.Numbers.GeometryName.geometry (taken_view image)) (sym c.of.ensures.image) (lawful 1 (omega arith) (omega arith))
 
 pub returns-in-Ok-store-clause-tables : goal.returns-in-Ok-store-clause-tables
 returns-in-Ok-store-clause-tables g c =
     let written = c.into_image.ensures ∙ ap (λ t. t.image) c.in-Ok-store.ensures.taken in
-    subst (λ image. Leaves g.M.Meta.may_leave c.store.new.self.packs.area.meta (HoldsTables g.V.Numbers.GeometryName.geometry (image_view image))) (sym written) c.in-Ok-store.ensures.held
+    subst (λ image. Leaves g.M.Meta.may_leave c.store.new.self.packs.area.meta (HoldsTables g.V.Numbers.GeometryName.geometry (taken_view image))) (sym written) c.in-Ok-store.ensures.held
 
 pub returns-in-Err-store-clause-packs : goal.returns-in-Err-store-clause-packs
 returns-in-Err-store-clause-packs g c =

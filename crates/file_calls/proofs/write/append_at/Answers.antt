@@ -22,26 +22,26 @@ pub release-requires-clause-held : goal.release-requires-clause-held
 release-requires-clause-held g c =
     let put = c.in-Some.ensures in
     let b = c.in-Some.before in
-    let held = c.requires.held in
+    let held = c.requires.file.held in
     let planted = c.plant_path.ensures.serves c.args.hand.now in
-    subst (λ (h : HandView). 0 < times same_mark b.mark h.tickets) (sym c.in_ok-ticket.ensures.hand)
+    subst (λ (h : HandView). 0 < times same_mark b.mark h.tickets) (sym c.in_ok-ticket.ensures.appended.hand)
     (over_there c.plant_path.new.file c.put.new.self c.args.hand.now c.args.index c.in_ok-ticket.ticket b (planted.others held.0 held.1) put.change)
 
 pub release-requires-clause-bytes : goal.release-requires-clause-bytes
 release-requires-clause-bytes g c =
     let planted = c.plant_path.ensures.serves c.args.hand.now in
     planted.stored.whole c.args.index c.in-Some.before (sym c.in-Some.ensures.old)
-    ∙ ap block_bytes (planted.shape ∙ c.requires.shape)
+    ∙ ap block_bytes (planted.shape ∙ c.requires.file.shape_is)
 
 pub returns-in-Some-clause-serves : goal.returns-in-Some-clause-serves
 returns-in-Some-clause-serves g c =
     let put = c.in-Some.ensures in
     let b = c.in-Some.before in
-    let done = c.in_ok-ticket.ensures in
+    let done = c.in_ok-ticket.ensures.appended in
     let planted = c.plant_path.ensures.serves c.args.hand.now in
-    let inside = subst (λ s. c.args.index < largest_length s) (sym planted.shape) c.requires.inside in
-    let whole = c.requires.bytes ∙ ap block_bytes (sym planted.shape) in
-    let owner = planted_owner c.args.file.now c.plant_path.new.file planted.shape c.args.index inside c.plant_path.ensures.names (end_number c.args.spares.now) c.plant_path.ensures.end c.owner_with-owner.result c.owner_with-owner.ensures.owner ∙ ap (λ o. Some o) (sym done.owner) in
+    let inside = subst (λ s. c.args.index < largest_length s) (sym planted.shape) c.requires.file.inside in
+    let whole = c.requires.file.whole ∙ ap block_bytes (sym planted.shape) in
+    let owner = planted_owner c.args.file.now c.plant_path.new.file planted.shape c.args.index inside c.plant_path.ensures.names (end_number c.args.spares.now) c.plant_path.ensures.end c.owner_with-owner.result c.owner_with-owner.ensures.owner ∙ ap (λ o. Some o) (sym done.owner_is) in
     let put_it = serves_over c.plant_path.new.file c.put.new.self c.args.hand.now c.release.new.hand c.args.index c.in_ok-ticket.ticket planted.stored put.file put.shape inside put.length put.sets
     (put.written (file_of c.plant_path.new.file) (shows_file_of c.plant_path.new.file planted.stored.file)) (ap length done.content ∙ whole)
     put.namer owner b put.old put.change (c.release.ensures.hand ∙ ap (less_ticket b.mark) done.hand) in
@@ -51,10 +51,10 @@ returns-in-Some-clause-serves g c =
 pub returns-in-Some-clause-file : goal.returns-in-Some-clause-file
 returns-in-Some-clause-file g c =
     let put = c.in-Some.ensures in
-    let done = c.in_ok-ticket.ensures in
+    let done = c.in_ok-ticket.ensures.appended in
     let planted = c.plant_path.ensures.serves c.args.hand.now in
-    let inside = subst (λ s. c.args.index < largest_length s) (sym planted.shape) c.requires.inside in
-    let whole = c.requires.bytes ∙ ap block_bytes (sym planted.shape) in
+    let inside = subst (λ s. c.args.index < largest_length s) (sym planted.shape) c.requires.file.inside in
+    let whole = c.requires.file.whole ∙ ap block_bytes (sym planted.shape) in
     put_file c.plant_path.new.file c.put.new.self c.args.hand.now c.release.new.hand c.args.index c.in_ok-ticket.ticket planted.stored put.file put.shape inside put.length put.sets
     (put.written (file_of c.plant_path.new.file) (shows_file_of c.plant_path.new.file planted.stored.file)) (ap length done.content ∙ whole)
     ∙ (ap (written (file_of c.plant_path.new.file) c.args.index) done.content ∙ ap (λ f. written f c.args.index c.args.bytes.now) c.plant_path.ensures.file)
@@ -62,11 +62,11 @@ returns-in-Some-clause-file g c =
 pub returns-in_default-clause-serves : goal.returns-in_default-clause-serves
 returns-in_default-clause-serves g c =
     let put = c.in_default.ensures in
-    let done = c.in_ok-ticket.ensures in
+    let done = c.in_ok-ticket.ensures.appended in
     let planted = c.plant_path.ensures.serves c.args.hand.now in
-    let inside = subst (λ s. c.args.index < largest_length s) (sym planted.shape) c.requires.inside in
-    let whole = c.requires.bytes ∙ ap block_bytes (sym planted.shape) in
-    let owner = planted_owner c.args.file.now c.plant_path.new.file planted.shape c.args.index inside c.plant_path.ensures.names (end_number c.args.spares.now) c.plant_path.ensures.end c.owner_with-owner.result c.owner_with-owner.ensures.owner ∙ ap (λ o. Some o) (sym done.owner) in
+    let inside = subst (λ s. c.args.index < largest_length s) (sym planted.shape) c.requires.file.inside in
+    let whole = c.requires.file.whole ∙ ap block_bytes (sym planted.shape) in
+    let owner = planted_owner c.args.file.now c.plant_path.new.file planted.shape c.args.index inside c.plant_path.ensures.names (end_number c.args.spares.now) c.plant_path.ensures.end c.owner_with-owner.result c.owner_with-owner.ensures.owner ∙ ap (λ o. Some o) (sym done.owner_is) in
     let put_it = serves_put c.plant_path.new.file c.put.new.self c.args.hand.now c.append.new.hand c.args.index c.in_ok-ticket.ticket planted.stored put.file put.shape inside put.length put.sets
     (put.written (file_of c.plant_path.new.file) (shows_file_of c.plant_path.new.file planted.stored.file)) (ap length done.content ∙ whole)
     put.namer owner put.old put.change done.hand in
@@ -76,10 +76,10 @@ returns-in_default-clause-serves g c =
 pub returns-in_default-clause-file : goal.returns-in_default-clause-file
 returns-in_default-clause-file g c =
     let put = c.in_default.ensures in
-    let done = c.in_ok-ticket.ensures in
+    let done = c.in_ok-ticket.ensures.appended in
     let planted = c.plant_path.ensures.serves c.args.hand.now in
-    let inside = subst (λ s. c.args.index < largest_length s) (sym planted.shape) c.requires.inside in
-    let whole = c.requires.bytes ∙ ap block_bytes (sym planted.shape) in
+    let inside = subst (λ s. c.args.index < largest_length s) (sym planted.shape) c.requires.file.inside in
+    let whole = c.requires.file.whole ∙ ap block_bytes (sym planted.shape) in
     put_file c.plant_path.new.file c.put.new.self c.args.hand.now c.append.new.hand c.args.index c.in_ok-ticket.ticket planted.stored put.file put.shape inside put.length put.sets
     (put.written (file_of c.plant_path.new.file) (shows_file_of c.plant_path.new.file planted.stored.file)) (ap length done.content ∙ whole)
     ∙ (ap (written (file_of c.plant_path.new.file) c.args.index) done.content ∙ ap (λ f. written f c.args.index c.args.bytes.now) c.plant_path.ensures.file)
@@ -87,32 +87,32 @@ returns-in_default-clause-file g c =
 pub put-requires-clause-inside : goal.put-requires-clause-inside
 put-requires-clause-inside g c =
     let planted = c.plant_path.ensures.serves c.args.hand.now in
-    subst (λ s. c.args.index < largest_length s) (sym planted.shape) c.requires.inside
+    subst (λ s. c.args.index < largest_length s) (sym planted.shape) c.requires.file.inside
 
 pub put-requires-clause-file : goal.put-requires-clause-file
 put-requires-clause-file g c = (c.plant_path.ensures.serves c.args.hand.now).stored.file
 
 pub append-requires-clause-bytes : goal.append-requires-clause-bytes
-append-requires-clause-bytes g c = c.requires.bytes ∙ ap block_bytes c.requires.shape
+append-requires-clause-bytes g c = c.requires.file.whole ∙ ap block_bytes c.requires.file.shape_is
 
 pub returns-in-Some-clause-law : goal.returns-in-Some-clause-law
 returns-in-Some-clause-law g c =
     let put = c.in-Some.ensures in
-    let some = c.in_ok-ticket.ensures.low in
+    let some = c.in_ok-ticket.ensures.appended.low in
     let files = g.V.Numbers.GeometryName.geometry.files in
-    lawful_put files c.plant_path.new.file c.put.new.self c.plant_path.new.spares (c.plant_path.ensures.law files c.requires.law) put.shape
+    lawful_put files c.plant_path.new.file c.put.new.self c.plant_path.new.spares (c.plant_path.ensures.law files c.requires.file.law) put.shape
     c.args.index (Some c.in-Some.before) c.in_ok-ticket.ticket put.change (omega arith)
 
 pub returns-in_default-clause-law : goal.returns-in_default-clause-law
 returns-in_default-clause-law g c =
     let put = c.in_default.ensures in
-    let some = c.in_ok-ticket.ensures.low in
+    let some = c.in_ok-ticket.ensures.appended.low in
     let files = g.V.Numbers.GeometryName.geometry.files in
-    lawful_put files c.plant_path.new.file c.put.new.self c.plant_path.new.spares (c.plant_path.ensures.law files c.requires.law) put.shape
+    lawful_put files c.plant_path.new.file c.put.new.self c.plant_path.new.spares (c.plant_path.ensures.law files c.requires.file.law) put.shape
     c.args.index None c.in_ok-ticket.ticket put.change (omega arith)
 
 pub returns-in-Some-clause-useful : goal.returns-in-Some-clause-useful
-returns-in-Some-clause-useful g c = λ all. c.put.ensures.useful (c.plant_path.ensures.useful (useful_some c.args.file.now c.requires.stored.file (is_off c.args.index) all))
+returns-in-Some-clause-useful g c = λ all. c.put.ensures.useful (c.plant_path.ensures.useful (useful_some c.args.file.now c.requires.file.stored.file (is_off c.args.index) all))
 
 pub returns-in_default-clause-useful : goal.returns-in_default-clause-useful
-returns-in_default-clause-useful g c = λ all. c.put.ensures.useful (c.plant_path.ensures.useful (useful_some c.args.file.now c.requires.stored.file (is_off c.args.index) all))
+returns-in_default-clause-useful g c = λ all. c.put.ensures.useful (c.plant_path.ensures.useful (useful_some c.args.file.now c.requires.file.stored.file (is_off c.args.index) all))

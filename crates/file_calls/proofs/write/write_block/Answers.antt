@@ -4,14 +4,29 @@ use Rattle.geometry.specs.Shape.{block_bytes}
 use Rattle.tree.specs.Change.{unnumbered}
 use Rattle.nodes.specs.Lacking.{spare_tokens}
 use Rattle.nodes_law.specs.Law.{ragged, strange}
+use Rattle.nodes.proofs.Beside.{held_none}
 use Rattle.file_calls.proofs.Beside.{spares_there, serves_beside}
 use Rattle.file_calls.proofs.write.write_block.Goals as goal
 
-pub write_with-done-requires-clause-spare : goal.write_with-done-requires-clause-spare
-write_with-done-requires-clause-spare g c = record {
-  empty = c.new-spares.ensures.empty (node_entries c.args.file.now.shape);
-  numbered = c.new-spares.ensures.none unnumbered;
-}
+pub write_with-done-requires : goal.write_with-done-requires
+write_with-done-requires g c =
+    let was = c.requires in
+    let none = c.new-spares.ensures.none in
+    record {
+      file = record {
+        book_is = was.book;
+        shape_is = was.shape;
+        inside = was.inside;
+        whole = was.bytes;
+        stored = was.stored;
+        spare = record { empty = c.new-spares.ensures.empty (node_entries c.args.file.now.shape); numbered = none unnumbered };
+        law = record {
+          law = was.law;
+          own = record { below = none (strange g.V.Numbers.GeometryName.geometry.files c.args.file.now.token.number); whole = none (ragged (block_bytes c.args.file.now.shape)) };
+        };
+        held = (was.held.0, held_none was.held.0 c.args.file.now c.new-spares.result c.args.hand.now.tickets c.args.hand.now.tokens none was.held.1);
+      };
+    }
 
 pub give_back-requires-clause-held : goal.give_back-requires-clause-held
 give_back-requires-clause-held g c =
@@ -24,15 +39,6 @@ returns-clause-serves g c =
     let gave = c.give_back.ensures in
     serves_beside c.args.file.now c.write_with-done.new.file c.new-spares.result c.write_with-done.new.spares c.args.hand.now c.write_with-done.new.hand
     c.new-spares.ensures.none c.write_with-done.ensures.serves c.give_back.new.hand gave.tokens gave.tickets gave.book
-
-pub write_with-done-requires-clause-law : goal.write_with-done-requires-clause-law
-write_with-done-requires-clause-law g c = record {
-  law = c.requires.law;
-  own = record {
-    below = c.new-spares.ensures.none (strange g.V.Numbers.GeometryName.geometry.files c.args.file.now.token.number);
-    whole = c.new-spares.ensures.none (ragged (block_bytes c.args.file.now.shape));
-  };
-}
 
 pub give_back-requires-clause-whole : goal.give_back-requires-clause-whole
 give_back-requires-clause-whole g c =

@@ -3,6 +3,11 @@ use Rattle.nodes_law.proofs.Listing.{written_where_clean}
 use Rattle.file_flush.proofs.Steps.{still_held, still_shown}
 use Rattle.file_flush.proofs.flushing.flush_file.Goals as goal
 
+pub flush_all-requires-clause-file : goal.flush_all-requires-clause-file
+flush_all-requires-clause-file g c =
+    let was = c.requires in
+    record { book_is = was.book; shape_is = was.shape; file_is = was.file; numbered = was.numbered; law = was.law; held = was.held }
+
 pub returns-clause-written : goal.returns-clause-written
 returns-clause-written g c =
     on_ok c.flush_all.result c.flush_all.ensures.clean (written_where_clean c.flush_all.new.file c.flush_all.ensures.flushed.law.spelled)

@@ -1,6 +1,6 @@
-use Rattle.std.proofs.Common.{◌≡◌, ℕ, ◌-◌, ◌*◌, ◌+◌, ◌<◌, ◌≤◌, None, arith, ap, ◌∙◌}
+use Rattle.std.proofs.Common.{◌≡◌, ℕ, ◌≤◌, None, arith}
 use Rattle.tree.specs.Tree.{entry_at}
-use Rattle.nodes_walks.proofs.Search.{Passed, passed_entry, found_entry}
+use Rattle.nodes_walks.proofs.Search.{passed_entry, found_entry}
 use Rattle.nodes_walks.proofs.entries.next_in.Goals as goal
 
 pub returns-in-Some-clause-next : goal.returns-in-Some-clause-next

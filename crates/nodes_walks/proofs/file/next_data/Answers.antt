@@ -1,9 +1,35 @@
-use Rattle.nodes_walks.proofs.Ranges.{found_in_double}
+use Rattle.std.proofs.Common.{arith}
+use Rattle.nodes_walks.proofs.Ranges.{found_in_inode, found_in_direct, found_in_indirect, found_in_double}
 use Rattle.nodes_walks.proofs.file.next_data.Goals as goal
+
+pub returns-in-Some : goal.returns-in-Some
+returns-in-Some g c =
+    let found = c.in-Some.ensures in
+    let inside = found.within in
+    found_in_inode c.args.file.now c.args.from c.inode_entries-slots.result c.node_entries-entries.result c.in-Some.index
+    c.inode_entries-slots.ensures c.node_entries-entries.ensures (omega arith) found.next
+
+pub returns-in-Some-next_in : goal.returns-in-Some-next_in
+returns-in-Some-next_in g c =
+    let found = c.in-Some-next_in.ensures in
+    let inside = found.within in
+    found_in_direct c.args.file.now c.args.from c.inode_entries-slots.result c.node_entries-entries.result c.in-Some-next_in.index
+    c.inode_entries-slots.ensures c.node_entries-entries.ensures
+    c.saturating_sub-from.result c.saturating_sub-from.ensures c.in_default.ensures.next (omega arith) found.next
+
+pub returns-in-Some-next_in-2 : goal.returns-in-Some-next_in-2
+returns-in-Some-next_in-2 g c =
+    let found = c.in-Some-next_in-2.ensures in
+    let inside = found.within in
+    found_in_indirect c.args.file.now c.args.from c.inode_entries-slots.result c.node_entries-entries.result c.in-Some-next_in-2.index
+    c.inode_entries-slots.ensures c.node_entries-entries.ensures
+    c.saturating_sub-from.result c.saturating_sub-from.ensures c.in_default.ensures.next
+    c.saturating_sub-from-2.result c.saturating_sub-from-2.ensures c.in_default-next_in.ensures.next (omega arith) found.next
 
 pub returns-in-Some-next_in-3 : goal.returns-in-Some-next_in-3
 returns-in-Some-next_in-3 g c =
-    found_in_double c.args.file.now c.args.from c.inode_entries-slots.result c.node_entries-entries.result
-    c.saturating_sub-from.result c.saturating_sub-from-2.result c.saturating_sub-from-3.result c.in-Some-next_in-3.index
-    c.inode_entries-slots.ensures c.node_entries-entries.ensures c.saturating_sub-from.ensures c.saturating_sub-from-2.ensures c.saturating_sub-from-3.ensures
-    c.in_default.ensures.next c.in_default-next_in.ensures.next c.in_default-next_in-2.ensures.next c.in-Some-next_in-3.ensures.next
+    found_in_double c.args.file.now c.args.from c.inode_entries-slots.result c.node_entries-entries.result c.in-Some-next_in-3.index
+    c.inode_entries-slots.ensures c.node_entries-entries.ensures
+    c.saturating_sub-from.result c.saturating_sub-from.ensures c.in_default.ensures.next
+    c.saturating_sub-from-2.result c.saturating_sub-from-2.ensures c.in_default-next_in.ensures.next
+    c.saturating_sub-from-3.result c.saturating_sub-from-3.ensures c.in_default-next_in-2.ensures.next c.in-Some-next_in-3.ensures.next

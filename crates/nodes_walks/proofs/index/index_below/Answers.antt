@@ -3,7 +3,7 @@ use Rattle.tree.specs.Tree.{entry_at}
 use Rattle.tree.specs.Change.{ticket_weight, each_naming}
 use Rattle.tree.specs.Laws.{weightless}
 use Rattle.tree.proofs.Changes.{weigh_zero}
-use Rattle.nodes_walks.proofs.Finding.{owner_double_at}
+use Rattle.nodes_walks.proofs.Finding.{owner_direct_at, owner_indirect_at, owner_double_at}
 use Rattle.nodes_walks.proofs.index.index_below.Goals as goal
 
 pub returns-in-None-clause-elsewhere : goal.returns-in-None-clause-elsewhere
@@ -15,6 +15,18 @@ returns-in-None-clause-elsewhere g c = λ _.
     let indirect = c.in_default-index_in.ensures.elsewhere refl in
     let double = c.in-None.ensures.elsewhere refl in
     omega arith)
+
+pub returns-in-Some-clause-owner : goal.returns-in-Some-clause-owner
+returns-in-Some-clause-owner g c =
+    let it = c.in-Some.ensures in
+    owner_direct_at c.args.file.now c.args.nid c.args.at c.inode_entries-slots.result c.node_entries-entries.result c.inode_entries-slots.ensures c.node_entries-entries.ensures
+    c.in-Some.index it.within it.namer it.entry
+
+pub returns-in-Some-index_in-clause-owner : goal.returns-in-Some-index_in-clause-owner
+returns-in-Some-index_in-clause-owner g c =
+    let it = c.in-Some-index_in.ensures in
+    owner_indirect_at c.args.file.now c.args.nid c.args.at c.inode_entries-slots.result c.node_entries-entries.result c.inode_entries-slots.ensures c.node_entries-entries.ensures
+    c.in-Some-index_in.index it.within it.namer it.entry
 
 pub returns-in-Some-index_in-2-clause-owner : goal.returns-in-Some-index_in-2-clause-owner
 returns-in-Some-index_in-2-clause-owner g c =

@@ -1,5 +1,6 @@
 use Rattle.std.proofs.Common.{sym, ap, ◌∙◌, arith}
 use Rattle.nodes.specs.File.{inode_of, weight_of}
+use Rattle.nodes_walks.proofs.Keeping.{kept_token, kept_same}
 use Rattle.nodes_walks.proofs.visit.visit_node.Goals as goal
 
 pub visit_inode-requires : goal.visit_inode-requires
@@ -25,5 +26,9 @@ pub returns-in-Err-clause-refused : goal.returns-in-Err-clause-refused
 returns-in-Err-clause-refused g c =
     let done = c.in-Err.ensures in (done.same, inode_of c.args.file.now, λ w. omega arith, done.refused)
 
-pub returns-in-Ok-clause-useful : goal.returns-in-Ok-clause-useful
-returns-in-Ok-clause-useful g c = rw c.in-Ok.ensures.file (λ asked ok. record { direct = ok.direct; indirect = ok.indirect; double = ok.double })
+pub returns-in-Ok-clause-kept : goal.returns-in-Ok-clause-kept
+returns-in-Ok-clause-kept g c =
+    let done = c.in-Ok.ensures in rw done.file (kept_token c.args.file.now c.requires.file c.visit_inode.new.file.token done.number)
+
+pub returns-in-Err-clause-kept : goal.returns-in-Err-clause-kept
+returns-in-Err-clause-kept g c = kept_same c.args.file.now c.requires.file c.visit_inode.new.file c.in-Err.ensures.same

@@ -15,8 +15,8 @@ IsSmall info = (info.count < 2 ^ 32) × (info.mtime < 2 ^ 64)
 pub returns-clause-spelled : goal.returns-clause-spelled
 returns-clause-spelled c =
     let segments : List SegmentValue → Type 0 = λ xs. All (λ (info : SegmentValue). (info.count < 2 ^ 32) × (info.mtime < 2 ^ 64)) xs in
-    λ range. (
-      has_spelling c.args.geometry.now (image_view c.args.image.now) (record {
+    λ nodes range. (
+      has_spelling c.args.geometry.now (image_view c.args.image.now) nodes (record {
         version = c.in_ok-push_pair.ensures.small.0;
         total = c.in_ok-push_pair.ensures.small.1;
         infos = All-map IsSmall info_view c.args.image.now.sit.items (subst segments c.deref-3.ensures.value c.in_ok-push_segments.ensures.small);

@@ -9,9 +9,10 @@ returns-in-Ok-clause-left g c =
     let area = g.M.Meta.seen parts.meta in
     let left = g.met.M.Meta.seen_is_left parts.meta in
     let stands = c.in-Ok.ensures.mountable in
+    let taken = c.in-Ok.closed.image in
     inl (
       record {
-        image = image_view c.in-Ok.closed.image;
+        image = record (image_view taken.tables) { nodes = taken.nodes.items };
         size = stands.size;
         held = record { front = stands.front area left; tables = stands.tables area left; nodes = stands.nodes };
         lawful = stands.lawful;

@@ -4,7 +4,7 @@ use Rattle.std.proofs.Common.{◌≡◌, [], ◌∷◌, ◌+◌, ◌<◌, ◌^�
 use Rattle.geometry.specs.declared.geometry.Geometry.{Geometry}
 use Rattle.device.specs.Disk.{Leaves}
 use Rattle.image.specs.Pack.{pack_body}
-use Rattle.image.specs.View.{image_view}
+use Rattle.checkpoint_image.specs.View.{taken_view}
 use Rattle.checkpoint.specs.Holding.{AreWhole}
 use Rattle.packs_format.specs.Holding.{HoldsTables}
 use Rattle.checkpoint.proofs.Counting.{between_counts, whole_counts}
@@ -19,8 +19,8 @@ invariant_of-self g c =
     let new = c.write.new.self in
     let stored = c.in-Ok.stored in
     let done = c.in-Ok.ensures in
-    let same : (image_view stored.taken.image).version ≡ c.args.taken.image.version = ap (λ t. t.image.version) done.taken in
-    let version = version_taken g.M.Meta.seen stored.geometry.shape (image_view stored.taken.image) new.area stored.pack.shown.items c.args.taken.image.version (omega arith) same done.whole.settled.version done.area stored.written in
+    let same : (taken_view stored.taken.image).version ≡ c.args.taken.image.tables.version = ap (λ t. t.image.tables.version) done.taken in
+    let version = version_taken g.M.Meta.seen stored.geometry.shape (taken_view stored.taken.image) new.area stored.pack.shown.items c.args.taken.image.tables.version (omega arith) same done.whole.settled.version done.area stored.written in
     record {
       size = done.same.long ∙ old.size;
       numbers = done.geometry ∙ old.numbers;
@@ -55,7 +55,7 @@ invariant_of-self-in-Err g c =
     let old = c.args.self.now in
     let done = c.in-Err.ensures in
     let meta = g.M.Meta in
-    let image = image_view c.args.taken.image in
+    let image = taken_view c.args.taken.image in
     record {
       size = done.same.long ∙ old.size;
       numbers = done.geometry ∙ old.numbers;
@@ -71,7 +71,7 @@ invariant_of-self-in-Err g c =
 
 pub returns-in-Ok-clause-held : goal.returns-in-Ok-clause-held
 returns-in-Ok-clause-held g c =
-    subst (λ (x : Geometry). Leaves g.M.Meta.may_leave c.write.new.self.area.meta (HoldsTables x (image_view c.args.taken.image))) c.args.self.now.numbers c.in-Ok.ensures.held
+    subst (λ (x : Geometry). Leaves g.M.Meta.may_leave c.write.new.self.area.meta (HoldsTables x (taken_view c.args.taken.image))) c.args.self.now.numbers c.in-Ok.ensures.held
 
 pub returns-in-Ok-clause-complete : goal.returns-in-Ok-clause-complete
 returns-in-Ok-clause-complete g c =
@@ -82,10 +82,10 @@ returns-in-Ok-clause-written g c =
     let new = c.write.new.self in
     let stored = c.in-Ok.stored in
     let done = c.in-Ok.ensures in
-    let same : (image_view stored.taken.image).version ≡ c.args.taken.image.version = ap (λ t. t.image.version) done.taken in
-    let version = version_taken g.M.Meta.seen stored.geometry.shape (image_view stored.taken.image) new.area stored.pack.shown.items c.args.taken.image.version (omega arith) same done.whole.settled.version done.area stored.written in (
+    let same : (taken_view stored.taken.image).version ≡ c.args.taken.image.tables.version = ap (λ t. t.image.tables.version) done.taken in
+    let version = version_taken g.M.Meta.seen stored.geometry.shape (taken_view stored.taken.image) new.area stored.pack.shown.items c.args.taken.image.tables.version (omega arith) same done.whole.settled.version done.area stored.written in (
       new.area,
       done.area ∙ ap (λ v. (new.area, v) ∷ []) version,
       done.whole.size ∙ (done.geometry ∙ c.args.self.now.numbers),
-      subst (λ (x : Geometry). Leaves g.M.Meta.may_leave new.area.meta (HoldsTables x (image_view c.args.taken.image))) c.args.self.now.numbers done.held,
+      subst (λ (x : Geometry). Leaves g.M.Meta.may_leave new.area.meta (HoldsTables x (taken_view c.args.taken.image))) c.args.self.now.numbers done.held,
     )

@@ -14,8 +14,8 @@ marked-preserved c =
     let done = c.in_ok-flush_next.ensures.wrote c.if-branch.true in
     let was = c.marked.invariant in
     record {
-      shape = c.flush_next.ensures.shape ∙ was.shape;
-      file = c.flush_next.ensures.file;
+      shape = c.flush_next.ensures.kept.shape_is ∙ was.shape;
+      file = c.flush_next.ensures.kept.file;
       room = c.flush_next.ensures.room ∙ was.room;
       held = λ marks entries held.
           held_written c.marked.file c.flush_next.new.file marks entries (was.held marks entries held) done.0 done.1 done.2 done.3;

@@ -12,9 +12,9 @@ returns g c =
     let written = c.in_ok-stored.stored.taken.image in
     let told = c.of.result in
     subst (λ (f : Files). (x : Image) × IsLawful f.geometry x × (told.version ≡ x.version) × (told.total ≡ x.total) × (told.free ≡ free_count f.geometry x)) c.self.view_is (
-      image_view written,
+      record (image_view written.tables) { nodes = written.nodes.items },
       c.in_ok-stored.ensures.lawful,
-      c.of.ensures.version ∙ ap (λ i. (image_view i).version) c.image.ensures,
-      c.of.ensures.total ∙ ap (λ i. (image_view i).total) c.image.ensures,
-      c.of.ensures.free ∙ ap (λ n. free_count n (image_view c.image.result.now)) c.geometry.ensures ∙ ap (λ i. free_count geometry (image_view i)) c.image.ensures,
+      c.of.ensures.version ∙ ap (λ i. (image_view i).version) c.tables.ensures,
+      c.of.ensures.total ∙ ap (λ i. (image_view i).total) c.tables.ensures,
+      c.of.ensures.free ∙ ap (λ n. free_count n (image_view c.tables.result.now)) c.geometry.ensures ∙ ap (λ i. free_count geometry (image_view i)) c.tables.ensures,
     )

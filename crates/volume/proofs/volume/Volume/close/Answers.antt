@@ -1,6 +1,6 @@
 use Rattle.std.proofs.Common.{◌≡◌, sym, subst, ◌∙◌}
 use Rattle.device.specs.Disk.{Leaves}
-use Rattle.image.specs.View.{image_view}
+use Rattle.checkpoint_image.specs.View.{taken_view}
 use Rattle.packs_format.specs.Holding.{HoldsTables}
 use Rattle.packs_format.specs.Grammar.{HasSuper}
 use Rattle.packs_format.proofs.SuperLemmas.{super_stays}
@@ -12,7 +12,7 @@ returns-in-Ok-clause-mountable g c =
     let packs = c.write_last.new.packs in
     let sound = c.in-Ok.ensures.sound in
     let meta = c.into_meta-meta.ensures.meta in
-    let image = image_view c.in-Ok.last.image in
+    let image = taken_view c.in-Ok.last.image in
     let front : Leaves g.M.Meta.may_leave packs.packs.area.meta (HasSuper geometry) = λ left there. let kept = ((packs.whole sound).settled.left left there).same in super_stays geometry (g.M.Meta.seen packs.packs.area.meta) left packs.front kept.long kept.front in
     record {
       size = record { area = c.into_meta-meta.ensures.size; count = sym c.close_area-blocks.result.ok.0 ∙ c.close_area-blocks.ensures.count; run = c.close_area-blocks.ensures.run };
