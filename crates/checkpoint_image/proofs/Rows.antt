@@ -4,18 +4,25 @@ use Rattle.std.proofs.Common.{◌≡◌, ◌≢◌, refl, sym, ◌∙◌, ap, �
 use Rattle.std.specs.Prelude.{Option, Some, None, is_some, count_by}
 use Rattle.std.proofs.lemmas.Bool.Decides.{eqb_tells}
 use Rattle.geometry.specs.declared.owner.Owner.{Owner}
-use Rattle.sit.specs.Summaries.{count_of}
+use Rattle.geometry.specs.declared.owner.Summary.{Summary}
+use Rattle.sit.specs.Summaries.{summary_in, count_of}
 use Rattle.rights_books.specs.declared.claim.Entry.{Entry}
 use Rattle.rights_books.specs.Lists.{times}
 use Rattle.rights_books.specs.Sameness.{same_entry}
 use Rattle.rights_books.proofs.Sameness.{entry_eq}
 use Rattle.nat.specs.Taken.{entries_of}
-use Rattle.image_law.specs.Parts.{is_named, found}
+use Rattle.image_law.specs.Parts.{is_named, found, summary_in as summary_at}
 use Rattle.checkpoint_image.specs.Cells.{token_of}
 
 pub named_some : (o : Option Owner) → is_some o ≡ is_named o
 named_some None = refl
 named_some (Some owner) = refl
+
+-- what stands for a block is said twice
+pub rows_same : (xs : List (Option Owner)) → map summary_in xs ≡ map summary_at xs
+rows_same [] = refl
+rows_same (None ∷ xs) = ap (λ (l : List Summary). summary_at None ∷ l) (rows_same xs)
+rows_same (Some owner ∷ xs) = ap (λ (l : List Summary). summary_at (Some owner) ∷ l) (rows_same xs)
 
 fold_count : (a : ℕ) (xs : List (Option Owner)) → fold (λ a bit. a + cond bit 1 0) a (map is_named xs) ≡ a + count_of xs
 fold_count a [] = omega arith

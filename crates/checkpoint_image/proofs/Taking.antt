@@ -1,9 +1,9 @@
 -- What is held is shown item by item, so counts, places and rows read off it are those of its parts; rows that are put
 -- file after file are the rows of all nodes.
-use Rattle.std.proofs.Common.{◌≡◌, refl, sym, ◌∙◌, ap, subst, ℕ, zero, suc, ◌+◌, ◌<◌, ◌≤◌, ◌%◌, List, [], ◌∷◌, ◌++◌, map, length, get_or, replicate, fold, arith}
+use Rattle.std.proofs.Common.{◌≡◌, refl, sym, ◌∙◌, ap, subst, ℕ, zero, suc, ◌+◌, ◌<◌, ◌≤◌, ◌%◌, List, [], ◌∷◌, ◌++◌, map, length, get_or, replicate, fold, add-one, arith}
 use Rattle.std.specs.Prelude.{Option, Some, None, IfSome, slice_get, sum_by}
 use Rattle.std.specs.List.{flat_map}
-use Rattle.std.proofs.lemmas.List.{length-map, get_or-map}
+use Rattle.std.proofs.lemmas.List.{length-map, get_or-map, map-append}
 use Rattle.geometry.specs.declared.geometry.Geometry.{Geometry}
 use Rattle.geometry.specs.Shape.{segment_blocks}
 use Rattle.geometry.proofs.Addresses.{segment_blocks-most}
@@ -20,7 +20,7 @@ use Rattle.image_law.specs.Parts.{IsImageOf}
 use Rattle.checkpoint_image.proofs.Places.{below_length}
 use Rattle.checkpoint_image.proofs.Written.{filed_at}
 use Rattle.checkpoint_image.proofs.Laws.{parts_law, taken_holds}
-use Rattle.checkpoint_image.specs.Held.{segment_in, part_in, segments_in, infos_in, summaries_in as all_summaries, total_in, HaveBlocks, AreOwnShards, entries_in, places_in, AreWithin, cells_in}
+use Rattle.checkpoint_image.specs.Held.{segment_in, part_in, segments_in, infos_in, summaries_in as all_summaries, total_in, HaveBlocks, AreOwnShards, entry_in, entries_in, places_in, AreWithin, cells_in}
 
 -- lists of what is shown
 module _ {A B : Type 0} (f : A → B) where
@@ -38,6 +38,13 @@ module _ {A B C : Type 0} (f : A → B) (g : B → C) where
   pub map_twice : (xs : List A) → map (λ x. g (f x)) xs ≡ map g (map f xs)
   map_twice [] = refl
   map_twice (x ∷ xs) = ap (λ (zs : List C). g (f x) ∷ zs) (map_twice xs)
+
+-- one number more
+module _ {H : Type 0} (shown : H → ShardNodes) (held : List H) where
+  pub entries_more : (k : ℕ) → entries_in shown held (k + 1) ≡ entries_in shown held k ++ entry_in shown held (k + 1) ∷ []
+  entries_more k =
+      ap (entries_in shown held) (add-one k) ∙ map-append (entry_in shown held) (up_to k) (suc k ∷ [])
+      ∙ ap (λ n. entries_in shown held k ++ entry_in shown held n ∷ []) (sym (add-one k))
 
 module _ {A B C : Type 0} (f : A → B) (g : B → List C) where
   pub flat_twice : (xs : List A) → flat_map (λ x. g (f x)) xs ≡ flat_map g (map f xs)

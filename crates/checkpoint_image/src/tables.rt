@@ -12,36 +12,23 @@ use geometry::Summary;
 use image::{NodeEntry, Place, SegmentInfo};
 use std::alloc::{AllocError, Global};
 
-/// The segment information table.
-pub(crate) fn infos_of<B: Block + Drop, S: HoldsSegment<B>>(
+/// The segment information table and the segment summary area. What a segment lends is read once for both, and memory for so
+/// many summaries is taken at once.
+pub(crate) fn rows_of<B: Block + Drop, S: HoldsSegment<B>>(
     alloc: Global,
-    blocks: u32,
+    count: usize,
     segments: &[S],
-) -> Result<Vec<SegmentInfo>, AllocError>
-    requires { HaveBlocks S.shown blocks segments.now }
-    ensures { IfOk result (λ infos. map info_view infos.items ≡ infos_in S.shown segments.now) }
+) -> Result<(Vec<SegmentInfo>, Vec<Summary>), AllocError>
+    ensures infos { IfOk result (λ rows. map info_view rows.0.items ≡ infos_in S.shown segments.now) }
+    ensures summaries { IfOk result (λ rows. rows.1.items ≡ summaries_in S.shown segments.now) }
 {
     let mut infos = Vec::with_capacity(alloc, segments.len())?;
+    let mut summaries = Vec::with_capacity(alloc, count)?;
     for held in segments {
-        infos.push(info_of(alloc, held.segment(), blocks)?)?;
+        infos.push(info_of(alloc, held.segment())?)?;
+        push_summaries(&mut summaries, held.segment())?;
     }
-    Ok(infos)
-}
-
-/// The segment summary area.
-pub(crate) fn summaries_of<B: Block + Drop, S: HoldsSegment<B>>(
-    alloc: Global,
-    blocks: u32,
-    segments: &[S],
-) -> Result<Vec<Summary>, AllocError>
-    requires { HaveBlocks S.shown blocks segments.now }
-    ensures { IfOk result (λ summaries. summaries.items ≡ summaries_in S.shown segments.now) }
-{
-    let mut summaries = Vec::new(alloc);
-    for held in segments {
-        push_summaries(&mut summaries, held.segment(), blocks)?;
-    }
-    Ok(summaries)
+    Ok((infos, summaries))
 }
 
 /// How many blocks are valid.
@@ -70,7 +57,7 @@ pub(crate) fn entries_of<B: Block + Drop, H: HoldsShard<B>>(
 {
     let mut entries = Vec::with_capacity(alloc, nodes as usize)?;
     for past in 0..nodes {
-        entries.push(entry_at(shards, past + 1))?;
+        entries.push_reserved(entry_at(shards, past + 1));
     }
     Ok(entries)
 }

@@ -11,7 +11,7 @@ ghost use Rattle.checkpoint_image.specs.View.{taken_view};
 use crate::held::{HoldsFile, HoldsLog, HoldsSegment, HoldsShard};
 use crate::node_log::NodeLog;
 use crate::shown::FileRows;
-use crate::tables::{entries_of, infos_of, places_of, summaries_of, total_of};
+use crate::tables::{entries_of, places_of, rows_of, total_of};
 use crate::taken_image::TakenImage;
 use device::Block;
 use geometry::{Error, Geometry};
@@ -41,13 +41,14 @@ pub fn take_image<B: Block + Drop, S: HoldsSegment<B>, H: HoldsShard<B>, L: Hold
     ensures err { IfErr result (λ error. error ≡ NoMemory) }
 {
     let blocks = geometry.shape.segment_blocks();
+    let (sit, ssa) = rows_of(alloc, geometry.blocks() as usize, segments)?;
     let tables = Image {
         version,
         total: total_of(blocks, segments),
         logs: places_of(alloc, segments, logs)?,
         nat: entries_of(alloc, geometry.nodes, shards)?,
-        sit: infos_of(alloc, blocks, segments)?,
-        ssa: summaries_of(alloc, blocks, segments)?,
+        sit,
+        ssa,
         nodes: Vec::new(alloc),
     };
     let nodes = NodeLog::of(&FileRows {

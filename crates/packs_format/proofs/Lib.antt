@@ -1,6 +1,7 @@
 pub mod Fronts
 pub mod Bytes
 pub mod Bits
+pub mod Chunks
 pub mod Rooms
 pub mod Widths
 pub mod Parts

@@ -1,18 +1,15 @@
 -- Which slot counts is told by the versions and footers at the slots' ends alone: so what was read of those picks the
 -- body that counts in the file.
-use Rattle.std.proofs.Common.{◌≡◌, refl, sym, ◌∙◌, ap, ℕ, zero, suc, ◌+◌, ◌-◌, ◌*◌, ◌≤◌, Some, None, List, length, arith}
-use Rattle.byteorder.specs.Endian.{little_number}
+use Rattle.std.proofs.Common.{◌≡◌, sym, ap, ℕ, zero, suc, ◌+◌, ◌-◌, ◌*◌, ◌≤◌, Some, None, List, length, arith}
 use Rattle.geometry.specs.declared.geometry.Geometry.{Geometry}
-use Rattle.geometry.specs.Area.{pack_bytes, meta_bytes}
-use Rattle.image.specs.Slots.{version_of, pick, picked_slot, body_in, picked as body_picked_in}
+use Rattle.geometry.specs.Area.{meta_bytes}
+use Rattle.image.specs.Slots.{pick, picked_slot, body_in}
 use Rattle.image.proofs.Picking.{is_picked}
 use Rattle.packs.specs.declared.choice.Ends.{Ends}
-use Rattle.packs.specs.Pack.{slots_in}
 use Rattle.packs.specs.Device.{HoldEnds}
-use Rattle.packs.specs.Parts.{body_bytes, slot_at, assembled}
-use Rattle.packs.specs.Area.{reading_of, footer_at, area_bytes}
+use Rattle.packs.specs.Parts.{slot_at, assembled}
+use Rattle.packs.specs.Area.{reading_of}
 use Rattle.packs.proofs.Picking.{by_ends}
-use Rattle.packs.proofs.Sizes.{is_more, is_long, front_fits}
 use Rattle.packs_format.specs.File.{file_bytes, slot_in, picked_body}
 
 module _ (geometry : Geometry) (file : List ℕ) where

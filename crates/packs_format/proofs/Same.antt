@@ -11,7 +11,6 @@ use Rattle.image.specs.Files.{files}
 use Rattle.image.specs.Image.{Image}
 use Rattle.image.specs.Pack.{shape_code}
 use Rattle.image.specs.Reading.{image_in}
-use Rattle.packs_format.specs.Fields.{HasNumbers}
 use Rattle.packs_format.specs.Grammar.{HasSuper}
 use Rattle.packs_format.proofs.SuperLemmas.{front_numbers}
 use Rattle.packs_format.proofs.RoundTrip.{spelled_back}

@@ -1,5 +1,5 @@
 //! A pack's body is written.
-ghost use Rattle.std.specs.Prelude.{◌≡◌, ◌≤◌, ◌<◌, ◌+◌, ◌/◌, ◌^◌, ◌++◌, List, [], ◌∷◌, length, map, All, IfOk, IfErr, OnOk};
+ghost use Rattle.std.specs.Prelude.{◌≡◌, ◌≤◌, ◌<◌, ◌+◌, ◌*◌, ◌/◌, ◌^◌, ◌++◌, ℕ, List, [], ◌∷◌, length, take, drop, map, All, IfOk, IfErr, OnOk};
 ghost use Rattle.std.specs.List.{flat_map};
 ghost use Rattle.byteorder.specs.Endian.{little_bytes};
 ghost use Rattle.geometry.specs.declared.error.Error.TheVariants.{NoMemory};
@@ -15,6 +15,85 @@ use byteorder::{ByteOrder, LittleEndian};
 use geometry::{Error, Geometry, Shape, Summary};
 use image::{Image, NodeEntry, Place, SegmentInfo};
 use std::alloc::{AllocError, Global};
+
+// So many rows of two numbers are spelled before they are added.
+const ROWS: usize = 64;
+
+// A row of two numbers.
+trait Pair {
+    ghost bytes: { Self → List ℕ };
+
+    ghost small: { Self → Type 0 };
+
+    // Its numbers.
+    fn pair(&self) -> (u32, u32)
+        ensures bytes { numbers (result.0 ∷ result.1 ∷ []) ≡ bytes self.now }
+        ensures small { small self.now };
+}
+
+impl Pair for NodeEntry {
+    ghost bytes = { entry_bytes };
+
+    ghost small = { λ entry. (entry.inode < 2 ^ 32) × (entry.address < 2 ^ 32) };
+
+    fn pair(&self) -> (u32, u32) {
+        both(self.inode, self.address)
+    }
+}
+
+impl Pair for Summary {
+    ghost bytes = { summary_bytes };
+
+    ghost small = { IsSummaryRow };
+
+    fn pair(&self) -> (u32, u32) {
+        both(self.nid, self.slot)
+    }
+}
+
+// Two numbers, each of which fits its field.
+fn both(first: u32, second: u32) -> (u32, u32)
+    ensures numbers { result ≡ (first, second) }
+    ensures small { (first < 2 ^ 32) × (second < 2 ^ 32) }
+{
+    (first, second)
+}
+
+// Two numbers, in front of what stays.
+fn write_pair(row: &mut [u8], first: u32, second: u32)
+    requires { 8 ≤ length row.old }
+    ensures { row.new ≡ numbers (first ∷ second ∷ []) ++ drop 8 row.old }
+{
+    LittleEndian::write_u32_into(&[first, second], &mut row[..8]);
+}
+
+// The rows take all of the bytes.
+fn write_rows<P: Pair>(bytes: &mut [u8], rows: &[P])
+    requires few { length rows.now ≤ 64 }
+    requires len { length bytes.old ≡ 8 * length rows.now }
+    ensures bytes { bytes.new ≡ flat_map P.bytes rows.now }
+    ensures small { All P.small rows.now }
+{
+    for i in 0..rows.len() {
+        let (first, second) = rows[i].pair();
+        write_pair(&mut bytes[8 * i..], first, second);
+    }
+}
+
+fn push_rows<P: Pair>(out: &mut Vec<u8>, rows: &[P]) -> Result<(), AllocError>
+    ensures added { OnOk result (out.new.items ≡ out.old.items ++ flat_map P.bytes rows.now) }
+    ensures small { OnOk result (All P.small rows.now) }
+{
+    for round in 0..rows.len().div_ceil(ROWS) {
+        let (_, rest) = rows.split_at(ROWS * round);
+        let (some, _) = rest.split_at(rest.len().min(ROWS));
+        let mut bytes = [0u8; 8 * ROWS];
+        let bytes = &mut bytes[..8 * some.len()];
+        write_rows(bytes, some);
+        out.extend_from_slice(bytes)?;
+    }
+    Ok(())
+}
 
 fn push_pair(out: &mut Vec<u8>, first: u32, second: u32) -> Result<(), AllocError>
     ensures added { OnOk result (out.new.items ≡ out.old.items ++ numbers (first ∷ second ∷ [])) }
@@ -37,35 +116,27 @@ fn push_logs(out: &mut Vec<u8>, logs: &[Option<Place>]) -> Result<(), AllocError
     Ok(())
 }
 
-fn push_entries(out: &mut Vec<u8>, entries: &[NodeEntry]) -> Result<(), AllocError>
-    ensures { OnOk result (out.new.items ≡ out.old.items ++ flat_map entry_bytes entries.now) }
-{
-    for entry in entries {
-        push_pair(out, entry.inode, entry.address)?;
-    }
-    Ok(())
-}
-
-fn push_summaries(out: &mut Vec<u8>, summaries: &[Summary]) -> Result<(), AllocError>
-    ensures added { OnOk result (out.new.items ≡ out.old.items ++ flat_map summary_bytes summaries.now) }
-    ensures small { OnOk result (All IsSummaryRow summaries.now) }
-{
-    for summary in summaries {
-        push_pair(out, summary.nid, summary.slot)?;
-    }
-    Ok(())
-}
-
 // The number of at most eight bits, the lowest first.
 fn byte_of(bits: &[bool]) -> u8
     requires { length bits.now ≤ 8 }
-    ensures value { result ≡ bits_number bits.now }
-    ensures small { result < 2 ^ length bits.now }
+    ensures { result ≡ bits_number bits.now }
 {
-    match bits {
-        [] => 0,
-        [bit, rest @ ..] => u8::from(*bit) + 2 * byte_of(rest),
+    let mut byte = 0;
+    for past in 0..bits.len() {
+        byte = 2 * byte + u8::from(bits[bits.len() - 1 - past]);
     }
+    byte
+}
+
+// The number of the first eight bits. Where there are eight, the loop over them is unrolled.
+fn first_byte(bits: &[bool]) -> u8
+    ensures { result ≡ bits_number (take 8 bits.now) }
+{
+    if bits.len() < 8 {
+        return byte_of(bits);
+    }
+    let (eight, _) = bits.split_at(8);
+    byte_of(eight)
 }
 
 // Bits that are not there are clear.
@@ -74,8 +145,8 @@ fn push_bits(out: &mut Vec<u8>, count: u32, bits: &[bool]) -> Result<(), AllocEr
 {
     let mut rest = bits;
     for _ in 0..count {
-        let (eight, after) = rest.split_at(rest.len().min(8));
-        out.push(byte_of(eight))?;
+        out.push(first_byte(rest))?;
+        let (_, after) = rest.split_at(rest.len().min(8));
         rest = after;
     }
     Ok(())
@@ -117,8 +188,8 @@ pub fn encode(alloc: Global, geometry: &Geometry, image: &Image) -> Result<Vec<u
     let mut body = Vec::with_capacity(alloc, geometry.pack_bytes() as usize - 4)?;
     push_pair(&mut body, image.version, image.total)?;
     push_logs(&mut body, &image.logs)?;
-    push_entries(&mut body, &image.nat)?;
+    push_rows(&mut body, &image.nat)?;
     push_segments(&mut body, geometry.shape, &image.sit)?;
-    push_summaries(&mut body, &image.ssa)?;
+    push_rows(&mut body, &image.ssa)?;
     Ok(body)
 }

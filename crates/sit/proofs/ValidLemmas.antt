@@ -8,7 +8,7 @@ use Rattle.geometry.specs.declared.owner.Summary.{Summary}
 use Rattle.geometry.specs.Owner.{IsOwner}
 use Rattle.geometry.specs.Summary.{summary_of, owner_in}
 use Rattle.geometry.proofs.Summaries.{owner_in-summary_of}
-use Rattle.sit.specs.Summaries.{is_set, count_of}
+use Rattle.sit.specs.Summaries.{is_set, summary_in, count_of}
 use Rattle.sit.specs.Bits.{IsFirstTrue}
 use Rattle.sit.specs.NextValid.{IsNextValid}
 use Rattle.sit.specs.Valid.{AreValid}
@@ -30,6 +30,7 @@ pub valid_none : (n : ℕ) → n < 2 ^ 32 → AreValid (replicate n false) (repl
 valid_none n few = record {
   bits_are = sym (ap (map is_set) (shown_none n) ∙ map_replicate is_set n None);
   count_is = sym (ap count_of (shown_none n) ∙ count_none n);
+  rows_are = sym (ap (map summary_in) (shown_none n) ∙ map_replicate summary_in n None);
   few = let l = length-replicate {A = Summary} n none in omega arith;
 }
 
@@ -57,6 +58,8 @@ module _ (bits : List Bool) (summaries : List Summary) (count : ℕ) (law : AreV
     valid_set bits' bits_set = record {
       bits_are = bits_set ∙ ap (λ bs. set bs o true) law.bits_are ∙ sym (map-set is_set shown o (Some owner)) ∙ ap (map is_set) (sym (shown_set summaries o owner is));
       count_is = sym set_count;
+      rows_are = ap (λ ss. set ss o (summary_of owner)) law.rows_are ∙ sym (map-set summary_in shown o (Some owner))
+          ∙ ap (map summary_in) (sym (shown_set summaries o owner is));
       few = let long = length-set summaries o (summary_of owner) in let few = law.few in omega arith;
     }
 
@@ -68,6 +71,8 @@ module _ (bits : List Bool) (summaries : List Summary) (count : ℕ) (law : AreV
     valid_clear bits' bits_set = record {
       bits_are = bits_set ∙ ap (λ bs. set bs o false) law.bits_are ∙ sym (map-set is_set shown o None) ∙ ap (map is_set) (sym (shown_cleared summaries o));
       count_is = let less = clear_count in omega arith;
+      rows_are = ap (λ ss. set ss o none) law.rows_are ∙ sym (map-set summary_in shown o None)
+          ∙ ap (map summary_in) (sym (shown_cleared summaries o));
       few = let long = length-set summaries o none in let few = law.few in omega arith;
     }
 

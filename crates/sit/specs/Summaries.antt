@@ -2,6 +2,8 @@
 use Rattle.std.specs.Prelude.{ℕ, suc, List, [], ◌∷◌, Option, Some, None, Bool, true, false}
 use Rattle.geometry.specs.declared.owner.Owner.{Owner}
 use Rattle.geometry.specs.declared.owner.Mark.{Mark}
+use Rattle.geometry.specs.declared.owner.Summary.{Summary}
+use Rattle.geometry.specs.Summary.{summary_of}
 use Rattle.geometry.specs.Weights.{weigh}
 
 abbrev pub is_set : Option Owner → Bool
@@ -11,6 +13,11 @@ is_set None = false
 abbrev pub is_clear : Option Owner → Bool
 is_clear (Some owner) = false
 is_clear None = true
+
+-- what stands in the segment summary area: where nobody names the block, two zeros
+abbrev pub summary_in : Option Owner → Summary
+summary_in (Some owner) = summary_of owner
+summary_in None = record { nid = 0; slot = 0 }
 
 abbrev pub one : Option Owner → ℕ
 one (Some owner) = 1

@@ -5,7 +5,8 @@ ghost use Rattle.geometry.specs.declared.state.State.TheVariants.{Free, Open, Se
 ghost use Rattle.geometry.specs.Shape.{block_bytes, segment_blocks};
 ghost use Rattle.geometry.specs.Address.{address_of, segment_of, offset_of};
 ghost use Rattle.geometry.specs.Owner.{IsOwner};
-ghost use Rattle.sit.specs.Summaries.{count_of};
+ghost use Rattle.geometry.specs.Summary.{owner_in};
+ghost use Rattle.sit.specs.Summaries.{summary_in, count_of};
 ghost use Rattle.sit.specs.Segment.{IsFitting};
 ghost use Rattle.sit.specs.NextValid.{IsNextValid};
 ghost use Rattle.sit.specs.Released.{IsFate, thread_left};
@@ -17,7 +18,7 @@ use crate::segment::{Released, SegmentRow};
 use crate::thread::Threading;
 use crate::valid::ValidBlocks;
 use device::{Block, DeviceError};
-use geometry::{Owner, Shape, State};
+use geometry::{Owner, Shape, State, Summary};
 use std::marker::Model;
 
 /// One segment, under its law: a bit is set exactly where the block is not at home, and the summary names its owner; the
@@ -86,6 +87,14 @@ impl<B: Block + Drop> Body<B> {
         ensures { result ≡ slice_index_or self.now.summaries offset None }
     {
         self.valid.summary(offset)
+    }
+
+    /// What stands for each block in the segment summary area.
+    pub(crate) fn rows(&self) -> &[Summary]
+        ensures rows { result.now ≡ map summary_in self.now.summaries }
+        ensures owners { map owner_in result.now ≡ self.now.summaries }
+    {
+        self.valid.rows()
     }
 
     /// The least valid place at or past one.

@@ -2,7 +2,8 @@
 ghost use Rattle.std.specs.Prelude.{◌≡◌, ◌+◌, ◌<◌, ◌^◌, Some, None, true, map, length, slice_index_or, slice_set, IfOk, IfErr, replicate};
 ghost use Rattle.geometry.specs.declared.error.Error.TheVariants.{NoMemory};
 ghost use Rattle.geometry.specs.Owner.{IsOwner};
-ghost use Rattle.sit.specs.Summaries.{is_set, count_of};
+ghost use Rattle.geometry.specs.Summary.{owner_in};
+ghost use Rattle.sit.specs.Summaries.{is_set, summary_in, count_of};
 ghost use Rattle.sit.specs.NextValid.{IsNextValid};
 
 use crate::bits::Bits;
@@ -65,6 +66,14 @@ impl ValidBlocks {
         ensures { result ≡ slice_index_or self.now offset None }
     {
         self.summaries[offset as usize].owner()
+    }
+
+    /// What stands for each block in the segment summary area.
+    pub(crate) fn rows(&self) -> &[Summary]
+        ensures rows { result.now ≡ map summary_in self.now }
+        ensures owners { map owner_in result.now ≡ self.now }
+    {
+        self.summaries.as_slice()
     }
 
     /// The least valid place at or past one.

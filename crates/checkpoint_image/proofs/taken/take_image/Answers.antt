@@ -9,16 +9,6 @@ total_of-requires-clause-blocks g c = λ k d low.
     have_blocks g.S.HoldsSegment.shown g.H.HoldsShard.shown g.L.HoldsLog.shown g.F.HoldsFile.shown c.args.geometry.now c.args.segments.now c.args.shards.now c.args.logs.now c.args.files.now c.requires.cells k d low
     ∙ sym c.segment_blocks-blocks.ensures
 
-pub infos_of-requires : goal.infos_of-requires
-infos_of-requires g c = λ k d low.
-    have_blocks g.S.HoldsSegment.shown g.H.HoldsShard.shown g.L.HoldsLog.shown g.F.HoldsFile.shown c.args.geometry.now c.args.segments.now c.args.shards.now c.args.logs.now c.args.files.now c.requires.cells k d low
-    ∙ sym c.segment_blocks-blocks.ensures
-
-pub summaries_of-requires : goal.summaries_of-requires
-summaries_of-requires g c = λ k d low.
-    have_blocks g.S.HoldsSegment.shown g.H.HoldsShard.shown g.L.HoldsLog.shown g.F.HoldsFile.shown c.args.geometry.now c.args.segments.now c.args.shards.now c.args.logs.now c.args.files.now c.requires.cells k d low
-    ∙ sym c.segment_blocks-blocks.ensures
-
 pub places_of-requires : goal.places_of-requires
 places_of-requires g c =
     logs_within g.S.HoldsSegment.shown g.H.HoldsShard.shown g.L.HoldsLog.shown g.F.HoldsFile.shown c.args.geometry.now c.args.segments.now c.args.shards.now c.args.logs.now c.args.files.now c.requires.cells
@@ -30,9 +20,9 @@ entries_of-requires-clause-own g c =
 pub returns-clause-image : goal.returns-clause-image
 returns-clause-image g c =
     (taken_is g.S.HoldsSegment.shown g.H.HoldsShard.shown g.L.HoldsLog.shown g.F.HoldsFile.shown c.args.geometry.now c.args.segments.now c.args.shards.now c.args.logs.now c.args.files.now c.requires.cells c.requires.balanced _
-    c.requires.version c.total_of.ensures c.in_ok-places_of.ensures c.in_ok-infos_of.ensures c.in_ok-summaries_of.ensures c.in_ok-entries_of.ensures c.of-nodes.ensures).0
+    c.requires.version c.total_of.ensures c.in_ok-places_of.ensures c.in_ok-sit.ensures.infos c.in_ok-sit.ensures.summaries c.in_ok-entries_of.ensures c.of-nodes.ensures).0
 
 pub returns-clause-faithful : goal.returns-clause-faithful
 returns-clause-faithful g c =
     (taken_is g.S.HoldsSegment.shown g.H.HoldsShard.shown g.L.HoldsLog.shown g.F.HoldsFile.shown c.args.geometry.now c.args.segments.now c.args.shards.now c.args.logs.now c.args.files.now c.requires.cells c.requires.balanced _
-    c.requires.version c.total_of.ensures c.in_ok-places_of.ensures c.in_ok-infos_of.ensures c.in_ok-summaries_of.ensures c.in_ok-entries_of.ensures c.of-nodes.ensures).1
+    c.requires.version c.total_of.ensures c.in_ok-places_of.ensures c.in_ok-sit.ensures.infos c.in_ok-sit.ensures.summaries c.in_ok-entries_of.ensures c.of-nodes.ensures).1

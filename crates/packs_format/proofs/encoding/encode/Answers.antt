@@ -20,7 +20,7 @@ returns-clause-spelled c =
         version = c.in_ok-push_pair.ensures.small.0;
         total = c.in_ok-push_pair.ensures.small.1;
         infos = All-map IsSmall info_view c.args.image.now.sit.items (subst segments c.deref-3.ensures.value c.in_ok-push_segments.ensures.small);
-        owners = subst (λ (xs : List Summary). All IsSummaryRow xs) c.deref-4.ensures.value c.in_ok-push_summaries.ensures.small;
+        owners = subst (λ (xs : List Summary). All IsSummaryRow xs) c.deref-4.ensures.value c.in_ok-push_rows-2.ensures.small;
       }) range,
       search rules,
     )

@@ -1,6 +1,5 @@
-use Rattle.std.proofs.Common.{◌≡◌, refl, sym, ◌∙◌, ap, inr, length}
+use Rattle.std.proofs.Common.{refl, inr}
 use Rattle.packs.specs.Parts.{assembled}
-use Rattle.packs_format.specs.Grammar.{SpellsTables}
 use Rattle.packs_format.proofs.Parts.{long_as_a_body}
 use Rattle.packs_format.proofs.file.decode_slot.Goals as goal
 

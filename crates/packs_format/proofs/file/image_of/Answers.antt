@@ -2,7 +2,7 @@ use Rattle.std.proofs.Common.{sym, ◌∙◌, map}
 use Rattle.std.proofs.lemmas.Result.{err_from_is_err_and}
 use Rattle.image.specs.View.{image_view, node_or_none}
 use Rattle.packs.specs.Parts.{assembled}
-use Rattle.packs_format.proofs.PickLemmas.{slot_picked, slot_within, none_picked}
+use Rattle.packs_format.proofs.PickLemmas.{slot_picked}
 use Rattle.packs_format.proofs.FileLemmas.{read_with, read_holds, check_refuses, slot_refused}
 use Rattle.packs_format.proofs.file.image_of.Goals as goal
 
