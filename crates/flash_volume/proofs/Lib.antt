@@ -3,4 +3,5 @@ pub mod Following
 pub mod Results
 pub mod Same
 pub mod Together
+pub mod Visiting
 pub mod Working

@@ -51,14 +51,6 @@ module _ {M B : Type 0} (seen : M → List ℕ) (may_leave : M → List ℕ → 
   refused_run bytes old back left addresses contents run is =
       (bytes, subst (λ (parts : Parts M B). IsBlockRun address_of content_of bytes 1 parts.blocks.items) (sym is) (same_run address_of content_of bytes old back.blocks.items addresses contents run))
 
-  pub fault_run : (geometry : Geometry) (bytes : ℕ) (old : List B) (mounted left : Parts M B) (stage : Stage) → map address_of mounted.blocks.items ≡ map address_of old
-      → map content_of mounted.blocks.items ≡ map content_of old → IsBlockRun address_of content_of bytes 1 old → (stage ≡ Mount → left ≡ mounted)
-      → (stage ≢ Mount → AreGivenUp seen may_leave address_of content_of geometry left) → (size : ℕ) × IsBlockRun address_of content_of size 1 left.blocks.items
-  fault_run geometry bytes old mounted left stage addresses contents run back given_up = elim (at_mount stage) [
-    | inl is ↦ refused_run bytes old mounted left addresses contents run (back is)
-    | inr later ↦ (_, (given_up later).size.run)
-  ]
-
   pub size_back : (geometry : Geometry) (made left : Parts M B) (stage : Stage) → HasSuper geometry (seen made.meta) → HasSize seen address_of content_of geometry made
       → (stage ≡ Mount → AreSameParts seen address_of content_of made left)
       → (stage ≢ Mount → (other : Geometry) × HasSuper other (seen made.meta) × AreGivenUp seen may_leave address_of content_of other left) → HasSize seen address_of content_of geometry left

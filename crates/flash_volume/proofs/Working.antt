@@ -1,18 +1,16 @@
--- Work on a mounted volume is work on the image that the device held, since a mount changes no byte of a block; and a device that
--- was just formatted holds no file, so work on it begins with no pass.
-use Rattle.std.proofs.Common.{◌≡◌, ◌∙◌, ℕ, ◌-◌, List, [], ◌∷◌, ap, subst, refl, get_or, map}
+-- A device that was just formatted holds no file, so work on it begins with no pass. However a volume was left, its parts can be mounted
+-- again.
+use Rattle.std.proofs.Common.{◌≡◌, ◌∙◌, ℕ, List, [], ◌∷◌, subst, refl, map}
 use Rattle.device.specs.declared.parts.Parts.{Parts}
 use Rattle.device.specs.Parts.{IsBlockRun}
 use Rattle.file_cells.specs.Pass.{Pass}
-use Rattle.flash_volume.specs.Worked.{AreLeft, EndedWith, WorkedFrom, WorkedOn}
+use Rattle.flash_volume.specs.Worked.{AreLeft, EndedWith, WorkedOn}
 use Rattle.flash_volume.specs.declared.leave.Leave.{Leave}
 use Rattle.flash_volume.specs.declared.leave.Leave.TheVariants.{Close, Discard}
 use Rattle.geometry.specs.File.{File}
 use Rattle.geometry.specs.declared.geometry.Geometry.{Geometry}
 use Rattle.image.specs.Files.{files}
-use Rattle.image.specs.Image.{Image}
 use Rattle.image_codec.specs.Blocks.{bytes_at}
-use Rattle.volume_law.specs.Lawful.{HoldsLawfulVolume}
 
 abbrev pair : Pass → ℕ × File
 pair pass = (pass.number, pass.file)
@@ -23,18 +21,6 @@ no_pass [] none = refl
 no_pass (pass ∷ passes) none = absurd (let no = none in cc)
 
 module _ {M B : Type 0} (seen : M → List ℕ) (may_leave : M → List ℕ → Type 0) (address_of : B → ℕ) (content_of : B → List ℕ) (promise : Geometry → List Pass → List Pass → Type 0) where
-  pub worked_on : (geometry : Geometry) (image : Image) (blocks : List B) (parts : Parts M B) (leave : Leave) (left : Parts M B)
-      → HoldsLawfulVolume seen address_of content_of geometry image parts → map content_of blocks ≡ map content_of parts.blocks.items
-      → WorkedFrom seen may_leave address_of content_of promise geometry image (bytes_at content_of blocks) leave left
-      → WorkedOn seen may_leave address_of content_of promise parts leave left
-  worked_on geometry image blocks parts leave left held same worked = record {
-    geometry = geometry;
-    image = image;
-    held = held;
-    worked = subst (λ (bytes : ℕ → List ℕ). WorkedFrom seen may_leave address_of content_of promise geometry image bytes leave left)
-        (ap (λ (contents : List (List ℕ)). λ (address : ℕ). get_or contents (address - 1) []) same) worked;
-  }
-
   pub worked_on_new : (geometry : Geometry) (parts : Parts M B) (leave : Leave) (left : Parts M B) (on : WorkedOn seen may_leave address_of content_of promise parts leave left)
       → on.geometry ≡ geometry → files on.geometry on.image (bytes_at content_of parts.blocks.items) ≡ []
       → EndedWith seen may_leave address_of content_of (promise geometry []) leave geometry left
@@ -43,7 +29,6 @@ module _ {M B : Type 0} (seen : M → List ℕ) (may_leave : M → List ℕ → 
       subst (λ (numbers : Geometry). EndedWith seen may_leave address_of content_of (promise numbers []) leave numbers left) same
       (subst (λ (before : List Pass). EndedWith seen may_leave address_of content_of (promise on.geometry before) leave on.geometry left) none on.worked.ended)
 
--- however a volume was left, its parts can be mounted again
 module _ {M B : Type 0} (seen : M → List ℕ) (may_leave : M → List ℕ → Type 0) (address_of : B → ℕ) (content_of : B → List ℕ) where
   pub left_run : (leave : Leave) (geometry : Geometry) (passes : List Pass) (left : Parts M B) → AreLeft seen may_leave address_of content_of leave geometry passes left
       → (bytes : ℕ) × IsBlockRun address_of content_of bytes 1 left.blocks.items

@@ -1,2 +1,3 @@
 pub mod Beside
+pub mod Visited
 pub mod Worked

@@ -1,5 +1,5 @@
 -- What work on a volume comes to. What the parts of a device show, and what the work promises, are arguments.
-use Rattle.std.specs.Prelude.{◌≡◌, ◌⊎◌, ◌↔◌, ℕ, List, map}
+use Rattle.std.specs.Prelude.{◌≡◌, ◌⊎◌, ◌↔◌, ℕ, List, map, Result, IfOk, IfErr}
 use Rattle.close_area.specs.Refused.{IsNotWritten}
 use Rattle.close_area.specs.Shown.{AreShown}
 use Rattle.checkpoint.specs.Standing.{HasVolume}
@@ -7,8 +7,11 @@ use Rattle.device.specs.Disk.{Leaves}
 use Rattle.device.specs.Parts.{HasSize}
 use Rattle.device.specs.declared.parts.Parts.{Parts}
 use Rattle.file_cells.specs.Pass.{Pass}
+use Rattle.flash_volume.specs.declared.leave.Done.{Done}
+use Rattle.flash_volume.specs.declared.leave.Fault.{Fault}
 use Rattle.flash_volume.specs.declared.leave.Leave.{Leave}
 use Rattle.flash_volume.specs.declared.leave.Leave.TheVariants.{Close, Discard}
+use Rattle.flash_volume.specs.declared.leave.Stage.TheVariants.{Work as AtWork, Close as AtClose}
 use Rattle.geometry.specs.File.{Block}
 use Rattle.geometry.specs.declared.error.Error.{Error}
 use Rattle.geometry.specs.declared.geometry.Geometry.{Geometry}
@@ -50,6 +53,13 @@ module _ {M B : Type 0} (seen : M → List ℕ) (may_leave : M → List ℕ → 
     pub after : List Pass
     pub kept : promise after
     pub left_so : AreLeft leave geometry after left
+
+  -- Work was done, which promises this of what it answers and of the passes that it ends with, and its volume was left; or it was
+  -- refused, or the close was, and nothing more was written.
+  pub record WasWorked {O : Type 0} (promise : O → List Pass → Type 0) (leave : Leave) (geometry : Geometry) (result : Result (Done M B O) (Fault M B)) : Type 0 where
+    pub done : IfOk result (λ done. EndedWith (promise done.output) leave geometry done.parts)
+    pub given_up : IfErr result (λ fault. AreGivenUp geometry fault.parts)
+    pub cause : IfErr result (λ fault. (fault.stage ≡ AtWork) ⊎ ((fault.stage ≡ AtClose) × IsNotClosed fault.error))
 
   -- work began with the passes of the files of this image over these blocks, and ended
   pub record WorkedFrom (promise : Geometry → List Pass → List Pass → Type 0) (geometry : Geometry) (image : Image) (blocks : ℕ → Block) (leave : Leave) (left : Parts M B) : Type 0 where

@@ -1,14 +1,15 @@
 //! A volume is worked on, and left.
-ghost use Rattle.std.specs.Prelude.{◌≡◌, ◌⊎◌, IfOk, IfErr};
+ghost use Rattle.std.specs.Prelude.{◌≡◌, IfOk, IfErr};
 ghost use Rattle.flash_volume.specs.Beside.{AreDoneBeside};
-ghost use Rattle.flash_volume.specs.Worked.{AreClosed, AreGivenUp, AreLeft, EndedWith, IsNotClosed};
-ghost use Rattle.flash_volume.specs.declared.leave.Stage.TheVariants.{Work as AtWork, Close as AtClose};
+ghost use Rattle.flash_volume.specs.Worked.{AreClosed, AreGivenUp, AreLeft, IsNotClosed, WasWorked};
+ghost use Rattle.flash_volume.specs.declared.leave.Stage.TheVariants.{Close as AtClose};
 
 use crate::beside::Beside;
 use crate::block::SharedBlock;
 use crate::leave::{Done, Fault, Leave, Stage};
 use crate::rights::Rights;
 use crate::threads::work_on_threads;
+use crate::visit::Visit;
 use crate::work::Work;
 use device::{Block, Meta, Parts};
 use rights_names::VolumeName;
@@ -17,21 +18,19 @@ use std::sync::Wait;
 use std::thread::Threads;
 use volume::{CloseFault, Closed, SharedName, Volume};
 
-// Works on a volume, and leaves it. Where the work is refused, nothing more is written.
-pub(crate) fn work_and_leave<V: VolumeName, M: Meta, B: Block + Drop, R: Wait, W: Work<M, B>>(
+// Visits a volume, and leaves it. Where the visit is refused, nothing more is written.
+pub(crate) fn visit_and_leave<V: VolumeName, M: Meta, B: Block + Drop, R: Wait, X: Visit<M, B>>(
     rt: &R,
     alloc: Global,
     volume: Volume<V, M, B>,
     rights: Rights<V>,
     leave: Leave,
-    work: W,
-) -> Result<Done<M, B, W::Output>, Fault<M, B>>
-    ensures done { IfOk result (λ done. EndedWith M.seen M.may_leave B.address_of B.content_of (λ after. W.post work V.Numbers.geometry rights.passes.items done.output after) leave V.Numbers.geometry done.parts) }
-    ensures given_up { IfErr result (λ fault. AreGivenUp M.seen M.may_leave B.address_of B.content_of V.Numbers.geometry fault.parts) }
-    ensures cause { IfErr result (λ fault. (fault.stage ≡ AtWork) ⊎ ((fault.stage ≡ AtClose) × IsNotClosed fault.error)) }
+    visit: X,
+) -> Result<Done<M, B, X::Output>, Fault<M, B>>
+    ensures { WasWorked M.seen M.may_leave B.address_of B.content_of (λ output after. X.did visit V.Numbers.geometry volume.base rights.passes.items output after) leave V.Numbers.geometry result }
 {
     let mut rights = rights;
-    match work.run(rt, alloc, &volume, &mut rights) {
+    match visit.visit(rt, alloc, &volume, &mut rights) {
         Ok(output) => match leave_volume(rt, volume, rights, leave) {
             Ok(parts) => Ok(Done { parts, output }),
             Err(fault) => Err(fault),
@@ -61,9 +60,7 @@ pub(crate) fn work_side_by_side_and_leave<
 ) -> Result<Done<M, B, Vec<W::Output>>, Fault<M, B>>
 where
     W::Output: Send,
-    ensures done { IfOk result (λ done. EndedWith M.seen M.may_leave B.address_of B.content_of (λ after. AreDoneBeside W.post V.Numbers.geometry works.items rights.passes.items done.output.items after) leave V.Numbers.geometry done.parts) }
-    ensures given_up { IfErr result (λ fault. AreGivenUp M.seen M.may_leave B.address_of B.content_of V.Numbers.geometry fault.parts) }
-    ensures cause { IfErr result (λ fault. (fault.stage ≡ AtWork) ⊎ ((fault.stage ≡ AtClose) × IsNotClosed fault.error)) }
+    ensures { WasWorked M.seen M.may_leave B.address_of B.content_of (λ outputs after. AreDoneBeside W.post V.Numbers.geometry works.items rights.passes.items outputs.items after) leave V.Numbers.geometry result }
 {
     let mut rights = rights;
     match work_on_threads(rt, alloc, &volume, &mut rights, works) {

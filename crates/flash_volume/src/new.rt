@@ -8,8 +8,8 @@ ghost use Rattle.geometry.specs.declared.error.Error.TheVariants.{NoMemory, Devi
 
 use crate::beside::Beside;
 use crate::block::SharedBlock;
-use crate::ladder::work_on;
 use crate::leave::{Done, Fault, Leave, Stage};
+use crate::one_work::work_on;
 use crate::side_by_side::work_side_by_side;
 use crate::work::Work;
 use device::{Block, Meta, Parts};

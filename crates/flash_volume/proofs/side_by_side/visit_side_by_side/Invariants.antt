@@ -1,4 +1,4 @@
-use Rattle.flash_volume.proofs.ladder.work_on.Given as goal
+use Rattle.flash_volume.proofs.side_by_side.visit_side_by_side.Given as goal
 
 -- what was just read of the device
 abbrev pub ghosts-on_mounted : goal.ghosts-on_mounted

@@ -1,4 +1,4 @@
-use Rattle.flash_volume.proofs.side_by_side.work_side_by_side.Given as goal
+use Rattle.flash_volume.proofs.ladder.visit_volume.Given as goal
 
 -- what was just read of the device
 abbrev pub ghosts-on_mounted : goal.ghosts-on_mounted

@@ -1,5 +1,0 @@
-use Rattle.std.proofs.Common.{inr}
-use Rattle.flash_volume.proofs.leaving.work_and_leave.Goals as goal
-
-pub returns-in-Err-leave_volume-clause-cause : goal.returns-in-Err-leave_volume-clause-cause
-returns-in-Err-leave_volume-clause-cause g c = inr (c.in-Err-leave_volume.ensures.stage, c.in-Err-leave_volume.ensures.error)

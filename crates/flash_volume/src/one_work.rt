@@ -1,0 +1,87 @@
+//! One work is done on a device's volume.
+ghost use Rattle.std.specs.Prelude.{◌≡◌, ◌≢◌, ℕ, IfOk, IfErr};
+ghost use Rattle.device.specs.Parts.{IsBlockRun};
+ghost use Rattle.flash_volume.specs.Worked.{AreGivenUp, IsNotClosed, WorkedOn};
+ghost use Rattle.flash_volume.specs.declared.leave.Stage.TheVariants.{Format as AtFormat, Mount as AtMount, Close as AtClose};
+ghost use Rattle.geometry.specs.declared.geometry.Geometry.{Geometry};
+ghost use Rattle.mount_reading.specs.Held.{AreSameParts, IsPartsRefusal};
+ghost use Rattle.packs_format.specs.Grammar.{HasSuper};
+
+use crate::ladder::visit_volume;
+use crate::leave::{Done, Fault, Leave, Stage};
+use crate::rights::Rights;
+use crate::visit::Visit;
+use crate::work::Work;
+use device::{Block, Meta, Parts};
+use geometry::Error;
+use mount_reading::OpenFault;
+use rights_names::VolumeName;
+use std::alloc::Global;
+use std::sync::Wait;
+use volume::Volume;
+
+/// Mounts the volume of a device, does the work on it, and leaves it. After Ok the work's promise holds between the files that the
+/// image on the parts had and those with which it ended. With `Close` the parts that come back hold a lawful image with these
+/// files and no other; with `Discard` leaving wrote nothing to them.
+///
+/// Each fault hands the parts back. At Mount it is a refusal of the parts, as a mount's, and they are as they were. At Work it
+/// is the work's own error, and at Close PassesOut or SeatsOut where a right is missing, or a refusal of the last checkpoint:
+/// then the volume is given up, and a mount finds what the last checkpoint has.
+pub fn work_on<M: Meta, B: Block + Drop, R: Wait, W: Work<M, B> + Drop>(
+    rt: &R,
+    alloc: Global,
+    parts: Parts<M, B>,
+    leave: Leave,
+    work: W,
+) -> Result<Done<M, B, W::Output>, Fault<M, B>>
+    requires run { (bytes : ℕ) × IsBlockRun B.address_of B.content_of bytes 1 parts.blocks.items }
+    ensures done { IfOk result (λ done. WorkedOn M.seen M.may_leave B.address_of B.content_of (λ geometry before after. W.post work geometry before done.output after) parts leave done.parts) }
+    ensures again { IfOk result (λ done. (bytes : ℕ) × IsBlockRun B.address_of B.content_of bytes 1 done.parts.blocks.items) }
+    ensures stage { IfErr result (λ fault. fault.stage ≢ AtFormat) }
+    ensures refused { IfErr result (λ fault. fault.stage ≡ AtMount → IsPartsRefusal M.seen B.address_of B.content_of parts fault.error) }
+    ensures same { IfErr result (λ fault. fault.stage ≡ AtMount → AreSameParts M.seen B.address_of B.content_of parts fault.parts) }
+    ensures given_up { IfErr result (λ fault. fault.stage ≢ AtMount → (geometry : Geometry) × HasSuper geometry (M.seen parts.meta) × AreGivenUp M.seen M.may_leave B.address_of B.content_of geometry fault.parts) }
+    ensures after_fault { IfErr result (λ fault. (bytes : ℕ) × IsBlockRun B.address_of B.content_of bytes 1 fault.parts.blocks.items) }
+    ensures not_closed { IfErr result (λ fault. fault.stage ≡ AtClose → IsNotClosed fault.error) }
+{
+    match visit_volume(rt, alloc, parts, leave, OneWork { work }) {
+        Ok(left) => left,
+        Err(fault) => Err(unmounted(fault)),
+    }
+}
+
+// A mount was refused.
+pub(crate) fn unmounted<M: Meta, B: Block>(fault: OpenFault<M, B>) -> Fault<M, B>
+    ensures parts { result.parts ≡ fault.parts }
+    ensures stage { result.stage ≡ AtMount }
+    ensures error { result.error ≡ fault.error }
+{
+    let OpenFault { parts, error } = fault;
+    Fault {
+        parts,
+        stage: Stage::Mount,
+        error,
+    }
+}
+
+// A visit that does one work.
+#[derive(Drop)]
+struct OneWork<W> {
+    work: W,
+}
+
+impl<M: Meta, B: Block + Drop, W: Work<M, B> + Drop> Visit<M, B> for OneWork<W> {
+    type Output = W::Output;
+
+    ghost did = { λ one geometry base before output after. W.post one.work geometry before output after };
+
+    fn visit<V: VolumeName, R: Wait>(
+        self,
+        rt: &R,
+        alloc: Global,
+        volume: &Volume<V, M, B>,
+        rights: &mut Rights<V>,
+    ) -> Result<W::Output, Error> {
+        self.work.run(rt, alloc, volume, rights)
+    }
+}
