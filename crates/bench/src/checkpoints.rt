@@ -1,7 +1,7 @@
 //! How long checkpoints take, a close and a mount, on one thread.
 //!
-//! A new volume gets a file. Then one of its blocks is written again and a checkpoint written, and then a tenth of them and
-//! another one; the volume is closed, and what was closed is mounted. In a small volume what was done is told. Otherwise the
+//! A new volume gets a file, some of whose blocks stand so far from each other that each has a node of its own. Then a block is
+//! written again and a checkpoint written, which finds few nodes marked, and then a tenth of the first blocks and another one; the volume is closed, and what was closed is mounted. In a small volume what was done is told. Otherwise the
 //! microseconds are told, beside those of one copy of the bytes of a pack, and how many these are.
 mod report;
 mod work;
@@ -18,37 +18,62 @@ use std::sync::Wait;
 use std::time::{Clock, Duration, Instant};
 use work::WriteAndSync;
 
-/// What is measured: a volume of so many segments, and a file of so many blocks.
+/// What is measured: a volume of so many segments and node numbers, and a file of so many blocks, and of so many more that stand far
+/// from each other.
 #[derive(Clone, Copy)]
 pub struct Size {
     pub shape: Shape,
     pub segments: u32,
+    pub nodes: u32,
     pub blocks: u32,
+    pub far: u32,
 }
 
-const SHOWN: [Size; 2] = [
+const SHOWN: [Size; 3] = [
     Size {
         shape: Shape::TINY,
         segments: 32,
+        nodes: 64,
         blocks: 20,
+        far: 0,
     },
     Size {
         shape: Shape::TINY,
         segments: 64,
+        nodes: 64,
         blocks: 20,
+        far: 0,
+    },
+    Size {
+        shape: Shape::TINY,
+        segments: 64,
+        nodes: 128,
+        blocks: 20,
+        far: 8,
     },
 ];
 
-const MEASURED: [Size; 2] = [
+const MEASURED: [Size; 3] = [
     Size {
         shape: Shape::KERNEL,
         segments: 64,
+        nodes: 1024,
         blocks: 20_000,
+        far: 0,
     },
     Size {
         shape: Shape::KERNEL,
         segments: 512,
+        nodes: 1024,
         blocks: 20_000,
+        far: 0,
+    },
+    Size {
+        shape: Shape::KERNEL,
+        segments: 512,
+        nodes: 65_536,
+        blocks: 20,
+        far: 30_000,
     },
 ];
 
@@ -64,7 +89,7 @@ pub fn measure_all<R: Runtime + Wait>(rt: &R, alloc: Global, is_measure: bool) -
 
 // Measures checkpoints, a close and a mount on a new volume, which is given up.
 fn measure<R: Clock + Wait>(rt: &R, alloc: Global, size: Size) -> Result<Found, Fault> {
-    let geometry = Geometry::new(size.shape, size.segments, 1, 4, 1024)?;
+    let geometry = Geometry::new(size.shape, size.segments, 1, 4, size.nodes)?;
     let parts = MemDevice::new(alloc, &geometry)?.split();
     let work = WriteAndSync { clock: rt, size };
     let done = work_on_new(rt, alloc, parts, geometry, Leave::Close, work)?;

@@ -8,6 +8,7 @@
 //! 2/(1-u), where u is the part of a section that was valid.
 mod counts;
 mod load;
+mod picks;
 mod run;
 
 use crate::fault::Fault;
@@ -104,7 +105,7 @@ impl<M: Meta, B: Block + Drop> Work<M, B> for Overwrites {
     ) -> Result<Counts, Error> {
         let load = self.0;
         let mut run = Run::open(rt, alloc, volume, load)?;
-        run.fill(rt)?;
+        run.write_some(rt, load.blocks())?;
         run.write_some(rt, load.size.writes)?;
         run.counts = Counts::none();
         run.write_some(rt, load.size.writes)?;

@@ -58,33 +58,26 @@ impl<'a, V: VolumeName, M: Meta, B: Block + Drop> Desk<'a, V, M, B> {
             .write(rt, &mut self.pass, index, self.block.as_slice(), time)
     }
 
-    /// Writes so many blocks from index 0 on.
-    pub fn write_first<R: Wait>(&mut self, rt: &R, count: u32) -> Result<(), Error> {
-        for index in 0..count {
-            self.write(rt, index, 0)?;
+    /// Writes so many blocks, each so far behind the one before, from an index on.
+    pub fn write_each<R: Wait>(
+        &mut self,
+        rt: &R,
+        first: u32,
+        step: u32,
+        count: u32,
+    ) -> Result<(), Error> {
+        for place in 0..count {
+            self.write(rt, first.saturating_add(place.saturating_mul(step)), 0)?;
         }
         Ok(())
     }
 
-    /// Writes so many blocks from an index on, and tells how many of these writes were accepted.
-    pub fn append<R: Wait>(&mut self, rt: &R, first: u32, blocks: u32) -> u32
-        ensures { result ≤ blocks }
-    {
-        let mut done = 0;
-        for place in 0..blocks {
-            if self.write(rt, first.saturating_add(place), 0).is_ok() {
-                done += 1;
-            }
-        }
-        done
-    }
-
-    /// Writes the blocks at an index and behind it so often again, in no order, and tells how many of these writes were accepted.
-    pub fn overwrite<R: Wait>(&mut self, rt: &R, first: u32, blocks: u32, calls: u32) -> u32
+    /// Writes blocks at so many places, and tells how many of these writes were accepted.
+    pub fn write_some<R: Wait>(&mut self, rt: &R, places: Places, calls: u32) -> u32
         ensures { result ≤ calls }
     {
+        let mut places = places;
         let mut done = 0;
-        let mut places = Places::of(first, blocks);
         for _call in 0..calls {
             if self.write(rt, places.pick(), 0).is_ok() {
                 done += 1;
@@ -93,24 +86,20 @@ impl<'a, V: VolumeName, M: Meta, B: Block + Drop> Desk<'a, V, M, B> {
         done
     }
 
-    /// Reads so many of the blocks at an index and behind it, in no order, and tells how many there were.
-    pub fn read_some<R: Wait>(&mut self, rt: &R, first: u32, blocks: u32, calls: u32) -> u32
+    /// Reads the blocks at so many places, and tells how many there were. There is none past the end of the file.
+    pub fn read_some<R: Wait>(&mut self, rt: &R, places: Places, calls: u32) -> u32
         ensures { result ≤ calls }
     {
+        let mut places = places;
         let mut done = 0;
-        let mut places = Places::of(first, blocks);
         for _call in 0..calls {
-            if let Ok(true) = self.read(rt, places.pick()) {
+            let index = places.pick();
+            let block = self.block.as_mut_slice();
+            if let Ok(true) = self.volume.read(rt, &self.pass, index, block) {
                 done += 1;
             }
         }
         done
-    }
-
-    // Reads the bytes of a block, and tells whether there is one. There is none past the end of the file.
-    fn read<R: Wait>(&mut self, rt: &R, index: u32) -> Result<bool, Error> {
-        self.volume
-            .read(rt, &self.pass, index, self.block.as_mut_slice())
     }
 
     /// Writes a checkpoint that has the file.
@@ -128,28 +117,17 @@ impl<'a, V: VolumeName, M: Meta, B: Block + Drop> Desk<'a, V, M, B> {
         self.volume.snapshot(rt, &self.pass, seat)
     }
 
-    /// Lets a reader show so many of the blocks at an index and behind it, in no order, and tells how many it showed.
-    pub fn look_at_some(
-        &mut self,
-        reader: &Reader<'_, V, B>,
-        first: u32,
-        blocks: u32,
-        calls: u32,
-    ) -> u32
+    /// Lets a reader show the blocks at so many places, which are read, and tells how many it showed.
+    pub fn look_at_some(&mut self, reader: &Reader<'_, V, B>, places: Places, calls: u32) -> u32
         ensures { result ≤ calls }
     {
+        let mut places = places;
         let mut done = 0;
-        let mut places = Places::of(first, blocks);
         for _call in 0..calls {
-            if self.look(reader, places.pick()) {
+            if reader.block(places.pick(), self.block.as_mut_slice()) {
                 done += 1;
             }
         }
         done
-    }
-
-    // Whether a reader shows a block at an index. It is read.
-    fn look(&mut self, reader: &Reader<'_, V, B>, index: u32) -> bool {
-        reader.block(index, self.block.as_mut_slice())
     }
 }

@@ -1,7 +1,5 @@
-//! What calls, steps and reads cost: seven measurements, each on what it makes in memory.
+//! What calls cost: five measurements, each on what it makes in memory.
 //!
-//! - `pairs`: how long steps on the ghost accounts' tables take, beside a bare addition and subtraction.
-//! - `images`: how long the read of an image file takes, also of one that was made to mislead.
 //! - `calls`: how long appends, overwrites, reads and readers take on one thread, at each depth of the index tree.
 //! - `threads`: how long an overwrite takes where threads write side by side.
 //! - `checkpoints`: how long checkpoints take, a close and a mount.
@@ -19,10 +17,8 @@ mod cleans;
 mod depth;
 mod desk;
 mod fault;
-mod images;
 mod measurement;
 mod mounts;
-mod pairs;
 mod places;
 mod report;
 mod request;
@@ -81,8 +77,6 @@ fn measure<R: Runtime + Threads + Wait + Sync>(
     let name = measurement.name();
     println!(rt; "{name}:")?;
     match measurement {
-        Measurement::Pairs => pairs::measure_all(rt, alloc, is_measure),
-        Measurement::Images => images::measure_all(rt, alloc, is_measure),
         Measurement::Calls => calls::measure_all(rt, alloc, is_measure),
         Measurement::Threads => threads::measure_all(rt, alloc, is_measure),
         Measurement::Checkpoints => checkpoints::measure_all(rt, alloc, is_measure),

@@ -3,8 +3,6 @@
 /// What is measured.
 #[derive(Clone, Copy)]
 pub enum Measurement {
-    Pairs,
-    Images,
     Calls,
     Threads,
     Checkpoints,
@@ -13,9 +11,7 @@ pub enum Measurement {
 }
 
 /// Each measurement, in the order in which they are done.
-pub const MEASUREMENTS: [Measurement; 7] = [
-    Measurement::Pairs,
-    Measurement::Images,
+pub const MEASUREMENTS: [Measurement; 5] = [
     Measurement::Calls,
     Measurement::Threads,
     Measurement::Checkpoints,
@@ -24,22 +20,12 @@ pub const MEASUREMENTS: [Measurement; 7] = [
 ];
 
 /// The word of each measurement.
-pub const WORDS: [&str; 7] = [
-    "pairs",
-    "images",
-    "calls",
-    "threads",
-    "checkpoints",
-    "cleaning",
-    "mounts",
-];
+pub const WORDS: [&str; 5] = ["calls", "threads", "checkpoints", "cleaning", "mounts"];
 
 impl Measurement {
     /// Its word in the arguments and in front of its lines.
     pub fn name(self) -> &'static str {
         match self {
-            Measurement::Pairs => "pairs",
-            Measurement::Images => "images",
             Measurement::Calls => "calls",
             Measurement::Threads => "threads",
             Measurement::Checkpoints => "checkpoints",

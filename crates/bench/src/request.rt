@@ -37,7 +37,7 @@ fn program<'a>(alloc: Global) -> Result<Command<'a>, AllocError> {
         .help("The one measurement to do; else all are done")
         .value_parser(WORDS.as_slice());
     Command::new(alloc, "bench")
-        .about("Measures the calls, steps and reads of a flash volume, in memory.")
+        .about("Measures the calls of a flash volume, in memory.")
         .arg(measure)?
         .arg(what)
 }

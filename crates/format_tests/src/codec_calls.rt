@@ -41,12 +41,12 @@ fn inode_of_one_block(rt: HostRuntime) -> Result<(), Fail> {
     let node = decode_node(rt.alloc(), Shape::TINY, &INODE)?.ok_or("no node")?;
     let mut written = [7; 64];
     encode_node(Shape::TINY, &node, &mut written);
-    assert_eq!(rt; (node.nid, node.inode, node.length), (1, 1, 1));
-    assert_eq!(rt; node.class, Class::Inode);
-    assert_eq!(rt; node.kind, Kind::File);
-    assert_eq!(rt; node.addresses.as_slice(), [33, 0, 0].as_slice());
-    assert_eq!(rt; node.children.as_slice(), [0, 0, 0, 0, 0].as_slice());
-    assert_eq!(rt; written.as_slice(), INODE.as_slice());
+    assert!(rt; (node.nid, node.inode, node.length) == (1, 1, 1));
+    assert!(rt; node.class == Class::Inode);
+    assert!(rt; node.kind == Kind::File);
+    assert!(rt; node.addresses.as_slice() == [33, 0, 0].as_slice());
+    assert!(rt; node.children.as_slice() == [0, 0, 0, 0, 0].as_slice());
+    assert!(rt; written.as_slice() == INODE.as_slice());
     Ok(())
 }
 
@@ -62,20 +62,20 @@ fn direct_and_indirect<R: Abort + AllocGlobal>(
     let block = node_block(rt.alloc(), size, 1)?;
     let node = decode_node(rt.alloc(), shape, &block)?.ok_or("no direct node")?;
     encode_node(shape, &node, &mut written);
-    assert_eq!(rt; (node.nid, node.inode, node.length), (70, 3, 0));
-    assert_eq!(rt; node.class, Class::Direct);
-    assert_eq!(rt; (node.addresses.len(), node.children.len()), (entries, 0));
-    assert_eq!(rt; node.addresses.first().copied(), Some(9));
-    assert_eq!(rt; node.addresses.last().copied(), Some(1_000));
-    assert_eq!(rt; written.as_slice(), block.as_slice());
+    assert!(rt; (node.nid, node.inode, node.length) == (70, 3, 0));
+    assert!(rt; node.class == Class::Direct);
+    assert!(rt; (node.addresses.len(), node.children.len()) == (entries, 0));
+    assert!(rt; node.addresses.first().copied() == Some(9));
+    assert!(rt; node.addresses.last().copied() == Some(1_000));
+    assert!(rt; written.as_slice() == block.as_slice());
 
     let block = node_block(rt.alloc(), size, 2)?;
     let node = decode_node(rt.alloc(), shape, &block)?.ok_or("no indirect node")?;
     encode_node(shape, &node, &mut written);
-    assert_eq!(rt; node.class, Class::Indirect);
-    assert_eq!(rt; (node.addresses.len(), node.children.len()), (0, entries));
-    assert_eq!(rt; node.children.last().copied(), Some(1_000));
-    assert_eq!(rt; written.as_slice(), block.as_slice());
+    assert!(rt; node.class == Class::Indirect);
+    assert!(rt; (node.addresses.len(), node.children.len()) == (0, entries));
+    assert!(rt; node.children.last().copied() == Some(1_000));
+    assert!(rt; written.as_slice() == block.as_slice());
 
     assert!(rt; is_none(rt.alloc(), shape, &node_block(rt.alloc(), size, 3)?)?);
     Ok(())
@@ -93,22 +93,15 @@ fn damaged_blocks(rt: HostRuntime) -> Result<(), Fail> {
         let mut block = INODE;
         block[at] ^= 128;
         let stated = matches!(at, 4..8 | 48..64);
-        assert_eq!(rt;
-            is_none(rt.alloc(), Shape::TINY, &block)?,
-            stated,
-            "byte {at}"
-        );
+        let none = is_none(rt.alloc(), Shape::TINY, &block)?;
+        assert!(rt; none == stated, "byte {at}");
     }
     for (at, byte) in [(4, 3), (40, 0), (44, 0), (48, 3)] {
         let mut block = INODE;
         block[at] = byte;
         assert!(rt; is_none(rt.alloc(), Shape::TINY, &block)?, "byte {at}");
     }
-    Ok(())
-}
-
-#[test]
-fn blocks_of_another_length(rt: HostRuntime) -> Result<(), Fail> {
+    // Blocks of another length.
     assert!(rt; is_none(rt.alloc(), Shape::TINY, &[])?);
     assert!(rt; is_none(rt.alloc(), Shape::TINY, &INODE[..63])?);
     assert!(rt; is_none(rt.alloc(), Shape::KERNEL, &INODE)?);

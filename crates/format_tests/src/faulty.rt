@@ -25,15 +25,6 @@ fn three_writes(alloc: Global, late: bool) -> Result<([(bool, u8); 3], u64), All
     Ok((turns, meta.failures()))
 }
 
-#[test]
-fn the_second_write_fails(rt: HostRuntime) -> Result<(), Fail> {
-    let before = three_writes(rt.alloc(), false)?;
-    assert_eq!(rt; before, ([(true, 1u8), (false, 1), (true, 3)], 1u64));
-    let late = three_writes(rt.alloc(), true)?;
-    assert_eq!(rt; late, ([(true, 1u8), (false, 2), (true, 3)], 1u64));
-    Ok(())
-}
-
 // What one write of a byte to a block answers, and what stands there after it.
 fn write_byte(block: &mut Faulty<MemBlock>, byte: u8) -> (bool, u8)
     requires { length (⟦<Faulty<MemBlock> as Block>⟧.content_of block.old) ≡ 1 }
@@ -57,12 +48,17 @@ fn three_block_writes(alloc: Global, late: bool) -> Result<([(bool, u8); 3], u64
     Ok(([first, second, third], block.failures()))
 }
 
+// What is answered and what stands there then, where the second write fails before it is done, and where it fails late.
+const BEFORE: ([(bool, u8); 3], u64) = ([(true, 1), (false, 1), (true, 3)], 1);
+
+const LATE: ([(bool, u8); 3], u64) = ([(true, 1), (false, 2), (true, 3)], 1);
+
 #[test]
-fn the_second_write_of_a_block_fails(rt: HostRuntime) -> Result<(), Fail> {
-    let before = three_block_writes(rt.alloc(), false)?;
-    assert_eq!(rt; before, ([(true, 1u8), (false, 1), (true, 3)], 1u64));
-    let late = three_block_writes(rt.alloc(), true)?;
-    assert_eq!(rt; late, ([(true, 1u8), (false, 2), (true, 3)], 1u64));
+fn the_second_write_fails(rt: HostRuntime) -> Result<(), Fail> {
+    for (late, wanted) in [(false, BEFORE), (true, LATE)] {
+        assert!(rt; three_writes(rt.alloc(), late)? == wanted);
+        assert!(rt; three_block_writes(rt.alloc(), late)? == wanted);
+    }
     Ok(())
 }
 
@@ -85,21 +81,11 @@ fn a_lease_of_a_faulty_block_keeps_its_bytes(rt: HostRuntime) -> Result<(), Fail
 }
 
 #[test]
-fn a_sync_counts_as_a_call(rt: HostRuntime) -> Result<(), Fail> {
-    let fuse = Arc::new(rt.alloc(), Fuse::new(rt.alloc()))?;
-    let mut meta = Faulty::new(MemMeta::new(Vec::new(rt.alloc())), Arc::try_clone(&fuse)?);
-    assert!(rt; meta.sync().is_ok());
-    fuse.arm(1, false)?;
-    assert!(rt; meta.sync().is_err());
-    assert!(rt; meta.sync().is_ok());
-    assert_eq!(rt; meta.failures(), 1);
-    Ok(())
-}
-
-#[test]
 fn two_failures_wait_side_by_side(rt: HostRuntime) -> Result<(), Fail> {
     let fuse = Arc::new(rt.alloc(), Fuse::new(rt.alloc()))?;
     let mut meta = Faulty::new(MemMeta::new(Vec::new(rt.alloc())), Arc::try_clone(&fuse)?);
+    // A sync counts as a call, and one that was not armed passes.
+    assert!(rt; meta.sync().is_ok());
     assert!(rt; fuse.arm(3, false).is_ok());
     assert!(rt; fuse.arm(1, false).is_ok());
     // The earlier one decides: the call is not done.
@@ -108,6 +94,6 @@ fn two_failures_wait_side_by_side(rt: HostRuntime) -> Result<(), Fail> {
     assert!(rt; meta.sync().is_ok());
     assert!(rt; meta.sync().is_err());
     assert!(rt; meta.sync().is_ok());
-    assert_eq!(rt; meta.failures(), 2);
+    assert!(rt; meta.failures() == 2);
     Ok(())
 }

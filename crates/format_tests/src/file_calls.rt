@@ -75,13 +75,13 @@ fn an_image_file_has_what_was_written(rt: HostRuntime) -> Result<(), Fail> {
         mut blocks,
     } = keep_in(rt.alloc(), device, &geometry, file)?;
     let lent = write_both(&mut meta, &mut blocks.as_mut_slice()[1])?;
-    assert_eq!(rt; lent, Some(7));
+    assert!(rt; lent == Some(7));
     drop((meta, blocks));
     let bytes = fs::read(&rt, PATH)?;
     let at = geometry.meta_bytes() as usize;
     assert!(rt; bytes.as_slice().get(3..7) == Some(b"meta".as_slice()));
     assert!(rt; bytes.as_slice().get(at + 64..at + 128) == Some([8u8; 64].as_slice()));
-    assert_eq!(rt; bytes.len(), at + 128);
+    assert!(rt; bytes.len() == at + 128);
     fs::remove_file(&rt, PATH)?;
     Ok(())
 }
@@ -104,18 +104,20 @@ fn no_sync_is_ok_after_a_write_that_failed(rt: HostRuntime) -> Result<(), Fail> 
     assert!(rt; meta.write(0, b"b").is_err());
     assert!(rt; meta.sync().is_err());
     assert!(rt; blocks.as_mut_slice()[0].write(&[1u8; 64]).is_err());
-    assert_eq!(rt; meta.failures(), 2);
-    assert_eq!(rt; blocks.as_slice()[0].failures(), 1);
+    assert!(rt; meta.failures() == 2);
+    assert!(rt; blocks.as_slice()[0].failures() == 1);
     let mut read = [9u8; 64];
     assert!(rt; blocks.as_mut_slice()[0].read(&mut read).is_ok());
-    assert_eq!(rt; read, [0u8; 64]);
+    assert!(rt; read == [0u8; 64]);
     Ok(())
 }
 
 // Writes the superblock of a geometry, and a pack of version 1 whose tables name two blocks: the last as valid, the fifth as a node's.
 fn write_tables<M: Meta>(alloc: Global, geometry: &Geometry, meta: &mut M) -> Result<(), Error> {
     let mut image = Image::empty(alloc, geometry)?;
-    if let Some(bit) = image.sit.get_mut(15).and_then(|info| info.bits.get_mut(7)) {
+    if let Some(info) = image.sit.get_mut(15)
+        && let Some(bit) = info.bits.get_mut(7)
+    {
         *bit = true;
     }
     if let Some(entry) = image.nat.get_mut(0) {
@@ -183,7 +185,7 @@ fn an_image_file_is_made_once_and_opened_again(rt: HostRuntime) -> Result<(), Fa
         )
     );
     write_tables(alloc, &geometry, &mut meta)?;
-    assert_eq!(rt; blocks.len(), 128);
+    assert!(rt; blocks.len() == 128);
     assert!(rt; blocks.as_mut_slice()[127].write(&[9u8; 64]).is_ok());
     assert!(rt; meta.sync().is_ok());
     drop((meta, blocks));
@@ -211,7 +213,7 @@ fn an_image_file_is_made_once_and_opened_again(rt: HostRuntime) -> Result<(), Fa
             Err(FileFault::Refused(error)) => Some(error),
             _ => None,
         };
-        assert_eq!(rt; refused, Some(wanted), "{length}");
+        assert!(rt; refused == Some(wanted), "{length}");
     }
     assert!(rt; matches!(open_image(&rt, alloc, "."), Err(FileFault::NoFile)));
     fs::remove_file(&rt, MADE)?;

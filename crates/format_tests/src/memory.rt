@@ -33,41 +33,21 @@ fn a_lease_keeps_its_bytes(rt: HostRuntime) -> Result<(), Fail> {
     Ok(())
 }
 
+// Written through its parts, a device joined again has the bytes; its image file is the meta area and then the blocks.
 #[test]
 fn a_device_is_split_and_joined(rt: HostRuntime) -> Result<(), Fail> {
-    let geometry = Geometry::new(Shape::TINY, 16, 1, 4, 32)?;
-    let device = MemDevice::new(rt.alloc(), &geometry)?;
-    let mut parts = device.split();
-    assert!(rt; parts.meta.len() == 3_160);
-    assert!(rt; parts.blocks.len() == 128);
-    let last = &mut parts.blocks[127];
-    assert!(rt; last.address() == 128);
-    let mut out = [1u8; 64];
-    last.read(&mut out)?;
-    assert!(rt; out == [0u8; 64]);
-    // No lease lives, so this needs no memory.
-    assert!(rt; last.write(&[9u8; 64]).is_ok());
-    let mut parts = MemDevice::join(parts).split();
-    assert!(rt; parts.blocks.len() == 128);
-    let last = &mut parts.blocks[127];
-    assert!(rt; last.address() == 128);
-    last.read(&mut out)?;
-    assert!(rt; out == [9u8; 64]);
-    Ok(())
-}
-
-#[test]
-fn an_image_file_is_the_meta_area_and_then_the_blocks(rt: HostRuntime) -> Result<(), Fail> {
     let alloc = rt.alloc();
     let geometry = Geometry::new(Shape::TINY, 32, 1, 4, 64)?;
     let mut parts = MemDevice::new(alloc, &geometry)?.split();
+    assert!(rt; parts.meta.len() == 6_136);
+    assert!(rt; parts.blocks.len() == 256);
     parts.meta.write(0, b"F2SEG001")?;
     for (block, byte) in parts.blocks.iter_mut().zip(1u8..255) {
         // No lease lives, so this needs no memory.
         block.write(&[byte; 64])?;
     }
-    let device = MemDevice::join(parts);
     let mut file = Vec::from_slice(alloc, b"before")?;
+    let device = MemDevice::join(parts);
     device.append_to(&mut file)?;
     // The meta area of this geometry has 6136 bytes, and its 256 blocks have 64 each.
     assert!(rt; file.len() == 6 + 22_520);
@@ -78,5 +58,10 @@ fn an_image_file_is_the_meta_area_and_then_the_blocks(rt: HostRuntime) -> Result
     assert!(rt; bytes[6 + 6_136 + 64] == 2);
     assert!(rt; bytes[6 + 6_136 + 253 * 64] == 254);
     assert!(rt; bytes[6 + 6_136 + 254 * 64] == 0);
+    let parts = device.split();
+    assert!(rt; parts.blocks.len() == 256);
+    let block = &parts.blocks[253];
+    assert!(rt; block.address() == 254);
+    assert!(rt; block.as_slice() == &[254u8; 64][..]);
     Ok(())
 }

@@ -92,7 +92,7 @@ fn a_torn_footer_is_cleared(rt: HostRuntime) -> Result<(), Fail> {
     let Ok(packs) = Packs::open(meta, &geometry) else {
         panic!(rt; "no pack");
     };
-    assert_eq!(rt; packs.version, 1);
+    assert!(rt; packs.version == 1);
     let bytes = packs.meta.into_bytes();
     let wanted = area_with(alloc, &geometry, [(2, 0x22, 0), (1, 0x11, 1)], [OWN, OWN])?;
     assert!(rt; bytes.as_slice() == wanted.as_slice());
@@ -153,14 +153,8 @@ fn a_map_that_is_none_makes_no_body(rt: HostRuntime) -> Result<(), Fail> {
         let (version, _) = picked_pack(alloc, &geometry, area)?;
         assert!(rt; version == 9);
     }
-    Ok(())
-}
-
-#[test]
-fn an_area_of_zeros_has_no_pack(rt: HostRuntime) -> Result<(), Fail> {
-    let geometry = tiny()?;
-    let zeros = vec![in rt.alloc(); 0u8; AREA]?;
-    let Some(meta) = device_with(&geometry, zeros) else {
+    // An area of zeros has no pack.
+    let Some(meta) = device_with(&geometry, vec![in alloc; 0u8; AREA]?) else {
         panic!(rt; "another size");
     };
     match Packs::open(meta, &geometry) {

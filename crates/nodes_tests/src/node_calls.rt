@@ -181,9 +181,9 @@ fn grow(
     let mut spares = SparePath::new();
     let made = prepare(rt, alloc, books, shard, permit, file, &mut spares, index);
     let planted = plant(file, &mut spares, index);
-    assert_eq!(rt; made, planted);
+    assert!(rt; made == planted);
     let left = give_all(rt, books, shard, permit, file, spares);
-    assert_eq!(rt; left, 0);
+    assert!(rt; left == 0);
     planted
 }
 
@@ -210,7 +210,7 @@ fn refuse(
     let made = prepare(rt, alloc, books, shard, permit, file, &mut spares, index);
     let owner = file.owner_with(index, &spares);
     let given = give_all(rt, books, shard, permit, file, spares);
-    assert_eq!(rt; made, given);
+    assert!(rt; made == given);
     (given, owner)
 }
 
@@ -379,31 +379,6 @@ fn delete(
     spent
 }
 
-#[test]
-fn a_file_of_all_depths(rt: HostRuntime) {
-    let Opened {
-        books,
-        mut segment,
-        mut shard,
-        mut permit,
-        mut file,
-    } = open_file(&rt, rt.alloc(), Shape::Tiny, Kind::Dir);
-    let grown = write_all(
-        &rt,
-        rt.alloc(),
-        &books,
-        &mut segment,
-        &mut shard,
-        &mut permit,
-        &mut file,
-    );
-    assert_eq!(rt; grown, 11);
-    assert_eq!(rt; (file.number(), file.length()), (16, 1223));
-    assert!(rt; file.dirty());
-    let spent = delete(&rt, &books, &mut segment, &mut shard, &mut permit, file);
-    assert_eq!(rt; spent, (7, 11));
-}
-
 // The nodes that a refused write made are given back, and the file has no mark of them.
 #[test]
 fn spare_nodes_leave_no_mark(rt: HostRuntime) {
@@ -423,7 +398,7 @@ fn spare_nodes_leave_no_mark(rt: HostRuntime) {
         &mut file,
         223,
     );
-    assert_eq!(rt; grown, 3);
+    assert!(rt; grown == 3);
     write(
         &rt,
         rt.alloc(),
@@ -446,9 +421,9 @@ fn spare_nodes_leave_no_mark(rt: HostRuntime) {
     assert!(rt; refused == (2, Owner::Data(32, 9)));
     assert!(rt; !file.dirty());
     assert!(rt; file.owner(1222).is_none());
-    assert_eq!(rt; file.slot(223), 233);
+    assert!(rt; file.slot(223) == 233);
     let spent = delete(&rt, &books, &mut segment, &mut shard, &mut permit, file);
-    assert_eq!(rt; spent, (1, 3));
+    assert!(rt; spent == (1, 3));
 }
 
 // The kernel's shape: paths of no, one, two and three nodes.

@@ -126,9 +126,9 @@ fn hire(
 
 // It has placed and read back so many blocks, and its segment is retired and empty.
 fn assert_retired<R: Abort>(rt: &R, worker: &Worker, right: u32) {
-    assert_eq!(rt; worker.right, right);
+    assert!(rt; worker.right == right);
     assert!(rt; worker.segment.state() == State::Prefree);
-    assert_eq!(rt; worker.segment.count(), 0);
+    assert!(rt; worker.segment.count() == 0);
 }
 
 // The blocks of two segments.

@@ -143,7 +143,7 @@ fn hire(alloc: Global, number: u32, desk: Desk) -> Result<Worker, Error>
 
 // Both have read and lent their blocks so often as they were written.
 fn assert_right<R: Abort>(rt: &R, workers: &(Worker, Worker), turns: u32) {
-    assert_eq!(rt; (workers.0.right, workers.1.right), (turns, turns));
+    assert!(rt; (workers.0.right, workers.1.right) == (turns, turns));
 }
 
 // Both work, and once more.

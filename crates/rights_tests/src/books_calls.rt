@@ -35,9 +35,9 @@ fn an_empty_volume_balances(rt: HostRuntime) -> Result<(), Fail> {
         mut shards,
     } = Books::format(rt.alloc(), &LAYOUT)?;
     let _permits = books.balance(permits, &mut segments, &mut files, &mut shards);
-    assert_eq!(rt; segments.len(), 16);
-    assert_eq!(rt; files.len(), 4);
-    assert_eq!(rt; shards.len(), 16);
+    assert!(rt; segments.len() == 16);
+    assert!(rt; files.len() == 4);
+    assert!(rt; shards.len() == 16);
     Ok(())
 }
 
@@ -90,7 +90,7 @@ fn two_threads_mark_and_clear(rt: HostRuntime) -> Result<(), Fail> {
             turn(books, &mut other, &mut second, mark)
         },
     );
-    assert_eq!(rt; (turns, others), (TURNS, TURNS));
+    assert!(rt; (turns, others) == (TURNS, TURNS));
     Ok(())
 }
 
@@ -164,7 +164,7 @@ fn a_file_is_written_and_deleted(rt: HostRuntime) -> Result<(), Fail> {
     let (mut shard, _dealer) = books.deal_shard(dealer);
     let (permits, mut permit) = books.take_permit(permits);
     let seen = write_and_delete(&books, &mut permit, &mut segment, &mut file, &mut shard);
-    assert_eq!(rt; seen, (1, 2, true));
+    assert!(rt; seen == (1, 2, true));
     let mut pass = books.issue::<Longer>(&mut file);
     let mut second = books.issue::<Longer>(&mut other);
     books.compare(&file, &pass);
@@ -182,11 +182,11 @@ fn a_file_is_written_and_deleted(rt: HostRuntime) -> Result<(), Fail> {
 // What lies in the locks and in the calls beside a program's own data: which word of the books its steps add to, and no more.
 #[test]
 fn accounts_take_one_word(rt: HostRuntime) {
-    assert_eq!(rt; size_of::<SegmentAccount>(), 8);
-    assert_eq!(rt; size_of::<FileAccount>(), 8);
-    assert_eq!(rt; size_of::<ShardAccount>(), 8);
-    assert_eq!(rt; size_of::<PassAccount>(), 8);
-    assert_eq!(rt; size_of::<Permit>(), 8);
-    assert_eq!(rt; size_of::<Audit>(), 8);
-    assert_eq!(rt; size_of::<Token>(), 12);
+    assert!(rt; size_of::<SegmentAccount>() == 8);
+    assert!(rt; size_of::<FileAccount>() == 8);
+    assert!(rt; size_of::<ShardAccount>() == 8);
+    assert!(rt; size_of::<PassAccount>() == 8);
+    assert!(rt; size_of::<Permit>() == 8);
+    assert!(rt; size_of::<Audit>() == 8);
+    assert!(rt; size_of::<Token>() == 12);
 }

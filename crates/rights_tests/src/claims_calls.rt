@@ -82,7 +82,7 @@ fn two_threads_step(rt: HostRuntime) -> Result<(), Fail> {
             ensures { (result.0.book ≡ book.entry.now.book) × (result.0.claims ≡ 5 ∷ []) }
         { turn(book, other) },
     );
-    assert_eq!(rt; (turns, others), (TURNS, TURNS));
+    assert!(rt; (turns, others) == (TURNS, TURNS));
     book.give(&mut other, &mut one, 0);
     book.step::<Ten>(&mut one);
     Ok(())

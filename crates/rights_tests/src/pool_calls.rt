@@ -212,37 +212,42 @@ fn tried<R: Threads + Wait + Sync>(
     with_words::<Brand, R>(rt, alloc, &words, capacity, slips, trial)
 }
 
-#[test]
-fn the_reserve_is_filled_first_and_drawn_on_last(rt: HostRuntime) -> Result<(), Fail> {
-    let (count, segments) = tried(&rt, rt.alloc(), 16, Trial::InOrder)?;
-    assert_eq!(rt; count, 16);
-    let want = [11, 10, 9, 8, 7, 6, 5, 4, 3, 2, 1, 0, 15, 14, 13, 12];
-    assert_eq!(rt; segments.as_slice(), want.as_slice());
-    Ok(())
-}
+// A trial with an ordinary queue of such a size, how many slips went in, and the segments of those that came out: the reserve is filled
+// first and drawn on last, and a full pool hands slips back. Threads leave all of them, in any order.
+const TRIALS: [(u32, Trial, u32, &[u32]); 4] = [
+    (
+        16,
+        Trial::InOrder,
+        16,
+        &[11, 10, 9, 8, 7, 6, 5, 4, 3, 2, 1, 0, 15, 14, 13, 12],
+    ),
+    (2, Trial::InOrder, 6, &[11, 10, 15, 14, 13, 12]),
+    (
+        16,
+        Trial::TwoThreads,
+        16,
+        &[0, 1, 2, 3, 4, 5, 6, 7, 8, 9, 10, 11, 12, 13, 14, 15],
+    ),
+    (
+        16,
+        Trial::FourThreads,
+        16,
+        &[0, 1, 2, 3, 4, 5, 6, 7, 8, 9, 10, 11, 12, 13, 14, 15],
+    ),
+];
 
 #[test]
-fn a_full_pool_hands_slips_back(rt: HostRuntime) -> Result<(), Fail> {
-    let (count, segments) = tried(&rt, rt.alloc(), 2, Trial::InOrder)?;
-    assert_eq!(rt; count, 6);
-    assert_eq!(rt; segments.as_slice(), [11, 10, 15, 14, 13, 12].as_slice());
-    Ok(())
-}
-
-#[test]
-fn two_threads_take_and_put(rt: HostRuntime) -> Result<(), Fail> {
-    let (_, mut segments) = tried(&rt, rt.alloc(), 16, Trial::TwoThreads)?;
-    segments.sort()?;
-    let want = [0, 1, 2, 3, 4, 5, 6, 7, 8, 9, 10, 11, 12, 13, 14, 15];
-    assert_eq!(rt; segments.as_slice(), want.as_slice());
-    Ok(())
-}
-
-#[test]
-fn four_threads_take_and_put(rt: HostRuntime) -> Result<(), Fail> {
-    let (_, mut segments) = tried(&rt, rt.alloc(), 16, Trial::FourThreads)?;
-    segments.sort()?;
-    let want = [0, 1, 2, 3, 4, 5, 6, 7, 8, 9, 10, 11, 12, 13, 14, 15];
-    assert_eq!(rt; segments.as_slice(), want.as_slice());
+fn each_trial_leaves_the_pool_in_its_order(rt: HostRuntime) -> Result<(), Fail> {
+    for (capacity, trial, wanted, order) in TRIALS {
+        if capacity == 0 {
+            return Err("no capacity".into());
+        }
+        let (count, mut segments) = tried(&rt, rt.alloc(), capacity, trial)?;
+        assert!(rt; count == wanted);
+        if !matches!(trial, Trial::InOrder) {
+            segments.sort()?;
+        }
+        assert!(rt; segments.as_slice() == order);
+    }
     Ok(())
 }

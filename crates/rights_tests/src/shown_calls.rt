@@ -135,7 +135,7 @@ fn threads_compare_one_seat(rt: HostRuntime) -> Result<(), Fail> {
     let four = Shown::of_seat(split(table, &mut seat));
     let ours = &Shown::of_seat(seat);
     let ((one, first), (two, second)) = both_compare(&rt, table, ours, one, two);
-    assert_eq!(rt; (first, second), (TURNS, TURNS));
+    assert!(rt; (first, second) == (TURNS, TURNS));
     let ((low, also_low), (high, also_high)) = thread::join(
         &rt,
         || -> (u32, u32)
@@ -155,7 +155,7 @@ fn threads_compare_one_seat(rt: HostRuntime) -> Result<(), Fail> {
             (first, second)
         },
     );
-    assert_eq!(rt; (low, also_low), (TURNS, TURNS));
-    assert_eq!(rt; (high, also_high), (TURNS, TURNS));
+    assert!(rt; (low, also_low) == (TURNS, TURNS));
+    assert!(rt; (high, also_high) == (TURNS, TURNS));
     Ok(())
 }

@@ -300,39 +300,24 @@ fn counted<R: Threads + Wait + Sync>(
     with_books::<Brand, R>(rt, alloc, play, threads, books, permits, account)
 }
 
-#[test]
-fn three_workers_and_an_auditor(rt: HostRuntime) -> Result<(), Fail> {
-    let counts = counted(&rt, rt.alloc(), Play::Channel, 4)?;
-    assert_eq!(rt; counts.as_slice(), [AUDITS, TURNS, TURNS, TURNS].as_slice());
-    Ok(())
-}
+// What is played, and how often each thread has its turn: with three workers and one beside an auditor, by rests, a permit that is left
+// beside a gather, and rests that serve while sixteen others hold the channel's.
+const PLAYS: [(Play, &[u32]); 5] = [
+    (Play::Channel, &[AUDITS, TURNS, TURNS, TURNS]),
+    (Play::Channel, &[AUDITS, TURNS]),
+    (Play::Rests, &[AUDITS, TURNS, TURNS]),
+    (Play::Beside, &[TURNS, TURNS]),
+    (
+        Play::Alone,
+        &[RESTS, 1, 1, 1, 1, 1, 1, 1, 1, 1, 1, 1, 1, 1, 1, 1, 1],
+    ),
+];
 
 #[test]
-fn a_worker_and_an_auditor(rt: HostRuntime) -> Result<(), Fail> {
-    let counts = counted(&rt, rt.alloc(), Play::Channel, 2)?;
-    assert_eq!(rt; counts.as_slice(), [AUDITS, TURNS].as_slice());
-    Ok(())
-}
-
-#[test]
-fn workers_with_rests_and_an_auditor(rt: HostRuntime) -> Result<(), Fail> {
-    let counts = counted(&rt, rt.alloc(), Play::Rests, 3)?;
-    assert_eq!(rt; counts.as_slice(), [AUDITS, TURNS, TURNS].as_slice());
-    Ok(())
-}
-
-#[test]
-fn a_permit_left_beside_a_gather_is_found(rt: HostRuntime) -> Result<(), Fail> {
-    let counts = counted(&rt, rt.alloc(), Play::Beside, 2)?;
-    assert_eq!(rt; counts.as_slice(), [TURNS, TURNS].as_slice());
-    Ok(())
-}
-
-#[test]
-fn rests_serve_while_the_channel_is_empty(rt: HostRuntime) -> Result<(), Fail> {
-    let counts = counted(&rt, rt.alloc(), Play::Alone, 17)?;
-    let mut expected = [1; 17];
-    expected[0] = RESTS;
-    assert_eq!(rt; counts.as_slice(), expected.as_slice());
+fn each_thread_has_its_turns(rt: HostRuntime) -> Result<(), Fail> {
+    for (play, wanted) in PLAYS {
+        let counts = counted(&rt, rt.alloc(), play, wanted.len())?;
+        assert!(rt; counts.as_slice() == wanted);
+    }
     Ok(())
 }

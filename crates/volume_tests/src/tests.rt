@@ -1,5 +1,4 @@
 //! A test is rows of steps, each with what it is to show, and what they leave on the device.
-mod crash;
 mod crowd;
 mod damage;
 mod door;
@@ -8,11 +7,8 @@ mod failing;
 mod files;
 mod gates;
 mod image_file;
-mod looks;
 mod memory;
-mod part;
 mod play;
-mod program;
 mod rows;
 mod script;
 mod step;

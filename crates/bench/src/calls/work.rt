@@ -6,6 +6,7 @@ use super::copies::copies;
 use super::paths::find_paths;
 use crate::depth::Depth;
 use crate::desk::Desk;
+use crate::places::Places;
 use crate::report::Report;
 use crate::timed::Timed;
 use flash_volume::{Block, Meta, Seat, VolumeName};
@@ -81,16 +82,20 @@ pub fn measure_on<V: VolumeName, M: Meta, B: Block + Drop, R: Wait, C: Clock>(
 ) -> io::Result<Work> {
     let Size { blocks, calls, .. } = size;
     let first = depth.first(size.shape);
+    let any = Places::of(first, blocks);
+    let in_order = Places::in_order(first, blocks);
     let start = Instant::now(clock)?;
-    let append = Timed::since(clock, start, desk.append(rt, first, blocks))?;
+    let append = Timed::since(clock, start, desk.write_some(rt, in_order, blocks))?;
     let start = Instant::now(clock)?;
-    let overwrite = Timed::since(clock, start, desk.overwrite(rt, first, blocks, calls))?;
+    let overwrite = Timed::since(clock, start, desk.write_some(rt, any, calls))?;
     let start = Instant::now(clock)?;
-    let read = Timed::since(clock, start, desk.read_some(rt, first, blocks, calls))?;
-    let (reader, look) = measure_readers(rt, clock, desk, seat, size, first)?;
-    use_segments_up(rt, desk, first, size);
+    let read = Timed::since(clock, start, desk.read_some(rt, any, calls))?;
+    let (reader, look) = measure_readers(rt, clock, desk, seat, size, any)?;
+    // They are written again until no segment is free but those of the reserve, and their log is full.
+    let all = size.segments.saturating_mul(size.shape.segment_blocks());
+    let _written = desk.write_some(rt, any, all);
     let start = Instant::now(clock)?;
-    let hole = Timed::since(clock, start, desk.overwrite(rt, first, blocks, calls))?;
+    let hole = Timed::since(clock, start, desk.write_some(rt, any, calls))?;
     let copy = copies(clock, alloc, size.shape, calls)?;
     let start = Instant::now(clock)?;
     let (found, entries) = find_paths(size.shape, first, calls);
@@ -120,7 +125,7 @@ fn measure_readers<V: VolumeName, M: Meta, B: Block + Drop, R: Wait, C: Clock>(
     desk: &mut Desk<'_, V, M, B>,
     seat: Seat<V>,
     size: Size,
-    first: u32,
+    places: Places,
 ) -> io::Result<(Timed, Timed)> {
     let start = Instant::now(clock)?;
     let (taken, seat) = take_readers(rt, desk, seat, size.readers);
@@ -129,7 +134,7 @@ fn measure_readers<V: VolumeName, M: Meta, B: Block + Drop, R: Wait, C: Clock>(
         return Ok((readers, Timed::none()));
     };
     let start = Instant::now(clock)?;
-    let shown = desk.look_at_some(&reader, first, size.blocks, size.calls);
+    let shown = desk.look_at_some(&reader, places, size.calls);
     let looks = Timed::since(clock, start, shown)?;
     drop(reader.close());
     Ok((readers, looks))
@@ -155,15 +160,4 @@ fn take_readers<V: VolumeName, M: Meta, B: Block + Drop, R: Wait>(
         };
     }
     (taken, seat)
-}
-
-// The blocks are written again until no segment is free but those of the reserve, and their log is full.
-fn use_segments_up<V: VolumeName, M: Meta, B: Block + Drop, R: Wait>(
-    rt: &R,
-    desk: &mut Desk<'_, V, M, B>,
-    first: u32,
-    size: Size,
-) {
-    let all = size.segments.saturating_mul(size.shape.segment_blocks());
-    let _written = desk.overwrite(rt, first, size.blocks, all);
 }

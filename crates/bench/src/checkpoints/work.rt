@@ -28,7 +28,7 @@ impl<'a, M: Meta, B: Block + Drop, C: Clock> Work<M, B> for WriteAndSync<'a, C> 
         rights: &mut Rights<V>,
     ) -> Result<io::Result<(Checkpoints, Instant)>, Error> {
         let mut desk = Desk::open(rt, alloc, volume, Kind::File)?;
-        let written = write_and_sync(rt, self.clock, &mut desk, self.size.blocks);
+        let written = write_and_sync(rt, self.clock, &mut desk, self.size);
         rights.passes.push(desk.into_pass())?;
         match written {
             Ok(times) => Ok(Ok(times)),
@@ -42,13 +42,20 @@ fn write_and_sync<V: VolumeName, M: Meta, B: Block + Drop, R: Wait, C: Clock>(
     rt: &R,
     clock: &C,
     desk: &mut Desk<'_, V, M, B>,
-    blocks: u32,
+    size: Size,
 ) -> Result<(Checkpoints, Instant), Fault> {
-    desk.write_first(rt, blocks)?;
+    let Size {
+        shape,
+        blocks,
+        far,
+        ..
+    } = size;
+    desk.write_each(rt, 0, 1, blocks)?;
+    desk.write_each(rt, shape.inode_entries(), shape.node_entries(), far)?;
     desk.sync(rt)?;
-    desk.write_first(rt, 1)?;
+    desk.write_each(rt, 0, 1, 1)?;
     let one = sync(rt, clock, desk)?;
-    desk.write_first(rt, blocks / 10)?;
+    desk.write_each(rt, 0, 1, blocks / 10)?;
     let tenth = sync(rt, clock, desk)?;
     Ok((Checkpoints { blocks, one, tenth }, Instant::now(clock)?))
 }

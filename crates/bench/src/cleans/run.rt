@@ -1,10 +1,9 @@
 //! A file that is written, and a volume that is cleaned where it is full.
 use super::counts::Counts;
-use super::load::{Load, Pattern, Room};
+use super::load::{Load, Room};
+use super::picks::Picks;
 use crate::desk::Desk;
 use flash_volume::{Block, Error, Kind, Meta, Volume, VolumeName};
-use rand_core::utils::NextWord;
-use rand_pcg::Pcg32;
 use std::alloc::Global;
 use std::sync::Wait;
 
@@ -24,7 +23,7 @@ const TRIES: u32 = 100;
 pub struct Run<'a, V: VolumeName, M: Meta, B: Block + Drop> {
     desk: Desk<'a, V, M, B>,
     load: Load,
-    generator: Pcg32,
+    picks: Picks,
     // One more for each write.
     now: u64,
     pub counts: Counts,
@@ -42,24 +41,16 @@ impl<'a, V: VolumeName, M: Meta, B: Block + Drop> Run<'a, V, M, B> {
         Ok(Run {
             desk,
             load,
-            generator: Pcg32::new(42, 54),
+            picks: Picks::of(load),
             now: 0,
             counts: Counts::none(),
         })
     }
 
-    /// Writes each block once.
-    pub fn fill<R: Wait>(&mut self, rt: &R) -> Result<(), Error> {
-        for index in 0..self.load.blocks() {
-            self.write(rt, index)?;
-        }
-        Ok(())
-    }
-
-    /// Writes so many blocks by the pattern.
+    /// Writes so many blocks: each once, and then by the pattern.
     pub fn write_some<R: Wait>(&mut self, rt: &R, writes: u32) -> Result<(), Error> {
         for _write in 0..writes {
-            let index = self.next_index();
+            let index = self.picks.next_index();
             self.write(rt, index)?;
         }
         Ok(())
@@ -71,10 +62,15 @@ impl<'a, V: VolumeName, M: Meta, B: Block + Drop> Run<'a, V, M, B> {
             self.make_room(rt)?;
         }
         self.write_somewhere(rt, index)?;
-        if self.now.checked_rem(u64::from(self.load.size.period)) == Some(0) {
-            self.write_checkpoint(rt)?;
+        if self.now.checked_rem(u64::from(self.load.size.period)) != Some(0) {
+            return Ok(());
         }
-        Ok(())
+        // Where data fills the holes of segments of nodes, these do not come free, and each checkpoint takes of the reserve for its
+        // nodes: so a section is cleaned first where the reserve is not full.
+        if self.desk.volume().status(rt).free < RESERVE {
+            self.clean(rt)?;
+        }
+        self.sync(rt)
     }
 
     // Whether a log is full, and no segment is free but those of the reserve.
@@ -83,27 +79,20 @@ impl<'a, V: VolumeName, M: Meta, B: Block + Drop> Run<'a, V, M, B> {
         status.free <= RESERVE && status.opened < LOGS
     }
 
+    // Writes a block, for which room is made where there is none.
     fn write_somewhere<R: Wait>(&mut self, rt: &R, index: u32) -> Result<(), Error> {
         for _try in 0..TRIES {
-            if self.write_once(rt, index)? {
-                return Ok(());
+            match self.desk.write(rt, index, self.now) {
+                Ok(()) => {
+                    self.now = self.now.saturating_add(1);
+                    self.counts.write();
+                    return Ok(());
+                }
+                Err(Error::NoSpace) => self.make_room(rt)?,
+                Err(error) => return Err(error),
             }
-            self.make_room(rt)?;
         }
         Err(Error::NoSpace)
-    }
-
-    // Whether there was room for the block.
-    fn write_once<R: Wait>(&mut self, rt: &R, index: u32) -> Result<bool, Error> {
-        match self.desk.write(rt, index, self.now) {
-            Ok(()) => {
-                self.now = self.now.saturating_add(1);
-                self.counts.write();
-                Ok(true)
-            }
-            Err(Error::NoSpace) => Ok(false),
-            Err(error) => Err(error),
-        }
     }
 
     // Cleans some sections, and writes a checkpoint, which frees their segments.
@@ -124,41 +113,9 @@ impl<'a, V: VolumeName, M: Meta, B: Block + Drop> Run<'a, V, M, B> {
         Ok(())
     }
 
-    // Writes a checkpoint. Where data fills the holes of segments of nodes, these do not come free, and each checkpoint takes of
-    // the reserve for its nodes: so a section is cleaned first where the reserve is not full.
-    fn write_checkpoint<R: Wait>(&mut self, rt: &R) -> Result<(), Error> {
-        if self.desk.volume().status(rt).free < RESERVE {
-            self.clean(rt)?;
-        }
-        self.sync(rt)
-    }
-
     // Writes a checkpoint, which frees retired segments.
     fn sync<R: Wait>(&self, rt: &R) -> Result<(), Error> {
         let _stored = self.desk.volume().sync(rt, &[])?;
         Ok(())
-    }
-
-    fn next_index(&mut self) -> u32 {
-        let blocks = self.load.blocks();
-        let hot = blocks / 10;
-        match self.load.pattern {
-            Pattern::Uniform => self.below(blocks),
-            Pattern::HotAndCold => {
-                if self.below(10) < 9 {
-                    self.below(hot)
-                } else {
-                    self.below(blocks - hot).saturating_add(hot)
-                }
-            }
-        }
-    }
-
-    // The next of numbers in no order, below an end.
-    fn below(&mut self, end: u32) -> u32 {
-        match end {
-            0 => 0,
-            end => self.generator.next_word() % end,
-        }
     }
 }

@@ -21,24 +21,15 @@ impl<M: Meta, B: Block + Drop> Work<M, B> for SparseFiles {
     ) -> Result<(), Error> {
         for _file in 0..self.0.files {
             let mut desk = Desk::open(rt, alloc, volume, Kind::File)?;
-            write_sparsely(rt, &mut desk, self.0)?;
+            let shape = self.0.shape;
+            desk.write_each(
+                rt,
+                shape.inode_entries(),
+                shape.node_entries(),
+                self.0.direct,
+            )?;
             rights.passes.push(desk.into_pass())?;
         }
         Ok(())
     }
-}
-
-// Writes the first block below each of so many direct nodes.
-fn write_sparsely<V: VolumeName, M: Meta, B: Block + Drop, R: Wait>(
-    rt: &R,
-    desk: &mut Desk<'_, V, M, B>,
-    size: Size,
-) -> Result<(), Error> {
-    let first = size.shape.inode_entries();
-    let entries = size.shape.node_entries();
-    for node in 0..size.direct {
-        let index = first.saturating_add(node.saturating_mul(entries));
-        desk.write(rt, index, 0)?;
-    }
-    Ok(())
 }

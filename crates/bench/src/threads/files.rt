@@ -1,5 +1,6 @@
 //! The files that threads overwrite.
 use crate::desk::Desk;
+use crate::places::Places;
 use flash_volume::{Block, Error, Kind, Meta, Rights, Volume, VolumeName, Work};
 use std::alloc::Global;
 use std::sync::Wait;
@@ -36,7 +37,11 @@ impl<M: Meta, B: Block + Drop> Work<M, B> for Files {
         let mut written = 0_u32;
         for kind in KINDS.iter().take(self.threads) {
             let mut desk = Desk::open(rt, alloc, volume, *kind)?;
-            written = written.saturating_add(desk.append(rt, self.first, self.blocks));
+            written = written.saturating_add(desk.write_some(
+                rt,
+                Places::in_order(self.first, self.blocks),
+                self.blocks,
+            ));
             let pass = desk.into_pass();
             files.push(pass.number())?;
             rights.passes.push(pass)?;

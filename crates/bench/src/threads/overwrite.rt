@@ -1,5 +1,6 @@
 //! What one thread does: it overwrites the blocks of a file.
 use crate::desk::Desk;
+use crate::places::Places;
 use flash_volume::{Block, Error, Meta, Rights, Volume, VolumeName, Work};
 use std::alloc::Global;
 use std::io;
@@ -49,7 +50,7 @@ impl<'a, C: Clock> Overwrite<'a, C> {
         desk: &mut Desk<'_, V, M, B>,
     ) -> io::Result<Overwritten> {
         let start = Instant::now(self.clock)?;
-        let calls = desk.overwrite(rt, self.first, self.blocks, self.calls);
+        let calls = desk.write_some(rt, Places::of(self.first, self.blocks), self.calls);
         let end = Instant::now(self.clock)?;
         Ok(Overwritten { calls, start, end })
     }

@@ -79,9 +79,9 @@ pub(super) fn clean(rt: &impl Abort, alloc: Global, file: &mut FileState<MemBloc
 }
 
 // Parents are lent before what they name, the five pointers of the inode in their order, and no node twice. A node that is
-// refused is lent again.
+// refused is lent again. A block that comes to a file marks the node that names it, and no other.
 #[test]
-fn marked_nodes_are_lent_in_order(rt: HostRuntime) {
+fn a_file_of_all_depths_lends_marked_nodes_in_order(rt: HostRuntime) {
     let Opened {
         books,
         mut segment,
@@ -89,7 +89,7 @@ fn marked_nodes_are_lent_in_order(rt: HostRuntime) {
         mut permit,
         mut file,
     } = open_file(&rt, rt.alloc(), Shape::Tiny, Kind::Dir);
-    write_all(
+    let grown = write_all(
         &rt,
         rt.alloc(),
         &books,
@@ -98,6 +98,9 @@ fn marked_nodes_are_lent_in_order(rt: HostRuntime) {
         &mut permit,
         &mut file,
     );
+    assert!(rt; grown == 11);
+    assert!(rt; (file.number(), file.length()) == (16, 1223));
+    assert!(rt; file.dirty());
     let mut recorder = Recorder {
         lent: Vec::new(rt.alloc()),
         refused: Some(3),
@@ -124,33 +127,6 @@ fn marked_nodes_are_lent_in_order(rt: HostRuntime) {
         (Class::Direct, 1232),
     ];
     assert!(rt; recorder.lent.as_slice() == &order[..]);
-    delete(&rt, &books, &mut segment, &mut shard, &mut permit, file);
-}
-
-// A block that comes to a file marks the node that names it, and no other.
-#[test]
-fn one_block_marks_one_node(rt: HostRuntime) {
-    let Opened {
-        books,
-        mut segment,
-        mut shard,
-        mut permit,
-        mut file,
-    } = open_file(&rt, rt.alloc(), Shape::Tiny, Kind::File);
-    write_all(
-        &rt,
-        rt.alloc(),
-        &books,
-        &mut segment,
-        &mut shard,
-        &mut permit,
-        &mut file,
-    );
-    let mut recorder = Recorder {
-        lent: Vec::new(rt.alloc()),
-        refused: None,
-    };
-    assert!(rt; flush_all(&mut file, &mut recorder) == Ok(()));
     recorder.lent.clear();
     assert!(rt; file.owner(224).is_some());
     write(
@@ -164,5 +140,6 @@ fn one_block_marks_one_node(rt: HostRuntime) {
     );
     assert!(rt; flush_all(&mut file, &mut recorder) == Ok(()));
     assert!(rt; recorder.lent.as_slice() == &[(Class::Direct, 233)][..]);
-    delete(&rt, &books, &mut segment, &mut shard, &mut permit, file);
+    let spent = delete(&rt, &books, &mut segment, &mut shard, &mut permit, file);
+    assert!(rt; spent == (8, 11));
 }

@@ -1,6 +1,7 @@
 //! Writers of a file each, with cleaners, readers and checkpoints beside them.
 ghost use Rattle.std.specs.Prelude.{◌≡◌};
 
+use super::gates::{BESIDE_A_CLEANER, TWO_LOGS};
 use super::numbers;
 use super::play::{assert_shown, play};
 use super::script::{Script, Tools, Wrong};
@@ -9,6 +10,7 @@ use super::step::Row;
 use super::step::Seen::{Done, Image, Is, Version};
 use super::step::Step::{Base, CleanOften, Has, Look, Make, On, Save, Use};
 use super::step::Tool::{Await, Give};
+use super::turns::IN_TURNS;
 use super::waits::{Gates, gated_parts};
 use flash_volume::{Beside, Done as Worked, Error, Kind, Leave, Parts, work_side_by_side_on_new};
 use std::alloc::Global;
@@ -21,21 +23,30 @@ use std::thread::Threads;
 pub(crate) type Share = (&'static [Row], &'static [u32]);
 
 /// What is done side by side on a new volume of so many segments of 8 blocks, with at most 8 files, on a device with these gates;
-/// and what is there once it is mounted again.
+/// what is there once it is mounted again; and how often that is done.
 #[derive(Clone, Copy)]
 pub(crate) struct Crowd {
     pub(crate) segments: u32,
     pub(crate) gates: &'static [(u32, u32)],
     pub(crate) beside: &'static [Share],
     pub(crate) found: &'static [Row],
+    pub(crate) runs: u32,
 }
 
-/// Does what a crowd does.
-pub(crate) fn run<R: Threads + Wait + Abort + Sync>(
+// Does what a crowd does, so often as it says.
+fn run_often<R: Threads + Wait + Abort + Sync>(
     rt: &R,
     alloc: Global,
     crowd: Crowd,
 ) -> Result<(), Error> {
+    for _run in 0..crowd.runs {
+        run(rt, alloc, crowd)?;
+    }
+    Ok(())
+}
+
+// Does what a crowd does, once.
+fn run<R: Threads + Wait + Abort + Sync>(rt: &R, alloc: Global, crowd: Crowd) -> Result<(), Error> {
     let geometry = numbers(crowd.segments, 8, 128)?;
     let tools = Tools::new(alloc, Gates::new(crowd.gates))?;
     let parts = gated_parts(alloc, &geometry, &tools.gates)?;
@@ -95,15 +106,8 @@ const TWO: Crowd = Crowd {
     gates: &[],
     beside: &[(&STAMP, &[]), (&STAMP, &[])],
     found: &TWO_STAMPED,
+    runs: 200,
 };
-
-#[test]
-fn two_files_are_written_side_by_side(rt: HostRuntime) -> Result<(), Fail> {
-    for _run in 0..200u32 {
-        run(&rt, rt.alloc(), TWO)?;
-    }
-    Ok(())
-}
 
 // The reader has the file as it was, while this thread overwrites it, and others write and clean.
 const LOOK_AND_STAMP: [Row; 5] = [
@@ -149,15 +153,8 @@ const EIGHT: Crowd = Crowd {
         (&CLEAN, &[]),
     ],
     found: &EIGHT_STAMPED,
+    runs: 100,
 };
-
-#[test]
-fn eight_writers_two_cleaners_and_two_readers(rt: HostRuntime) -> Result<(), Fail> {
-    for _run in 0..100u32 {
-        run(&rt, rt.alloc(), EIGHT)?;
-    }
-    Ok(())
-}
 
 const STAMP_LATE: [Row; 4] = [
     (Make(Kind::File), Done),
@@ -207,12 +204,16 @@ const FOUR: Crowd = Crowd {
         (&TEN_SAVES, &[]),
     ],
     found: &FOUR_STAMPED,
+    runs: 50,
 };
 
+// Each crowd: writers alone; with cleaners and readers beside them; with checkpoints; and calls that wait for each other.
+const CROWDS: [Crowd; 6] = [TWO, EIGHT, FOUR, IN_TURNS, TWO_LOGS, BESIDE_A_CLEANER];
+
 #[test]
-fn four_writers_two_cleaners_and_ten_checkpoints(rt: HostRuntime) -> Result<(), Fail> {
-    for _run in 0..50u32 {
-        run(&rt, rt.alloc(), FOUR)?;
+fn each_crowd_leaves_its_files(rt: HostRuntime) -> Result<(), Fail> {
+    for crowd in CROWDS {
+        run_often(&rt, rt.alloc(), crowd)?;
     }
     Ok(())
 }

@@ -45,22 +45,6 @@ fn refuse_bytes<R: Wait + Abort>(
     Ok(())
 }
 
-#[test]
-fn device_without_a_volume_is_refused(rt: HostRuntime) -> Result<(), Fail> {
-    let alloc = rt.alloc();
-    let tools = Tools::new(alloc, Gates::open())?;
-    let mut file = base_file(alloc)?;
-    // The blocks of 24 segments behind the meta area of 32.
-    file.truncate(META + 192 * BLOCK);
-    refuse_bytes(&rt, alloc, &tools, file.as_slice(), Error::BadImage(1))?;
-    file.truncate(63);
-    refuse_bytes(&rt, alloc, &tools, file.as_slice(), Error::BadGeometry)?;
-    file.clear();
-    file.resize(META + 192 * BLOCK, 0)?;
-    refuse_bytes(&rt, alloc, &tools, file.as_slice(), Error::BadGeometry)?;
-    Ok(())
-}
-
 const DAMAGES: [(Changes<'static>, Error); 13] = [
     (&[(0, b'f')], Error::BadGeometry),
     // The superblock tells 33 segments.
@@ -93,38 +77,24 @@ const DAMAGES: [(Changes<'static>, Error); 13] = [
     (&[(684, 0x01)], Error::BadImage(10)),
 ];
 
-const TWO_BLOCKS: [Row; 2] = [
-    (Create(Kind::File), Number(1)),
-    (On(0, Write(0, &[0x41, 0x42])), Done),
-];
-
 #[test]
 fn damage_is_told_and_the_device_handed_back(rt: HostRuntime) -> Result<(), Fail> {
     let alloc = rt.alloc();
     let tools = Tools::new(alloc, Gates::open())?;
-    let file = base_file(alloc)?;
-    // The bytes by hand are those that such a volume leaves.
-    let geometry = numbers(32, 4, 64)?;
-    let closed = play_on_new(&rt, alloc, geometry, Leave::Close, &tools, &TWO_BLOCKS)?;
-    let bytes = bytes_of(alloc, &closed.meta, closed.blocks.as_slice())?;
-    assert!(rt; bytes.as_slice() == file.as_slice());
+    let mut file = base_file(alloc)?;
     for (changes, error) in DAMAGES {
-        refuse_changed(&rt, alloc, &tools, file.as_slice(), changes, error)?;
+        let bytes = changed(alloc, file.as_slice(), changes)?;
+        refuse_bytes(&rt, alloc, &tools, bytes.as_slice(), error)?;
     }
+    // No volume: the blocks of 24 segments behind the meta area of 32, a part of a superblock, and zeros.
+    file.truncate(META + 192 * BLOCK);
+    refuse_bytes(&rt, alloc, &tools, file.as_slice(), Error::BadImage(1))?;
+    file.truncate(63);
+    refuse_bytes(&rt, alloc, &tools, file.as_slice(), Error::BadGeometry)?;
+    file.clear();
+    file.resize(META + 192 * BLOCK, 0)?;
+    refuse_bytes(&rt, alloc, &tools, file.as_slice(), Error::BadGeometry)?;
     Ok(())
-}
-
-// The same of these bytes with some changes.
-fn refuse_changed<R: Wait + Abort>(
-    rt: &R,
-    alloc: Global,
-    tools: &Tools,
-    file: &[u8],
-    changes: Changes,
-    wanted: Error,
-) -> Result<(), Error> {
-    let bytes = changed(alloc, file, changes)?;
-    refuse_bytes(rt, alloc, tools, bytes.as_slice(), wanted)
 }
 
 // The packs of which the newer one is torn. Version 1 has no file.

@@ -24,7 +24,7 @@ const EIGHT_FILES: [Row; 11] = [
     (Base, Image(1, 0)),
 ];
 
-const PASS_OUT: [Row; 2] = [(Base, Image(2, 9)), (LosePass, Done)];
+const BOTH_OUT: [Row; 3] = [(Base, Image(2, 9)), (LosePass, Done), (LoseSeat, Done)];
 
 // The seat is that of a reader, which had the first block as it was.
 const SEAT_OUT: [Row; 4] = [
@@ -54,7 +54,7 @@ const EIGHT_AGAIN: [Row; 2] = [
     ),
 ];
 
-// Without a pass, then without the seat of a reader, and then with all. The refused ones leave the checkpoint before.
+// Without a pass and a seat, of which the pass is told; then without the seat of a reader, and then with all. The refused ones leave the checkpoint before.
 #[test]
 fn volume_is_not_closed_while_a_pass_or_a_seat_is_out(rt: HostRuntime) -> Result<(), Fail> {
     let alloc = rt.alloc();
@@ -62,22 +62,10 @@ fn volume_is_not_closed_while_a_pass_or_a_seat_is_out(rt: HostRuntime) -> Result
     let geometry = numbers(32, 8, 64)?;
     let parts = play_on_new(&rt, alloc, geometry, Leave::Discard, &tools, &EIGHT_FILES)?;
     let passes_out = (Stage::Close, Error::PassesOut(1));
-    let parts = refuse(&rt, alloc, parts, &tools, &PASS_OUT, passes_out);
+    let parts = refuse(&rt, alloc, parts, &tools, &BOTH_OUT, passes_out);
     let seats_out = (Stage::Close, Error::SeatsOut(1));
     let parts = refuse(&rt, alloc, parts, &tools, &SEAT_OUT, seats_out);
     let parts = play(&rt, alloc, parts, Leave::Close, &tools, &NONE_OUT);
     let _parts = play(&rt, alloc, parts, Leave::Close, &tools, &EIGHT_AGAIN);
-    Ok(())
-}
-
-const NEW: [Row; 2] = [(Base, Image(1, 0)), (Has(&[]), Is(true))];
-
-#[test]
-fn new_volume_that_was_abandoned_is_mounted(rt: HostRuntime) -> Result<(), Fail> {
-    let alloc = rt.alloc();
-    let tools = Tools::new(alloc, Gates::open())?;
-    let geometry = numbers(32, 4, 64)?;
-    let parts = play_on_new(&rt, alloc, geometry, Leave::Discard, &tools, &[])?;
-    let _parts = play(&rt, alloc, parts, Leave::Discard, &tools, &NEW);
     Ok(())
 }

@@ -8,7 +8,7 @@ use std::sync::Wait;
 const STALE: u8 = 0xee;
 
 // So many blocks are filled by a stamp.
-const STAMPED: u32 = 10;
+const STAMPED: usize = 10;
 
 /// Makes a file, and answers its number.
 pub(crate) fn create<V: VolumeName, M: Meta, B: Block + Drop, R: Wait>(
@@ -54,22 +54,16 @@ pub(crate) fn act<V: VolumeName, M: Meta, B: Block + Drop, R: Wait>(
     let found = rights.passes.as_mut_slice().get_mut(place);
     let pass = found.ok_or(Error::NoFile)?;
     match what {
-        Act::Write(from, bytes) => write(rt, alloc, volume, pass, from, bytes)?,
-        Act::Overwrite(index, bytes) => overwrite(rt, alloc, volume, pass, index, bytes)?,
+        Act::Write(from, bytes) => write(rt, alloc, volume, pass, (from, 1), bytes)?,
+        Act::Overwrite(index, bytes) => write(rt, alloc, volume, pass, (index, 0), bytes)?,
         Act::WriteBytes(count) => {
             let bytes = vec![in alloc; 1u8; count]?;
             volume.write(rt, pass, 0, bytes.as_slice(), 0)?;
         }
         Act::Stamp(more) => {
             let number = u8::try_from(pass.number()).unwrap_or(u8::MAX);
-            fill(
-                rt,
-                alloc,
-                volume,
-                pass,
-                STAMPED,
-                more.saturating_add(number),
-            )?;
+            let bytes = [more.saturating_add(number); STAMPED];
+            write(rt, alloc, volume, pass, (0, 1), &bytes)?;
         }
         Act::Cut(length) => volume.cut(rt, pass, length)?,
         Act::Read(index) => return read(rt, alloc, volume, pass, index),
@@ -78,60 +72,21 @@ pub(crate) fn act<V: VolumeName, M: Meta, B: Block + Drop, R: Wait>(
     Ok(Seen::Done)
 }
 
-// Writes a block full of a byte.
-fn write_block<V: VolumeName, M: Meta, B: Block + Drop, R: Wait>(
-    rt: &R,
-    alloc: Global,
-    volume: &Volume<V, M, B>,
-    pass: &mut FilePass<V>,
-    index: u32,
-    byte: u8,
-) -> Result<(), Error> {
-    let block = vec![in alloc; byte; volume.geometry().shape.block_bytes() as usize]?;
-    volume.write(rt, pass, index, block.as_slice(), 0)
-}
-
-// Writes a block for each byte, from an index on.
+// Writes a block for each byte, full of it. The first has this index, and each other one stands so far behind the one before.
 fn write<V: VolumeName, M: Meta, B: Block + Drop, R: Wait>(
     rt: &R,
     alloc: Global,
     volume: &Volume<V, M, B>,
     pass: &mut FilePass<V>,
-    from: u32,
+    places: (u32, u32),
     bytes: &[u8],
 ) -> Result<(), Error> {
-    for (index, byte) in (from..u32::MAX).zip(bytes) {
-        write_block(rt, alloc, volume, pass, index, *byte)?;
-    }
-    Ok(())
-}
-
-// Writes a block for each byte, at one index.
-fn overwrite<V: VolumeName, M: Meta, B: Block + Drop, R: Wait>(
-    rt: &R,
-    alloc: Global,
-    volume: &Volume<V, M, B>,
-    pass: &mut FilePass<V>,
-    index: u32,
-    bytes: &[u8],
-) -> Result<(), Error> {
+    let (mut index, step) = places;
+    let size = volume.geometry().shape.block_bytes() as usize;
     for byte in bytes {
-        write_block(rt, alloc, volume, pass, index, *byte)?;
-    }
-    Ok(())
-}
-
-// Fills so many blocks with a byte.
-fn fill<V: VolumeName, M: Meta, B: Block + Drop, R: Wait>(
-    rt: &R,
-    alloc: Global,
-    volume: &Volume<V, M, B>,
-    pass: &mut FilePass<V>,
-    count: u32,
-    byte: u8,
-) -> Result<(), Error> {
-    for index in 0..count {
-        write_block(rt, alloc, volume, pass, index, byte)?;
+        let block = vec![in alloc; *byte; size]?;
+        volume.write(rt, pass, index, block.as_slice(), 0)?;
+        index = index.saturating_add(step);
     }
     Ok(())
 }
@@ -217,7 +172,8 @@ pub(crate) fn look<V: VolumeName, M: Meta, B: Block + Drop, R: Wait>(
         Err((_seat, error)) => return Err(error),
     };
     let length = reader.length();
-    fill(rt, alloc, volume, pass, length, bytes.1)?;
+    let others = vec![in alloc; bytes.1; length as usize]?;
+    write(rt, alloc, volume, pass, (0, 1), others.as_slice())?;
     let same = shows(alloc, volume, &reader, bytes.0)?;
     rights.seats.push(reader.close())?;
     Ok(Seen::Is(same && length > 0))

@@ -1,12 +1,11 @@
 //! Calls that go on while the device keeps another one waiting.
-use super::crowd::{Crowd, run};
+use super::crowd::Crowd;
 use super::step::Act::Write;
 use super::step::Row;
 use super::step::Seen::{Cleaned, Done, Image, Is};
 use super::step::Step::{Base, Clean, Delete, Has, Make, On, Use};
 use super::step::Tool::Meet;
 use flash_volume::Kind;
-use std::test::*;
 
 const WRITE_DIR: [Row; 2] = [(Make(Kind::Dir), Done), (On(0, Write(0, &[1])), Done)];
 
@@ -18,18 +17,13 @@ const BOTH_WRITTEN: [Row; 2] = [
 ];
 
 // The first blocks of a directory and of a file, side by side. Each write waits until the other one has begun.
-const TWO_LOGS: Crowd = Crowd {
+pub(crate) const TWO_LOGS: Crowd = Crowd {
     segments: 16,
     gates: &[(3, 4), (4, 3)],
     beside: &[(&WRITE_DIR, &[]), (&WRITE_FILE, &[])],
     found: &BOTH_WRITTEN,
+    runs: 1,
 };
-
-#[test]
-fn two_logs_write_side_by_side(rt: HostRuntime) -> Result<(), Fail> {
-    run(&rt, rt.alloc(), TWO_LOGS)?;
-    Ok(())
-}
 
 // Two files write four blocks each in turn, which fill a segment; then the second one is deleted, and the section cleaned.
 const CLEAN_HALF: [Row; 12] = [
@@ -60,15 +54,10 @@ const MOVED: [Row; 2] = [
     (Has(&[(1, &[1; 4]), (2, &[1])]), Is(true)),
 ];
 
-const BESIDE_A_CLEANER: Crowd = Crowd {
+pub(crate) const BESIDE_A_CLEANER: Crowd = Crowd {
     segments: 16,
     gates: &[(5, 3)],
     beside: &[(&CLEAN_HALF, &[]), (&WRITE_ONCE_MET, &[])],
     found: &MOVED,
+    runs: 1,
 };
-
-#[test]
-fn writer_goes_on_beside_a_cleaner(rt: HostRuntime) -> Result<(), Fail> {
-    run(&rt, rt.alloc(), BESIDE_A_CLEANER)?;
-    Ok(())
-}

@@ -1,15 +1,13 @@
 //! Which numbers files get, and where blocks go.
 use super::numbers;
-use super::play::{play, play_on_new, refuse};
+use super::play::play_on_new;
 use super::script::Tools;
 use super::step::Act::{Cut, Length, Overwrite, Read, Write, WriteBytes};
 use super::step::Row;
 use super::step::Seen::{At, Byte, Cleaned, Done, Is, Number, Past, Refused, Segments, Version};
-use super::step::Step::{
-    Clean, Create, Delete, Has, Inodes, LosePass, LoseSeat, On, Save, Status, Valid,
-};
+use super::step::Step::{Clean, Create, Delete, Has, Inodes, On, Save, Status, Valid};
 use super::waits::Gates;
-use flash_volume::{Block, Error, Kind, Leave, MemBlock, MemMeta, Parts, Stage};
+use flash_volume::{Block, Error, Kind, Leave, MemBlock, MemMeta, Parts};
 use std::alloc::Global;
 use std::process::Abort;
 use std::sync::Wait;
@@ -167,32 +165,6 @@ const WRITTEN: [(&[Row], Full); 9] = [
     (&MOVED_NODES, &[]),
 ];
 
-const FOUR_DIRS: [Row; 5] = [
-    (Create(Kind::Dir), Number(1)),
-    (Create(Kind::Dir), Number(2)),
-    (Create(Kind::Dir), Number(3)),
-    (Create(Kind::Dir), Number(4)),
-    (Create(Kind::File), Refused(Error::NoFile)),
-];
-
-const BOTH_OUT: [Row; 7] = [
-    (Create(Kind::Dir), Number(1)),
-    (Create(Kind::Dir), Number(2)),
-    (Create(Kind::Dir), Number(3)),
-    (Create(Kind::Dir), Number(4)),
-    (Create(Kind::File), Refused(Error::NoFile)),
-    (LosePass, Done),
-    (LoseSeat, Done),
-];
-
-const SEAT_OUT: [Row; 5] = [
-    (Create(Kind::Dir), Number(1)),
-    (Create(Kind::Dir), Number(2)),
-    (Create(Kind::Dir), Number(3)),
-    (Create(Kind::Dir), Number(4)),
-    (LoseSeat, Done),
-];
-
 // How many blocks of the device are full of a byte, and the address of the last of them.
 fn find_full(parts: &Parts<MemMeta, MemBlock>, byte: u8) -> (u32, u32) {
     let mut count = 0u32;
@@ -216,22 +188,10 @@ fn play_row<R: Wait + Abort>(
 ) -> Result<(), Error> {
     let geometry = numbers(16, 4, 32)?;
     let parts = play_on_new(rt, alloc, geometry, Leave::Discard, tools, rows)?;
-    assert_eq!(rt; parts.blocks.len(), 128usize);
+    assert!(rt; parts.blocks.len() == 128usize);
     for (byte, found) in full {
-        assert_eq!(rt; find_full(&parts, *byte), *found, "{byte}");
+        assert!(rt; find_full(&parts, *byte) == *found, "{byte}");
     }
-    Ok(())
-}
-
-// Without a pass and a seat, of which the pass is told; then without the seat; and then with all.
-fn leave_out<R: Wait + Abort>(rt: &R, alloc: Global, tools: &Tools) -> Result<(), Error> {
-    let geometry = numbers(16, 4, 32)?;
-    let parts = play_on_new(rt, alloc, geometry, Leave::Discard, tools, &[])?;
-    let passes_out = (Stage::Close, Error::PassesOut(1));
-    let parts = refuse(rt, alloc, parts, tools, &BOTH_OUT, passes_out);
-    let seats_out = (Stage::Close, Error::SeatsOut(1));
-    let parts = refuse(rt, alloc, parts, tools, &SEAT_OUT, seats_out);
-    let _parts = play(rt, alloc, parts, Leave::Close, tools, &FOUR_DIRS);
     Ok(())
 }
 
@@ -242,6 +202,5 @@ fn each_row(rt: HostRuntime) -> Result<(), Fail> {
     for (rows, full) in WRITTEN {
         play_row(&rt, alloc, &tools, rows, full)?;
     }
-    leave_out(&rt, alloc, &tools)?;
     Ok(())
 }

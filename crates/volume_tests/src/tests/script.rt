@@ -2,13 +2,14 @@
 use super::files::{act, create, delete, has, look};
 use super::step::{Row, Seen, Step, Tool};
 use super::waits::{Gates, Sign};
-use super::whole::{
-    clean, clean_often, count_segments, find_inodes, lose_pass, lose_seat, sync, sync_twice, valid,
-};
+use super::whole::{clean, count_segments, find_inodes, lose_pass, lose_seat, sync, sync_twice};
 use device::Fuse;
 use flash_volume::{Block, Error, Meta, Rights, Volume, VolumeName, Work};
 use std::alloc::{AllocError, Global};
 use std::sync::{Arc, Wait};
+
+// So often is cleaned, whatever is moved.
+const CLEANS: u32 = 10;
 
 /// What the steps use beside a volume, and share with its device and with each other.
 #[derive(Drop)]
@@ -101,9 +102,9 @@ fn do_step<V: VolumeName, M: Meta, B: Block + Drop, R: Wait>(
         Step::Delete(place) => delete(rt, volume, rights, place),
         Step::Look(place, before, after) => look(rt, alloc, volume, rights, place, (before, after)),
         Step::Has(files) => Ok(Seen::Is(has(rt, alloc, volume, rights, files)?)),
-        Step::Clean => clean(rt, volume),
-        Step::CleanOften => clean_often(rt, volume),
-        Step::Valid => valid(rt, volume),
+        Step::Clean => Ok(clean(rt, volume, 1)?.0),
+        Step::CleanOften => clean(rt, volume, CLEANS).map(|_| Seen::Done),
+        Step::Valid => Ok(Seen::Number(clean(rt, volume, 1)?.1)),
         Step::Status => Ok(count_segments(rt, volume)),
         Step::Save => sync(rt, volume),
         Step::SaveTwice(place) => sync_twice(rt, volume, rights, place),

@@ -10,6 +10,9 @@ use super::step::Seen::{Cleaned, Done, Image, Is, Number, Refused, Version};
 use super::step::Step::{Base, Clean, Create, Delete, Has, On, Save, SaveTwice};
 use super::waits::Gates;
 use flash_volume::{Error, Kind, Leave, Stage};
+use std::alloc::Global;
+use std::process::Abort;
+use std::sync::Wait;
 use std::test::*;
 use test_support::{Changes, change, file_of_format_one};
 
@@ -47,17 +50,6 @@ const TWO_LEFT: [Row; 4] = [
 // The new file has an inode.
 const THREE_AGAIN: [Row; 1] = [(Base, Image(3, 15))];
 
-#[test]
-fn closed_files_are_mounted_again(rt: HostRuntime) -> Result<(), Fail> {
-    let alloc = rt.alloc();
-    let tools = Tools::new(alloc, Gates::open())?;
-    let geometry = numbers(32, 4, 64)?;
-    let parts = play_on_new(&rt, alloc, geometry, Leave::Close, &tools, &THREE_FILES)?;
-    let parts = play(&rt, alloc, parts, Leave::Close, &tools, &TWO_LEFT);
-    let _parts = play(&rt, alloc, parts, Leave::Close, &tools, &THREE_AGAIN);
-    Ok(())
-}
-
 // Eight blocks fill the segment of their log. Six are overwritten, the other two are moved, and one of them is overwritten.
 const MOVED: [Row; 5] = [
     (Create(Kind::File), Number(1)),
@@ -87,18 +79,55 @@ const MOVED_TWICE: [Row; 2] = [
     ),
 ];
 
-#[test]
-fn moved_blocks_are_mounted_again(rt: HostRuntime) -> Result<(), Fail> {
-    let alloc = rt.alloc();
-    let tools = Tools::new(alloc, Gates::open())?;
+// What is written behind the last checkpoint is lost where the volume is given up.
+const THREE_TIMES: [Row; 6] = [
+    (Create(Kind::File), Number(1)),
+    (On(0, Write(0, &[0x31])), Done),
+    (Save, Version(2)),
+    (On(0, Write(1, &[0x32])), Done),
+    (SaveTwice(0), Version(3)),
+    (On(0, Write(0, &[0x33, 0x34, 0x35])), Done),
+];
+
+const SECOND_TIME: [Row; 2] = [(Base, Image(3, 3)), (Has(&[(1, &[0x31, 0x32])]), Is(true))];
+
+const NEW: [Row; 2] = [(Base, Image(1, 0)), (Has(&[]), Is(true))];
+
+// Rows on a new volume, how it is left, and those of two mounts behind it.
+type Trip = (&'static [Row], Leave, [&'static [Row]; 2]);
+
+const TRIPS: [Trip; 4] = [
+    (&THREE_FILES, Leave::Close, [&TWO_LEFT, &THREE_AGAIN]),
+    (&MOVED, Leave::Close, [&MOVED_AGAIN, &MOVED_TWICE]),
+    (&THREE_TIMES, Leave::Discard, [&SECOND_TIME, &[]]),
+    (&[], Leave::Discard, [&NEW, &[]]),
+];
+
+fn take_trip<R: Wait + Abort>(
+    rt: &R,
+    alloc: Global,
+    tools: &Tools,
+    trip: Trip,
+) -> Result<(), Error> {
+    let (first, leave, [second, third]) = trip;
     let geometry = numbers(32, 4, 64)?;
-    let parts = play_on_new(&rt, alloc, geometry, Leave::Close, &tools, &MOVED)?;
-    let parts = play(&rt, alloc, parts, Leave::Close, &tools, &MOVED_AGAIN);
-    let _parts = play(&rt, alloc, parts, Leave::Close, &tools, &MOVED_TWICE);
+    let parts = play_on_new(rt, alloc, geometry, leave, tools, first)?;
+    let parts = play(rt, alloc, parts, Leave::Close, tools, second);
+    let _parts = play(rt, alloc, parts, Leave::Close, tools, third);
     Ok(())
 }
 
-// What the next checkpoint of that volume writes: a map that finds each part of the two tables in the other slot, and a version.
+#[test]
+fn what_is_left_is_mounted_again(rt: HostRuntime) -> Result<(), Fail> {
+    let alloc = rt.alloc();
+    let tools = Tools::new(alloc, Gates::open())?;
+    for trip in TRIPS {
+        take_trip(&rt, alloc, &tools, trip)?;
+    }
+    Ok(())
+}
+
+// What the next checkpoint of a volume of format 1 writes: a map that finds each part of the two tables in the other slot, and a version.
 const FIRST_IN_PARTS: [(usize, u8); 11] = [
     (32, 2),
     (36, 0xff),
@@ -145,28 +174,6 @@ fn volume_of_format_one_goes_on_in_parts(rt: HostRuntime) -> Result<(), Fail> {
         let bytes = bytes_of(alloc, &left.meta, left.blocks.as_slice())?;
         assert!(rt; bytes.as_slice() == file.as_slice());
     }
-    Ok(())
-}
-
-const THREE_TIMES: [Row; 6] = [
-    (Create(Kind::File), Number(1)),
-    (On(0, Write(0, &[0x31])), Done),
-    (Save, Version(2)),
-    (On(0, Write(1, &[0x32])), Done),
-    (SaveTwice(0), Version(3)),
-    (On(0, Write(0, &[0x33, 0x34, 0x35])), Done),
-];
-
-const SECOND_TIME: [Row; 2] = [(Base, Image(3, 3)), (Has(&[(1, &[0x31, 0x32])]), Is(true))];
-
-// What is written behind the last checkpoint is lost where the volume is given up.
-#[test]
-fn image_of_the_last_checkpoint_is_mounted(rt: HostRuntime) -> Result<(), Fail> {
-    let alloc = rt.alloc();
-    let tools = Tools::new(alloc, Gates::open())?;
-    let geometry = numbers(32, 4, 64)?;
-    let parts = play_on_new(&rt, alloc, geometry, Leave::Discard, &tools, &THREE_TIMES)?;
-    let _parts = play(&rt, alloc, parts, Leave::Close, &tools, &SECOND_TIME);
     Ok(())
 }
 

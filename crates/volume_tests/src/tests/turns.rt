@@ -1,12 +1,11 @@
 //! Two writers, each of which waits before its second write until the other's first one has answered.
-use super::crowd::{Crowd, run};
+use super::crowd::Crowd;
 use super::step::Act::Write;
 use super::step::Row;
 use super::step::Seen::{Done, Image, Is};
 use super::step::Step::{Base, Has, Make, On, Use};
 use super::step::Tool::{Await, Give};
 use flash_volume::Kind;
-use std::test::*;
 
 const ONE: [Row; 5] = [
     (Make(Kind::File), Done),
@@ -29,17 +28,10 @@ const BOTH: [Row; 2] = [
     (Has(&[(1, &[2]), (2, &[2])]), Is(true)),
 ];
 
-const IN_TURNS: Crowd = Crowd {
+pub(crate) const IN_TURNS: Crowd = Crowd {
     segments: 32,
     gates: &[],
     beside: &[(&ONE, &[]), (&OTHER, &[])],
     found: &BOTH,
+    runs: 100,
 };
-
-#[test]
-fn writers_answer_while_others_wait(rt: HostRuntime) -> Result<(), Fail> {
-    for _run in 0..100u32 {
-        run(&rt, rt.alloc(), IN_TURNS)?;
-    }
-    Ok(())
-}

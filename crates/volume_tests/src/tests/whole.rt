@@ -1,40 +1,31 @@
 //! Steps on a volume as a whole.
 use super::step::Seen;
-use flash_volume::{Block, Error, Meta, Policy, Rights, Volume, VolumeName};
+use flash_volume::{Block, Cleaned, Error, Meta, Policy, Rights, Volume, VolumeName};
 use std::sync::Wait;
 
-// So often is cleaned.
-const CLEANS: u32 = 10;
-
+/// Cleans so many times, and tells what the last clean did, and how many blocks were valid before it.
 pub(crate) fn clean<V: VolumeName, M: Meta, B: Block + Drop, R: Wait>(
     rt: &R,
     volume: &Volume<V, M, B>,
-) -> Result<Seen, Error> {
-    let cleaned = volume.clean(rt, Policy::Foreground, 0)?;
-    Ok(Seen::Cleaned(cleaned.section, cleaned.moved, cleaned.gone))
-}
-
-pub(crate) fn clean_often<V: VolumeName, M: Meta, B: Block + Drop, R: Wait>(
-    rt: &R,
-    volume: &Volume<V, M, B>,
-) -> Result<Seen, Error> {
-    for _round in 0..CLEANS {
-        let _cleaned = volume.clean(rt, Policy::Foreground, 0)?;
+    times: u32,
+) -> Result<(Seen, u32), Error> {
+    let mut seen = (Seen::Done, 0u32);
+    for _round in 0..times {
+        let cleaned = volume.clean(rt, Policy::Foreground, 0)?;
+        seen = (
+            Seen::Cleaned(cleaned.section, cleaned.moved, cleaned.gone),
+            valid_in(&cleaned),
+        );
     }
-    Ok(Seen::Done)
+    Ok(seen)
 }
 
-/// How many blocks are valid, by what a clean sees before it moves one.
-pub(crate) fn valid<V: VolumeName, M: Meta, B: Block + Drop, R: Wait>(
-    rt: &R,
-    volume: &Volume<V, M, B>,
-) -> Result<Seen, Error> {
-    let cleaned = volume.clean(rt, Policy::Foreground, 0)?;
+fn valid_in(cleaned: &Cleaned) -> u32 {
     let mut valid = 0u32;
     for row in &cleaned.rows {
         valid = valid.saturating_add(row.valid);
     }
-    Ok(Seen::Number(valid))
+    valid
 }
 
 /// How many segments are free, prefree, open and sealed.

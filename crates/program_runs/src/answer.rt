@@ -1,0 +1,74 @@
+//! What the program `f2fsim` tells of an input.
+use crate::input::Input;
+use program_run::{check_image, run_script, tell_files};
+use program_script::{Script, Words};
+use program_workers::OpenGate;
+use std::alloc::Global;
+use std::io;
+use std::io::Write;
+use std::sync::Wait;
+use std::thread::Threads;
+
+/// What is asked of an input: whether it is an image file, what its files are, or what it prints as a script.
+#[derive(Clone, Copy)]
+pub enum Question {
+    Check,
+    Files,
+    Script,
+}
+
+/// What is told of an input: what goes to standard output as it is, what goes to standard error behind a bar, and a status that is
+/// not 0. The bytes of a script's device are added to those that are put aside.
+pub fn answer<R: Threads + Wait + Sync>(
+    rt: &R,
+    alloc: Global,
+    question: Question,
+    input: &mut Input<'_>,
+    saved: &mut Vec<u8>,
+) -> io::Result<Vec<u8>> {
+    let mut out = Vec::new(alloc);
+    let mut errors = Vec::new(alloc);
+    let status = match question {
+        Question::Check => check_image(alloc, input, &mut out, &mut errors),
+        Question::Files => tell_files(rt, alloc, input, &mut out, &mut errors),
+        Question::Script => {
+            let saved = Some(saved);
+            run_script(rt, alloc, input, &mut out, &mut errors, saved, &OpenGate)
+        }
+    };
+    let errors = str::from_utf8(errors.as_slice()).unwrap_or("no text");
+    for line in errors.lines() {
+        writeln!(out, "| {line}")?;
+    }
+    if status != 0 {
+        writeln!(out, "status {status}")?;
+    }
+    Ok(out)
+}
+
+/// Tells the steps of a script, or at which line it is none.
+pub fn tell_script(alloc: Global, text: &[u8], told: &mut Vec<u8>) -> io::Result<()> {
+    match Script::parse(alloc, text) {
+        Ok(script) => {
+            let volume = script.volume;
+            writeln!(told, "volume {volume:?}")?;
+            for step in &script.steps {
+                writeln!(told, "{step:?}")?;
+            }
+            Ok(())
+        }
+        Err(error) => writeln!(told, "{error}"),
+    }
+}
+
+/// Tells what words, with a comma between two, ask for.
+pub fn tell_call(alloc: Global, text: &str, told: &mut Vec<u8>) -> io::Result<()> {
+    let mut words = Vec::new(alloc);
+    for word in text.split(',') {
+        words.push(word)?;
+    }
+    match Words::parse(alloc, words.as_slice()) {
+        Ok(words) => writeln!(told, "{words:?}"),
+        Err(error) => writeln!(told, "{error:?}"),
+    }
+}

@@ -1,0 +1,194 @@
+//! What stands ready for the steps of a case.
+use crate::answer::{Question, answer, tell_call, tell_script};
+use crate::input::{End, Input};
+use crate::text::{bytes_of, number, push_lines};
+use crate::turns::run_in_turns;
+use std::alloc::{AllocError, Global};
+use std::io;
+use std::io::Write;
+use std::sync::Wait;
+use std::thread::Threads;
+use test_support::{base_file, change, empty_file, file_of_format_one};
+
+/// The lines of a script that is not run yet, an image file and one that is kept beside it, and what was told.
+#[derive(Drop)]
+pub struct Stage {
+    alloc: Global,
+    script: String,
+    image: Vec<u8>,
+    kept: Vec<u8>,
+    told: Vec<u8>,
+}
+
+impl Stage {
+    pub fn new(alloc: Global) -> Stage {
+        Stage {
+            alloc,
+            script: String::new(alloc),
+            image: Vec::new(alloc),
+            kept: Vec::new(alloc),
+            told: Vec::new(alloc),
+        }
+    }
+
+    /// Adds a line to the script, or `N * LINE` so many times.
+    pub fn add(&mut self, line: &str) -> Result<(), AllocError> {
+        push_lines(&mut self.script, line)
+    }
+
+    /// Runs the script if there is one, and answers what was told.
+    pub fn told<R: Threads + Wait + Sync>(mut self, rt: &R) -> io::Result<Vec<u8>> {
+        self.run(rt, 1)?;
+        Ok(self.told)
+    }
+
+    /// Runs the script if there is one, and then does a step. The image is what was put aside last.
+    ///
+    /// - `again N` runs the script so often, and tells each time that it told something else than at first;
+    /// - `turns N` does so through a gate that holds two workers before their second call, each until the other's first has answered;
+    /// - `run TEXT` and `parse TEXT` take a text as a script, `call WORDS` words of the program;
+    /// - `empty`, `base` and `one`, of format 1, are images built by hand; `keep` keeps one, and `same` tells where another is not the same;
+    /// - `change PLACE=BYTE ..` and `cut LENGTH` change the image; `length` and `bytes FROM COUNT` tell what it is;
+    /// - `check` and `files` tell of the image, `endless` of one with zeros behind it, and `broken KIND` of one that cannot be read.
+    pub fn step<R: Threads + Wait + Sync>(&mut self, rt: &R, step: &str) -> io::Result<()> {
+        let (verb, rest) = step.split_once(' ').unwrap_or((step, ""));
+        if verb == "again" {
+            return self.run(rt, number(rest));
+        }
+        if verb == "turns" {
+            return self.take_turns(rt, number(rest));
+        }
+        self.run(rt, 1)?;
+        match verb {
+            "run" => self.run_text(rt, rest),
+            "check" => self.ask(rt, Question::Check, End::Here),
+            "files" => self.ask(rt, Question::Files, End::Here),
+            "endless" => self.read_endless(rt),
+            "broken" => self.read_broken(rt, rest),
+            "parse" => {
+                let text = bytes_of(self.alloc, rest)?;
+                tell_script(self.alloc, text.as_slice(), &mut self.told)
+            }
+            "call" => tell_call(self.alloc, rest, &mut self.told),
+            _ => self.handle(verb, rest),
+        }
+    }
+
+    // Runs the script so often, if there is one: what it told at first is told, and what it told else.
+    fn run<R: Threads + Wait + Sync>(&mut self, rt: &R, times: u32) -> io::Result<()> {
+        if self.script.is_empty() {
+            return Ok(());
+        }
+        let script = self.script.as_str();
+        let (first, image) = answer_script(rt, self.alloc, script.as_bytes())?;
+        for _ in 1..times {
+            let (next, _) = answer_script(rt, self.alloc, script.as_bytes())?;
+            if next.as_slice() != first.as_slice() {
+                self.told.extend_from_slice(next.as_slice())?;
+            }
+        }
+        self.told.extend_from_slice(first.as_slice())?;
+        self.image = image;
+        self.script = String::new(self.alloc);
+        Ok(())
+    }
+
+    // Runs the script so often, its two workers in turns.
+    fn take_turns<R: Threads + Wait + Sync>(&mut self, rt: &R, times: u32) -> io::Result<()> {
+        let script = self.script.as_str().as_bytes();
+        run_in_turns(rt, self.alloc, script, times, &mut self.told)?;
+        self.script = String::new(self.alloc);
+        Ok(())
+    }
+
+    // Runs a text as a script.
+    fn run_text<R: Threads + Wait + Sync>(&mut self, rt: &R, text: &str) -> io::Result<()> {
+        let text = bytes_of(self.alloc, text)?;
+        let (told, image) = answer_script(rt, self.alloc, text.as_slice())?;
+        self.told.extend_from_slice(told.as_slice())?;
+        self.image = image;
+        Ok(())
+    }
+
+    // Tells of the image, with such an end, and how many bytes were read of one without an end.
+    fn ask<R: Threads + Wait + Sync>(
+        &mut self,
+        rt: &R,
+        question: Question,
+        end: End,
+    ) -> io::Result<()> {
+        let mut saved = Vec::new(self.alloc);
+        let mut input = Input::new(self.image.as_slice(), end);
+        let told = answer(rt, self.alloc, question, &mut input, &mut saved)?;
+        self.told.extend_from_slice(told.as_slice())?;
+        if input.given > 0 {
+            writeln!(self.told, "read {}", input.given)?;
+        }
+        Ok(())
+    }
+
+    fn read_endless<R: Threads + Wait + Sync>(&mut self, rt: &R) -> io::Result<()> {
+        self.ask(rt, Question::Check, End::Never)?;
+        self.ask(rt, Question::Files, End::Never)
+    }
+
+    fn read_broken<R: Threads + Wait + Sync>(&mut self, rt: &R, kind: &str) -> io::Result<()> {
+        let kind = match kind {
+            "memory" => io::ErrorKind::OutOfMemory,
+            _ => io::ErrorKind::PermissionDenied,
+        };
+        self.ask(rt, Question::Check, End::Failed(kind))?;
+        self.ask(rt, Question::Script, End::Failed(kind))
+    }
+
+    // Changes the image, or tells what it is.
+    fn handle(&mut self, verb: &str, rest: &str) -> io::Result<()> {
+        match verb {
+            "empty" => self.image = empty_file(self.alloc)?,
+            "base" => self.image = base_file(self.alloc)?,
+            "one" => self.image = file_of_format_one(self.alloc)?,
+            "keep" => self.kept = Vec::from_slice(self.alloc, self.image.as_slice())?,
+            "same" if self.kept.as_slice() == self.image.as_slice() => {}
+            "change" => self.change(rest),
+            "cut" => self.image.resize(number(rest) as usize, 0)?,
+            "length" => writeln!(self.told, "{}", self.image.len())?,
+            "bytes" => self.tell_bytes(rest)?,
+            _ => writeln!(self.told, "not so: {verb} {rest}")?,
+        }
+        Ok(())
+    }
+
+    // Puts bytes at places of the image: `PLACE=BYTE ..`.
+    fn change(&mut self, changes: &str) {
+        for word in changes.split(' ') {
+            if let Some((place, byte)) = word.split_once('=')
+                && let Ok(byte) = u8::from_str_radix(byte, 16)
+            {
+                change(self.image.as_mut_slice(), &[(number(place) as usize, byte)]);
+            }
+        }
+    }
+
+    // Tells the bytes of a part of the image: `FROM COUNT`.
+    fn tell_bytes(&mut self, part: &str) -> io::Result<()> {
+        let (from, count) = part.split_once(' ').unwrap_or((part, ""));
+        let (from, count) = (number(from) as usize, number(count) as usize);
+        write!(self.told, "bytes")?;
+        for byte in self.image.as_slice().iter().skip(from).take(count) {
+            write!(self.told, " {byte:02x}")?;
+        }
+        writeln!(self.told, "")
+    }
+}
+
+// What a script tells, and what it puts aside.
+fn answer_script<R: Threads + Wait + Sync>(
+    rt: &R,
+    alloc: Global,
+    script: &[u8],
+) -> io::Result<(Vec<u8>, Vec<u8>)> {
+    let mut saved = Vec::new(alloc);
+    let mut input = Input::new(script, End::Here);
+    let told = answer(rt, alloc, Question::Script, &mut input, &mut saved)?;
+    Ok((told, saved))
+}
