@@ -4,6 +4,7 @@ ghost use Rattle.std.specs.Sync.Mutex.{mutex_guard_value};
 ghost use Rattle.rights_names.specs.Names.{layout_of};
 
 use crate::cells::{LogCell, SegmentCell, ShardCell};
+use crate::numbered::lock_numbered;
 use device::Block;
 use geometry::Geometry;
 use pool::Pool;
@@ -126,14 +127,7 @@ impl<V: VolumeName, B: Block + Drop> MainArea<V, B> {
         requires { number < V.Numbers.geometry.segments }
         ensures { (mutex_guard_value result).number ≡ number }
     {
-        // Nothing ties a lock's place to what is in it, so the number is compared; it is always the one.
-        for _ in rt.forever() {
-            let cell = self.segments[number as usize].lock(rt);
-            if cell.number == number {
-                return cell;
-            }
-        }
-        unreachable!()
+        lock_numbered(rt, &self.segments[number as usize], number)
     }
 
     /// Locks the shard of this number.
@@ -141,14 +135,7 @@ impl<V: VolumeName, B: Block + Drop> MainArea<V, B> {
         requires { number < 16 }
         ensures { (mutex_guard_value result).number ≡ number }
     {
-        // As for a segment.
-        for _ in rt.forever() {
-            let cell = self.shards[number as usize].lock(rt);
-            if cell.number == number {
-                return cell;
-            }
-        }
-        unreachable!()
+        lock_numbered(rt, &self.shards[number as usize], number)
     }
 
     /// Locks the log of this number.
@@ -156,13 +143,6 @@ impl<V: VolumeName, B: Block + Drop> MainArea<V, B> {
         requires { number < 6 }
         ensures { (mutex_guard_value result).number ≡ number }
     {
-        // As for a segment.
-        for _ in rt.forever() {
-            let cell = self.logs[number as usize].lock(rt);
-            if cell.number == number {
-                return cell;
-            }
-        }
-        unreachable!()
+        lock_numbered(rt, &self.logs[number as usize], number)
     }
 }

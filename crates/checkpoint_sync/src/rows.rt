@@ -1,12 +1,11 @@
 //! All files of a volume.
 ghost use Rattle.std.specs.Prelude.{◌≡◌, ◌≤◌, ◌⊎◌, [], vec_len, vec_capacity, OnOk, IfOk, IfErr};
-ghost use Rattle.std.specs.Sync.Mutex.{mutex_guard_value};
 ghost use Rattle.geometry.specs.declared.error.Error.TheVariants.{NoMemory, NoSpace, Device};
 ghost use Rattle.rights_permits.specs.Turns.{at_home};
 ghost use Rattle.checkpoint_sync.specs.Held.{AreWritten};
 
 use crate::held::HeldFile;
-use area::MainArea;
+use area::{MainArea, lock_numbered};
 use device::Block;
 use file_cells::FileCell;
 use file_flush::FlushBuffer;
@@ -14,7 +13,7 @@ use geometry::Error;
 use rights_books::Permit;
 use rights_names::VolumeName;
 use std::alloc::Global;
-use std::sync::{Mutex, MutexGuard, Wait};
+use std::sync::{Mutex, Wait};
 
 /// Locks each file in the order of the inode numbers, writes its marked nodes, and keeps its lock. What the files are stays,
 /// whatever is answered. The nodes' blocks have the time 0, which changes no segment's.
@@ -76,27 +75,9 @@ fn flush_each<'a, V: VolumeName + 'a, B: Block + Drop + 'a, R: Wait>(
     ensures error { IfErr result (λ error. (error ≡ Device) ⊎ (error ≡ NoSpace)) }
 {
     for index in 0..files.len() {
-        let cell = lock_file(rt, &files[index], index as u32 + 1);
+        let cell = lock_numbered(rt, &files[index], index as u32 + 1);
         let written = HeldFile::flush(rt, area, hand, cell, 0, buffer)?;
         held.push_reserved(written);
     }
     Ok(())
-}
-
-// Locks the file of this inode number.
-fn lock_file<'a, V: VolumeName + 'a, B: Block + Drop + 'a, R: Wait>(
-    rt: &R,
-    file: &'a Mutex<FileCell<V, B>>,
-    number: u32,
-) -> MutexGuard<'a, FileCell<V, B>>
-    ensures { (mutex_guard_value result).number ≡ number }
-{
-    // Nothing ties a lock's place to what is in it, so the number is compared; it is always the one.
-    for _ in rt.forever() {
-        let cell = file.lock(rt);
-        if cell.number == number {
-            return cell;
-        }
-    }
-    unreachable!()
 }

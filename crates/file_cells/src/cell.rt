@@ -8,7 +8,7 @@ ghost use Rattle.rights_permits.specs.Turns.{at_home};
 
 use crate::lodged::{cut_lodged, note_file, write_lodged};
 use crate::pass::FilePass;
-use area::MainArea;
+use area::{MainArea, Numbered};
 use device::Block;
 use geometry::Error;
 use nodes::FileState;
@@ -38,6 +38,14 @@ impl<V: VolumeName, B: Block + Drop> Model for FileCell<V, B> {
     ghost view = { λ c. record { number = c.number; account = c.account; state = c.state } };
 
     ghost invariant = { λ c. IsCell V.Books.books.book V.Numbers.geometry c.number c.account c.state };
+}
+
+impl<V: VolumeName, B: Block + Drop> Numbered for FileCell<V, B> {
+    ghost number_of = { λ cell. cell.number };
+
+    fn number(&self) -> u32 {
+        self.number
+    }
 }
 
 impl<V: VolumeName, B: Block + Drop> FileCell<V, B> {

@@ -12,6 +12,7 @@
 mod files;
 mod frames;
 mod goods;
+mod locked;
 mod made;
 mod mounted;
 mod mounted_area;

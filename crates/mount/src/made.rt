@@ -1,10 +1,14 @@
 //! All that is made for a volume out of an image before a block moves.
-ghost use Rattle.std.specs.Prelude.{◌≡◌, ◌<◌, IfOk, IfErr};
+ghost use Rattle.std.specs.Prelude.{◌≡◌, ◌<◌, length, replicate, vec_len, IfOk, IfErr};
 ghost use Rattle.atomic_table.specs.Seated.{TableId};
 ghost use Rattle.geometry.specs.declared.error.Error.TheVariants.{NoMemory};
 ghost use Rattle.image.specs.Rules.{IsLawful};
 ghost use Rattle.image.specs.View.{image_view};
 ghost use Rattle.mount.specs.Made.{AreTables, IsMemory};
+ghost use Rattle.mount_blocks.specs.Rights.{AreRights};
+ghost use Rattle.rights_books.specs.Accounts.{AreEmptySegments};
+ghost use Rattle.rights_names.specs.Names.{layout_of};
+ghost use Rattle.words.specs.Tokens.{fresh_holder};
 
 use crate::goods::{Goods, free_goods, new_goods};
 use crate::shards::new_shards;
@@ -14,7 +18,7 @@ use geometry::{Error, Geometry};
 use image::Image;
 use mount_blocks::{LoadedSegments, SegmentRights};
 use mount_files::VolumeMemory;
-use rights_books::{Books, Layout, Opened, Permits};
+use rights_books::{Books, Layout, Opened, Permits, SegmentAccount};
 use std::alloc::Global;
 use words::{CheckpointSeat, Dealt, Seat, Words};
 
@@ -40,43 +44,27 @@ impl<B: Block + Drop> MountTables<B> {
         ensures tables { IfOk result (λ tables. AreTables geometry.now (image_view image.now) tables) }
         ensures error { IfErr result (λ error. error ≡ NoMemory) }
     {
-        let layout = Layout {
-            segments: geometry.segments,
-            blocks: geometry.shape.segment_blocks(),
-            files: geometry.files,
-        };
         let Opened {
             books,
             permits,
             segments: accounts,
             files,
             shards,
-        } = Books::format(alloc, &layout)?;
+        } = Books::format(alloc, &volume_layout(geometry))?;
         let shards = new_shards(alloc, &books, shards, geometry.nodes)?;
-        let rooms = new_rooms(alloc, geometry)?;
         let segments = LoadedSegments::new(alloc, geometry)?;
-        let slips = Vec::with_capacity(alloc, geometry.segments as usize)?;
-        let Dealt {
+        let DealtRights {
             words,
-            standings,
-            slips: dealt,
             seats,
             checkpoint,
-        } = Words::new(alloc, geometry.segments, SEATS, image.version)?;
-        let mut slips = store_slips(&words, dealt, slips);
-        slips.reverse();
+            rights,
+        } = deal_rights(alloc, geometry, image.version, accounts)?;
         let Goods {
-            rooms: file_rooms,
+            rooms,
             tickets,
             tokens,
             files: states,
         } = new_goods(alloc, geometry, image)?;
-        let rights = SegmentRights {
-            rooms,
-            accounts,
-            standings,
-            slips,
-        };
         Ok(MountTables {
             books,
             permits,
@@ -88,13 +76,75 @@ impl<B: Block + Drop> MountTables<B> {
                 segments,
                 shards,
                 accounts: files,
-                rooms: file_rooms,
+                rooms,
                 tickets,
                 tokens,
                 files: states,
             },
         })
     }
+}
+
+// What the books of a volume of these numbers count.
+fn volume_layout(geometry: &Geometry) -> Layout
+    ensures { result ≡ layout_of geometry.now }
+{
+    Layout {
+        segments: geometry.segments,
+        blocks: geometry.shape.segment_blocks(),
+        files: geometry.files,
+    }
+}
+
+// The words of a volume and their seats, with the rights to its segments.
+struct DealtRights<B: Block + Drop> {
+    words: Words,
+    seats: Vec<Seat>,
+    checkpoint: CheckpointSeat,
+    rights: SegmentRights<B>,
+}
+
+// Words of which this version is complete, and rights by them to the segments of these accounts, whatever books they are of. The
+// only error is NoMemory, and then nothing is kept.
+fn deal_rights<B: Block + Drop>(
+    alloc: Global,
+    geometry: &Geometry,
+    version: u32,
+    accounts: Vec<SegmentAccount>,
+) -> Result<DealtRights<B>, Error>
+    requires version { 0 < version }
+    requires every_account { vec_len accounts ≡ geometry.now.segments }
+    ensures words { IfOk result (λ dealt. dealt.words.segments ≡ geometry.now.segments) }
+    ensures seats { IfOk result (λ dealt. dealt.seats.items ≡ replicate 64 (fresh_holder dealt.words.table)) }
+    ensures checkpoint { IfOk result (λ dealt. (dealt.checkpoint.table ≡ dealt.words.table) × (dealt.checkpoint.version ≡ version)) }
+    ensures every_segment { IfOk result (λ dealt. length dealt.rights.rooms.items ≡ geometry.now.segments) }
+    ensures rights { IfOk result (λ dealt. (book : TableId) → AreEmptySegments book accounts.items
+        → AreRights geometry.now.shape book dealt.words.table dealt.rights.rooms.items dealt.rights.accounts.items dealt.rights.standings.items dealt.rights.slips.items) }
+    ensures error { IfErr result (λ error. error ≡ NoMemory) }
+{
+    let rooms = new_rooms(alloc, geometry)?;
+    let slips = Vec::with_capacity(alloc, geometry.segments as usize)?;
+    let Dealt {
+        words,
+        standings,
+        slips: dealt,
+        seats,
+        checkpoint,
+    } = Words::new(alloc, geometry.segments, SEATS, version)?;
+    let mut slips = store_slips(&words, dealt, slips);
+    slips.reverse();
+    let rights = SegmentRights {
+        rooms,
+        accounts,
+        standings,
+        slips,
+    };
+    Ok(DealtRights {
+        words,
+        seats,
+        checkpoint,
+        rights,
+    })
 }
 
 /// Frees the memory of a volume out of a lawful image, before anything has come into it.

@@ -1,31 +1,39 @@
 //! A volume under all its names.
 ghost use Rattle.std.specs.Prelude.{◌≡◌, ◌≤◌, [], map, length, vec_len, vec_capacity, IfOk, IfErr};
 ghost use Rattle.checkpoint.specs.Holding.{AreWhole};
+ghost use Rattle.device.specs.Parts.{HasSize};
 ghost use Rattle.geometry.specs.Area.{block_count, meta_bytes};
 ghost use Rattle.geometry.specs.declared.error.Error.TheVariants.{NoMemory};
 ghost use Rattle.image.specs.Files.{files as image_files};
-ghost use Rattle.image_codec.specs.Blocks.{bytes_at};
+ghost use Rattle.image.specs.Rules.{IsLawful};
+ghost use Rattle.image.specs.View.{image_view};
+ghost use Rattle.image_codec.specs.Blocks.{AreBlocks, bytes_at};
 ghost use Rattle.packs_format.specs.Grammar.{HasSuper};
+ghost use Rattle.pool.specs.Pools.{first_account};
+ghost use Rattle.rights_names.specs.Names.{layout_of};
+ghost use Rattle.rights_permits.specs.Turns.{at_home};
 ghost use Rattle.volume.specs.Picked.{HaveNames};
+ghost use Rattle.mount.specs.Made.{IsMemory};
 
-use crate::files::lock_loaded_files;
 use crate::frames::MountFrames;
+use crate::locked::load_locks;
 use crate::mounted::{Mounted, MountedQueues, NamedMount};
-use crate::mounted_area::lock_area;
 use crate::{MountTables, free_memory};
 use area_emptying::SpareRows;
 use checkpoint::{ImagePacks, PacksCell};
 use device::{Block, Meta};
 use file_cells::FilePass;
 use file_readers::Seat;
-use mount_files::{LoadedVolume, load_volume};
+use mount_files::VolumeMemory;
 use mount_reading::{OpenFault, OpenedDevice};
-use pool::PoolPass;
+use pool::{Pool, PoolPass};
 use rights_books::FileAccount;
 use rights_names::{BooksName, GeometryName, Named, PoolName, TurnName, VolumeName, WordsName};
+use rights_permits::{AllPermits, Turnstile};
+use std::alloc::Global;
 use std::sync::Wait;
 use volume::{Base, SpareCell, Volume};
-use words::{CheckpointSeat, FreeSlip};
+use words::{CheckpointSeat, FreeSlip, Words};
 
 impl<L: BooksName, W: WordsName, N: GeometryName, M: Meta, B: Block + Drop> MountedQueues<
     L,
@@ -85,59 +93,85 @@ impl<L: BooksName, W: WordsName, N: GeometryName, M: Meta, B: Block + Drop> Moun
                 return Err(OpenFault { parts, error });
             }
         };
-        let MountFrames {
-            seats,
-            area,
-            files: file_frames,
-            spare,
-            accounts: spare_accounts,
-            kept,
-        } = frames;
-        let OpenedDevice {
-            packs,
-            mut blocks,
-            image,
-        } = device;
-        let (turnstile, mut all) = channel.named::<T>(books, permits);
-        let (pool, mut pass) = queues.named::<P>();
-        let LoadedVolume {
-            segments,
-            shards,
-            accounts,
-            files,
-            stock,
-        } = load_volume(
-            &geometry,
-            &image,
-            turnstile.books(),
-            &words,
-            &mut all.hand,
-            memory,
-            &mut blocks,
-        );
-        let area = lock_area(
-            rt, geometry, &image, turnstile, words, pool, &mut pass, segments, shards, area,
-        );
-        let (cells, passes) = lock_loaded_files(
-            area.books(),
-            &geometry,
-            &image,
-            &stock,
-            accounts,
-            files,
-            file_frames,
-        );
-        stock.end();
-        area.turnstile().scatter(rt, all);
-        let packs = lock_packs(packs, checkpoint, pass, kept);
-        let spare = keep_rows(spare, spare_accounts, blocks);
-        let base = Base {
-            version: image.version,
-            total: image.total,
-        };
-        let volume = Volume::of(alloc, area, cells, packs, spare, base);
-        Ok((volume, seats, passes))
+        let (turnstile, all) = channel.named::<T>(books, permits);
+        let (pool, pass) = queues.named::<P>();
+        Ok(put_together(
+            rt, alloc, device, turnstile, all, words, pool, pass, checkpoint, memory, frames,
+        ))
     }
+}
+
+// The volume over a device that was opened, out of its named tables, the rights to it and the memory for it, with its seats and
+// passes. It takes no memory.
+fn put_together<V: VolumeName, M: Meta, B: Block + Drop, R: Wait>(
+    rt: &R,
+    alloc: Global,
+    device: OpenedDevice<M, B>,
+    turnstile: Turnstile<V::Books, V::Turns>,
+    mut all: AllPermits<V::Books, V::Turns>,
+    words: Words,
+    pool: Pool<V::Words, V::Pool>,
+    mut pass: PoolPass<V::Words, V::Pool>,
+    checkpoint: CheckpointSeat,
+    memory: VolumeMemory<B>,
+    frames: MountFrames<V, B>,
+) -> (Volume<V, M, B>, Vec<Seat<V>>, Vec<FilePass<V>>)
+    requires geometry { device.packs.geometry ≡ V.Numbers.geometry }
+    requires lawful { IsLawful device.packs.geometry (image_view device.image) }
+    requires layout { V.Books.books.key ≡ layout_of V.Numbers.geometry }
+    requires words { words ≡ record { table = V.Words.words; segments = V.Numbers.geometry.segments } }
+    requires slots { V.Pool.ordinary.slots ≡ V.Numbers.geometry.segments }
+    requires pass { pass ≡ first_account }
+    requires hand { all.hand ≡ at_home V.Books.books.book }
+    requires memory { IsMemory device.packs.geometry (image_view device.image) V.Books.books.book V.Words.words memory }
+    requires size { HasSize M.seen B.address_of B.content_of device.packs.geometry (record { meta = device.packs.area.meta; blocks = device.blocks }) }
+    requires nodes { AreBlocks device.packs.geometry (image_view device.image) (bytes_at B.content_of device.blocks.items) }
+    requires front { HasSuper V.Numbers.geometry (M.seen device.packs.area.meta) }
+    requires whole { AreWhole M.seen M.may_leave device.packs }
+    requires version { device.image.version ≡ device.packs.area.version }
+    requires checkpoint { (checkpoint.table ≡ V.Words.words) × (checkpoint.version ≡ device.image.version) }
+    ensures seats { vec_len result.1 ≡ 64 }
+    ensures base { result.0.base ≡ record { version = device.image.version; total = device.image.total } }
+    ensures passes { map (λ pass. (pass.number, pass.file)) result.2.items
+        ≡ image_files device.packs.geometry (image_view device.image) (bytes_at B.content_of device.blocks.items) }
+{
+    let MountFrames {
+        seats,
+        area,
+        files,
+        spare,
+        accounts,
+        kept,
+    } = frames;
+    let OpenedDevice {
+        packs,
+        mut blocks,
+        image,
+    } = device;
+    let geometry = packs.geometry;
+    let base = Base {
+        version: image.version,
+        total: image.total,
+    };
+    let (area, files, passes) = load_locks(
+        rt,
+        geometry,
+        &image,
+        turnstile,
+        words,
+        pool,
+        &mut pass,
+        &mut all.hand,
+        memory,
+        &mut blocks,
+        area,
+        files,
+    );
+    area.turnstile().scatter(rt, all);
+    let packs = lock_packs(packs, checkpoint, pass, kept);
+    let spare = keep_rows(spare, accounts, blocks);
+    let volume = Volume::of(alloc, area, files, packs, spare, base);
+    (volume, seats, passes)
 }
 
 // The packs of a volume whose pool took all slips, with room to keep those that it will not take.

@@ -1,6 +1,7 @@
 //! All that is loaded at a mount.
 ghost use Rattle.std.specs.Prelude.{◌≡◌, ◌+◌, ◌<◌, ◌≤◌, ℕ, [], List, None, length, replicate, slice_index_or, vec_capacity};
 ghost use Rattle.rights_books.specs.Accounts.{FileView};
+ghost use Rattle.rights_books.specs.Weights.{mark_of};
 ghost use Rattle.rights_books.specs.declared.claim.Entry.{Entry};
 ghost use Rattle.device.specs.Parts.{IsBlockRun};
 ghost use Rattle.geometry.specs.declared.owner.Mark.{Mark};
@@ -8,7 +9,8 @@ ghost use Rattle.geometry.specs.Area.{block_count};
 ghost use Rattle.geometry.specs.Shape.{block_bytes, segment_blocks};
 ghost use Rattle.image.specs.Rules.{IsLawful};
 ghost use Rattle.image.specs.View.{image_view};
-ghost use Rattle.mount_trees.specs.Goods.{in_place, goods_weight};
+ghost use Rattle.image.specs.Walk.{names};
+ghost use Rattle.mount_trees.specs.Goods.{ArePlaced, in_place, goods_weight};
 ghost use Rattle.mount_trees.specs.Loaded.{of_rights};
 ghost use Rattle.nat.specs.Shard.{ShardNodes};
 ghost use Rattle.nodes.specs.File.{weight_of};
@@ -19,7 +21,7 @@ ghost use Rattle.mount_blocks.specs.States.{AreSegmentsFrom};
 ghost use Rattle.mount_blocks.specs.Table.{HaveBytes};
 ghost use Rattle.mount_blocks.specs.Goods.{AreGoods, AreShards};
 ghost use Rattle.mount_files.specs.Files.{AreRooms, AreFiles};
-ghost use Rattle.mount_blocks.specs.Lodging.{AreOfBook, file_of, of_file};
+ghost use Rattle.mount_blocks.specs.Lodging.{AreOfBook, file_of, of_file, of_some};
 ghost use Rattle.mount_files.specs.Empty.{AreEmptyAccounts};
 
 use crate::{load_files, tell_all_lodged};
@@ -137,9 +139,7 @@ pub fn load_volume<B: Block + Drop>(
     );
     lodge_tickets(image, books, permit, &mut accounts, &mut tickets);
     lodge_tokens(books, permit, &mut accounts, &tokens);
-    let mut stock = Stock::of(tickets, tokens);
-    load_files(geometry, image, rooms, &mut stock, &mut files);
-    tell_all_lodged(geometry, image, &stock, &files);
+    let stock = load_all_files(geometry, image, rooms, tickets, tokens, &mut files);
     LoadedVolume {
         segments,
         shards,
@@ -147,4 +147,36 @@ pub fn load_volume<B: Block + Drop>(
         files,
         stock,
     }
+}
+
+// The files of a lawful image come out of all its tickets and tokens into a table where none stands. The stock of them has nothing
+// left, and none of them was of no file.
+fn load_all_files<B: Block + Drop>(
+    geometry: &Geometry,
+    image: &Image,
+    rooms: Vec<Option<FileRoom<B>>>,
+    tickets: Vec<Option<Ticket<B>>>,
+    tokens: Vec<Option<NidToken>>,
+    files: &mut Vec<Option<FileState<B>>>,
+) -> Stock<Ticket<B>>
+    requires lawful { IsLawful geometry.now (image_view image.now) }
+    requires rooms { AreRooms geometry.now (image_view image.now) rooms.items }
+    requires goods { (bytes : ℕ → List ℕ) × AreGoods geometry.now (image_view image.now) bytes tickets.items tokens.items }
+    requires placed { ArePlaced (λ (t : Placed). t.mark) (record { tickets = tickets.items; tokens = tokens.items }) }
+    requires marks { (h : Mark → ℕ) → weigh (in_place (λ (t : Placed). h t.mark)) tickets.items + weigh (in_place (λ e. h (mark_of e))) tokens.items
+        ≡ weigh h (names geometry.now (image_view image.now)) }
+    requires none { files.old.items ≡ replicate (geometry.now.files + 1) None }
+    ensures shelves { result.all ≡ record { tickets = tickets.items; tokens = tokens.items } }
+    ensures files { AreFiles geometry.now (image_view image.now) result.all files.new.items }
+    ensures all { (ticket : Placed → ℕ) (token : Entry → ℕ) → weigh (in_place (λ f. weight_of f (of_rights ticket token))) files.new.items
+        ≡ weigh (in_place ticket) result.all.tickets + weigh (in_place token) result.all.tokens }
+    ensures nothing { goods_weight (λ _. 1) (λ _. 1) result ≡ 0 }
+    ensures of_files { (h : Mark → ℕ) → weigh (in_place (λ (t : Placed). of_some geometry.now.files (file_of (image_view image.now) t.mark.owner) (h t.mark))) result.all.tickets
+        ≡ weigh (in_place (λ (t : Placed). h t.mark)) result.all.tickets }
+    ensures tokens_of_files { (h : Entry → ℕ) → weigh (in_place (λ e. of_some geometry.now.files e.inode (h e))) result.all.tokens ≡ weigh (in_place h) result.all.tokens }
+{
+    let mut stock = Stock::of(tickets, tokens);
+    load_files(geometry, image, rooms, &mut stock, files);
+    tell_all_lodged(geometry, image, &stock, files);
+    stock
 }

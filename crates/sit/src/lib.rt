@@ -6,6 +6,7 @@
 mod bits;
 mod blocks;
 mod body;
+mod lent;
 pub mod loading;
 pub mod room;
 pub mod segment;

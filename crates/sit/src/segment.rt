@@ -5,14 +5,13 @@ ghost use Rattle.geometry.specs.declared.error.Error.TheVariants.{Device};
 ghost use Rattle.geometry.specs.Shape.{block_bytes, segment_blocks};
 ghost use Rattle.geometry.specs.Address.{address_of, segment_of, offset_of};
 ghost use Rattle.geometry.specs.Owner.{IsOwner};
-ghost use Rattle.geometry.specs.Summary.{owner_in};
 ghost use Rattle.geometry.specs.Mark.{same_mark};
 ghost use Rattle.device.specs.Parts.{IsBlockRun};
 ghost use Rattle.rights_books.specs.Lists.{times, without};
 ghost use Rattle.words.specs.Claims.{times as pins_on};
 ghost use Rattle.words.specs.Steps.{pins_with};
 ghost use Rattle.words.specs.Tokens.{IsOpened, IsSealed, IsFreed, IsKept};
-ghost use Rattle.sit.specs.Summaries.{summary_in, count_of};
+ghost use Rattle.sit.specs.Summaries.{count_of};
 ghost use Rattle.sit.specs.NextValid.{IsNextValid};
 ghost use Rattle.geometry.specs.Segment.{IsHole};
 ghost use Rattle.sit.specs.Thread.{ended, keeping, IsNextHole};
@@ -20,7 +19,7 @@ ghost use Rattle.sit.specs.declared.segment.Released.TheVariants.{Retired};
 
 use crate::body::Body;
 use device::Block;
-use geometry::{Error, Mark, Owner, State, Summary};
+use geometry::{Error, Mark, Owner, State};
 use rights_books::{Audit, Books, FileAccount, Permit, SegmentAccount};
 use std::marker::Model;
 use tickets::Ticket;
@@ -113,14 +112,6 @@ impl<B: Block + Drop> SegmentState<B> {
         ensures { result ≡ slice_index_or self.now.segment.summaries offset None }
     {
         self.body.summary(offset)
-    }
-
-    /// What stands for each block in the segment summary area, in their order: both numbers 0 where nobody names it.
-    pub fn rows(&self) -> &[Summary]
-        ensures rows { result.now ≡ map summary_in self.now.segment.summaries }
-        ensures owners { map owner_in result.now ≡ self.now.segment.summaries }
-    {
-        self.body.rows()
     }
 
     /// The least valid place at or past one.

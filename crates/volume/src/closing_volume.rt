@@ -54,12 +54,7 @@ impl<V: VolumeName, M: Meta, B: Block + Drop> Volume<V, M, B> {
         ensures error { IfErr result (λ fault. IsLeftOut (vec_len seats) fault.error ⊎ IsNotWritten fault.error) }
     {
         if let Some(error) = self.find_missing(rt, seats.as_slice(), passes.len()) {
-            return Err(CloseFault {
-                volume: self,
-                seats,
-                passes,
-                error,
-            });
+            return Err(CloseFault::of(self, seats, passes, error));
         }
         let Volume {
             alloc,
@@ -94,12 +89,7 @@ impl<V: VolumeName, M: Meta, B: Block + Drop> Volume<V, M, B> {
                     spare,
                     base,
                 };
-                Err(CloseFault {
-                    volume,
-                    seats,
-                    passes,
-                    error,
-                })
+                Err(CloseFault::of(volume, seats, passes, error))
             }
         }
     }

@@ -30,6 +30,28 @@ pub struct CloseFault<V: VolumeName, M: Meta, B: Block + Drop> {
     pub error: Error,
 }
 
+impl<V: VolumeName, M: Meta, B: Block + Drop> CloseFault<V, M, B> {
+    // All that was handed in, and why it comes back.
+    pub(crate) fn of(
+        volume: Volume<V, M, B>,
+        seats: Vec<Seat<V>>,
+        passes: Vec<FilePass<V>>,
+        error: Error,
+    ) -> CloseFault<V, M, B>
+        ensures volume { result.volume ≡ volume }
+        ensures seats { result.seats.items ≡ seats.items }
+        ensures passes { result.passes.items ≡ passes.items }
+        ensures error { result.error ≡ error }
+    {
+        CloseFault {
+            volume,
+            seats,
+            passes,
+            error,
+        }
+    }
+}
+
 impl<V: VolumeName, M: Meta, B: Block + Drop> Volume<V, M, B> {
     /// Leaves the volume, and writes nothing: the parts of the device, whose blocks hold what was written last. Whatever a crash
     /// leaves of the meta area has the superblock of the volume's numbers, and a pack that counts. It serves a wounded volume
@@ -52,12 +74,7 @@ impl<V: VolumeName, M: Meta, B: Block + Drop> Volume<V, M, B> {
         ensures error { IfErr result (λ fault. IsLeftOut (vec_len seats) fault.error) }
     {
         match self.find_missing(rt, seats.as_slice(), passes.len()) {
-            Some(error) => Err(CloseFault {
-                volume: self,
-                seats,
-                passes,
-                error,
-            }),
+            Some(error) => Err(CloseFault::of(self, seats, passes, error)),
             None => Ok(self.discard(rt)),
         }
     }

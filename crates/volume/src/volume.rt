@@ -6,7 +6,7 @@ ghost use Rattle.geometry.specs.File.{bytes_at};
 ghost use Rattle.geometry.specs.Shape.{block_bytes};
 
 use crate::cells::SpareCell;
-use area::MainArea;
+use area::{MainArea, lock_numbered};
 use checkpoint::PacksCell;
 use device::{Block, Meta};
 use file_cells::{FileCell, FilePass};
@@ -84,14 +84,7 @@ impl<V: VolumeName, M: Meta, B: Block + Drop> Volume<V, M, B> {
         requires within { number ≤ V.Numbers.geometry.files }
         ensures { (mutex_guard_value result).number ≡ number }
     {
-        // Nothing ties a lock's place to what is in it, so the number is compared; it is always the one.
-        for _ in rt.forever() {
-            let cell = self.files[number as usize - 1].lock(rt);
-            if cell.number == number {
-                return cell;
-            }
-        }
-        unreachable!()
+        lock_numbered(rt, &self.files[number as usize - 1], number)
     }
 
     /// Whether a checkpoint failed while it was written.

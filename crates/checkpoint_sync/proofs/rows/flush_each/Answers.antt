@@ -12,7 +12,7 @@ loop-index-preserved g c =
     let more = c.push_reserved.ensures.len in
     let now = c.in_ok-written.ensures in
     let count = i.0 in
-    let number : c.in_ok-written.written.number ≡ length at.held.items + 1 = now.number ∙ (c.lock_file-cell.ensures ∙ ap (λ n. n + 1) (sym count)) in (
+    let number : c.in_ok-written.written.number ≡ length at.held.items + 1 = now.number ∙ (c.lock_numbered-cell.ensures ∙ ap (λ n. n + 1) (sym count)) in (
       (let long = ap (λ xs. length xs) c.push_reserved.ensures.items in omega (arith, long, count)),
       subst (AreWritten book geometry) (sym c.push_reserved.ensures.items) (one_more book geometry at.held.items c.in_ok-written.written i.1 number now.written),
       now.hand ∙ i.2,

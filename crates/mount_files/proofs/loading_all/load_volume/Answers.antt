@@ -2,13 +2,10 @@
 -- files take both, and lodging leaves the hand as empty as it came.
 use Rattle.std.proofs.Common.{◌≡◌, ℕ, ◌+◌, ◌<◌, None, length, get_or, sym, ap, subst, ◌∙◌, arith}
 use Rattle.rights_books.specs.Accounts.{FileView, HandView}
-use Rattle.rights_books.specs.Weights.{mark_of}
 use Rattle.rights_books.specs.declared.claim.Entry.{Entry}
 use Rattle.geometry.specs.declared.owner.Mark.{Mark}
 use Rattle.image.specs.View.{image_view}
-use Rattle.mount_trees.specs.Goods.{Shelves, in_place}
-use Rattle.mount_trees.specs.Loaded.{of_rights}
-use Rattle.nodes.specs.File.{weight_of}
+use Rattle.mount_trees.specs.Goods.{ArePlaced, Shelves, in_place}
 use Rattle.geometry.specs.Weights.{weigh}
 use Rattle.tickets.specs.Placed.{Placed}
 use Rattle.mount_blocks.proofs.Rights.{bytes_of, have_own}
@@ -47,32 +44,24 @@ lodge_tokens-requires-clause-held g c =
     let same = ap (weigh h) c.lodge_tickets.ensures.tokens in
     omega arith)
 
-pub load_files-requires-clause-marks : goal.load_files-requires-clause-marks
-load_files-requires-clause-marks g c =
-    λ h. (let tickets = ap (weigh (in_place (λ (p : Placed). h p.mark))) (c.of-stock.ensures.tickets ∙ c.lodge_tickets.ensures.same) in
-    let tokens = ap (weigh (in_place (λ (e : Entry). h (mark_of e)))) c.of-stock.ensures.tokens in
-    let marks = c.load_nodes.ensures.marks h in
-    let named = c.load_segments-segments.ensures.named h in
-    omega arith)
-
-pub tell_all_lodged-requires-clause-goods : goal.tell_all_lodged-requires-clause-goods
-tell_all_lodged-requires-clause-goods g c =
+pub load_all_files-stock-requires-clause-goods : goal.load_all_files-stock-requires-clause-goods
+load_all_files-stock-requires-clause-goods g c =
     let geometry = c.args.geometry.now in
     let image = image_view c.args.image.now in
     let content = g.B.Block.content_of in
     let all = c.args.blocks.now.items in
-    let shelves : c.load_files.new.stock.all ≡ record { tickets = c.load_nodes.new.tickets.items; tokens = c.load_nodes.new.tokens.items } = c.load_files.ensures.all ∙ (c.of-stock.ensures.all ∙ (λ i. record { tickets = c.lodge_tickets.ensures.same i; tokens = c.load_nodes.new.tokens.items })) in
-    (bytes_of content all, (subst (λ (s : Shelves Placed). AreGoods geometry image (bytes_of content all) s.tickets s.tokens) (sym shelves) (c.load_nodes.ensures.goods (bytes_of content all) (c.load_segments-segments.ensures.tickets (bytes_of content all) (have_own content all)))))
+    let goods = c.load_nodes.ensures.goods (bytes_of content all) (c.load_segments-segments.ensures.tickets (bytes_of content all) (have_own content all)) in
+    (bytes_of content all, subst (λ ts. AreGoods geometry image (bytes_of content all) ts c.load_nodes.new.tokens.items) (sym c.lodge_tickets.ensures.same) goods)
 
-pub tell_all_lodged-requires-clause-all : goal.tell_all_lodged-requires-clause-all
-tell_all_lodged-requires-clause-all g c =
-    let shelves : c.load_files.new.stock.all ≡ record { tickets = c.load_nodes.new.tickets.items; tokens = c.load_nodes.new.tokens.items } = c.load_files.ensures.all ∙ (c.of-stock.ensures.all ∙ (λ i. record { tickets = c.lodge_tickets.ensures.same i; tokens = c.load_nodes.new.tokens.items })) in
-    λ ticket token. (let files = ap (weigh (in_place (λ f. weight_of f (of_rights ticket token)))) c.deref-2.ensures.value in
-    let trades = c.load_files.ensures.trades ticket token in
-    let one = ap (weigh (in_place ticket)) (ap (λ (s : Shelves Placed). s.tickets) shelves) in
-    let two = ap (weigh (in_place token)) (ap (λ (s : Shelves Placed). s.tokens) shelves) in
-    let three = ap (weigh (in_place ticket)) (c.of-stock.ensures.tickets ∙ c.lodge_tickets.ensures.same) in
-    let four = ap (weigh (in_place token)) c.of-stock.ensures.tokens in
+pub load_all_files-stock-requires-clause-placed : goal.load_all_files-stock-requires-clause-placed
+load_all_files-stock-requires-clause-placed g c =
+    subst (λ ts. ArePlaced (λ (t : Placed). t.mark) (record { tickets = ts; tokens = c.load_nodes.new.tokens.items })) (sym c.lodge_tickets.ensures.same) c.load_nodes.ensures.placed
+
+pub load_all_files-stock-requires-clause-marks : goal.load_all_files-stock-requires-clause-marks
+load_all_files-stock-requires-clause-marks g c =
+    λ h. (let tickets = ap (weigh (in_place (λ (p : Placed). h p.mark))) c.lodge_tickets.ensures.same in
+    let marks = c.load_nodes.ensures.marks h in
+    let named = c.load_segments-segments.ensures.named h in
     omega arith)
 
 pub returns-clause-goods : goal.returns-clause-goods
@@ -81,18 +70,8 @@ returns-clause-goods g c =
     let image = image_view c.args.image.now in
     let content = g.B.Block.content_of in
     let all = c.args.blocks.now.items in
-    let shelves : c.load_files.new.stock.all ≡ record { tickets = c.load_nodes.new.tickets.items; tokens = c.load_nodes.new.tokens.items } = c.load_files.ensures.all ∙ (c.of-stock.ensures.all ∙ (λ i. record { tickets = c.lodge_tickets.ensures.same i; tokens = c.load_nodes.new.tokens.items })) in
+    let shelves : c.load_all_files-stock.result.all ≡ record { tickets = c.load_nodes.new.tickets.items; tokens = c.load_nodes.new.tokens.items } = c.load_all_files-stock.ensures.shelves ∙ (λ i. record { tickets = c.lodge_tickets.ensures.same i; tokens = c.load_nodes.new.tokens.items }) in
     λ bytes have. (subst (λ (s : Shelves Placed). AreGoods geometry image bytes s.tickets s.tokens) (sym shelves) (c.load_nodes.ensures.goods bytes (c.load_segments-segments.ensures.tickets bytes have)))
-
-pub returns-clause-all : goal.returns-clause-all
-returns-clause-all g c =
-    let shelves : c.load_files.new.stock.all ≡ record { tickets = c.load_nodes.new.tickets.items; tokens = c.load_nodes.new.tokens.items } = c.load_files.ensures.all ∙ (c.of-stock.ensures.all ∙ (λ i. record { tickets = c.lodge_tickets.ensures.same i; tokens = c.load_nodes.new.tokens.items })) in
-    λ ticket token. (let trades = c.load_files.ensures.trades ticket token in
-    let one = ap (weigh (in_place ticket)) (ap (λ (s : Shelves Placed). s.tickets) shelves) in
-    let two = ap (weigh (in_place token)) (ap (λ (s : Shelves Placed). s.tokens) shelves) in
-    let three = ap (weigh (in_place ticket)) (c.of-stock.ensures.tickets ∙ c.lodge_tickets.ensures.same) in
-    let four = ap (weigh (in_place token)) c.of-stock.ensures.tokens in
-    omega arith)
 
 pub returns-clause-accounts : goal.returns-clause-accounts
 returns-clause-accounts g c =
@@ -110,7 +89,7 @@ returns-clause-accounts g c =
 pub returns-clause-lodged_tickets : goal.returns-clause-lodged_tickets
 returns-clause-lodged_tickets g c =
     let image = image_view c.args.image.now in
-    let shelves : c.load_files.new.stock.all ≡ record { tickets = c.load_nodes.new.tickets.items; tokens = c.load_nodes.new.tokens.items } = c.load_files.ensures.all ∙ (c.of-stock.ensures.all ∙ (λ i. record { tickets = c.lodge_tickets.ensures.same i; tokens = c.load_nodes.new.tokens.items })) in
+    let shelves : c.load_all_files-stock.result.all ≡ record { tickets = c.load_nodes.new.tickets.items; tokens = c.load_nodes.new.tokens.items } = c.load_all_files-stock.ensures.shelves ∙ (λ i. record { tickets = c.lodge_tickets.ensures.same i; tokens = c.load_nodes.new.tokens.items }) in
     λ k other low h. (let here : k < length c.args.memory.accounts.items = omega (arith, c.lodge_tickets.ensures.lodged.count, c.lodge_tokens.ensures.lodged.count) in
     let next : k < length c.lodge_tickets.new.accounts.items = omega (arith, c.lodge_tokens.ensures.lodged.count) in
     let was = c.requires.accounts k other here in
@@ -122,7 +101,7 @@ returns-clause-lodged_tickets g c =
 
 pub returns-clause-lodged_tokens : goal.returns-clause-lodged_tokens
 returns-clause-lodged_tokens g c =
-    let shelves : c.load_files.new.stock.all ≡ record { tickets = c.load_nodes.new.tickets.items; tokens = c.load_nodes.new.tokens.items } = c.load_files.ensures.all ∙ (c.of-stock.ensures.all ∙ (λ i. record { tickets = c.lodge_tickets.ensures.same i; tokens = c.load_nodes.new.tokens.items })) in
+    let shelves : c.load_all_files-stock.result.all ≡ record { tickets = c.load_nodes.new.tickets.items; tokens = c.load_nodes.new.tokens.items } = c.load_all_files-stock.ensures.shelves ∙ (λ i. record { tickets = c.lodge_tickets.ensures.same i; tokens = c.load_nodes.new.tokens.items }) in
     λ k other low h. (let here : k < length c.args.memory.accounts.items = omega (arith, c.lodge_tickets.ensures.lodged.count, c.lodge_tokens.ensures.lodged.count) in
     let next : k < length c.lodge_tickets.new.accounts.items = omega (arith, c.lodge_tokens.ensures.lodged.count) in
     let was = c.requires.accounts k other here in
@@ -139,7 +118,7 @@ returns-clause-permit g c =
     let image = image_view c.args.image.now in
     let content = g.B.Block.content_of in
     let all = c.args.blocks.now.items in
-    let shelves : c.load_files.new.stock.all ≡ record { tickets = c.load_nodes.new.tickets.items; tokens = c.load_nodes.new.tokens.items } = c.load_files.ensures.all ∙ (c.of-stock.ensures.all ∙ (λ i. record { tickets = c.lodge_tickets.ensures.same i; tokens = c.load_nodes.new.tokens.items })) in
+    let shelves : c.load_all_files-stock.result.all ≡ record { tickets = c.load_nodes.new.tickets.items; tokens = c.load_nodes.new.tokens.items } = c.load_all_files-stock.ensures.shelves ∙ (λ i. record { tickets = c.lodge_tickets.ensures.same i; tokens = c.load_nodes.new.tokens.items }) in
     let one : Mark → ℕ = λ _. 1 in
     let each : Entry → ℕ = λ _. 1 in
     let named = c.load_segments-segments.ensures.named one in
@@ -148,7 +127,7 @@ returns-clause-permit g c =
     let lodged = c.lodge_tickets.ensures.hand one in
     let none = ap (λ (p : HandView). weigh one p.tickets) c.requires.permit in
     let files = ap (λ n. weigh (in_place (λ (t : Placed). of_some n (file_of image t.mark.owner) 1)) c.load_nodes.new.tickets.items) c.requires.every_file in
-    let whole = c.tell_all_lodged.ensures.tickets one in
+    let whole = c.load_all_files-stock.ensures.of_files one in
     let of_all = ap (λ (s : Shelves Placed). weigh (in_place (λ (t : Placed). of_some geometry.files (file_of image t.mark.owner) 1)) s.tickets) shelves in
     let plain = ap (λ (s : Shelves Placed). weigh (in_place (λ (t : Placed). 1)) s.tickets) shelves in
     let no_tickets : weigh one c.lodge_tickets.new.permit.tickets ≡ 0 = omega arith in
@@ -159,7 +138,7 @@ returns-clause-permit g c =
     let went = c.lodge_tokens.ensures.hand each in
     let value = ap (weigh (in_place (λ (e : Entry). of_some (length c.lodge_tickets.new.accounts.items) e.inode 1))) c.deref.ensures.value in
     let count = ap (λ n. weigh (in_place (λ (e : Entry). of_some n e.inode 1)) c.load_nodes.new.tokens.items) (c.lodge_tickets.ensures.lodged.count ∙ c.requires.every_file) in
-    let whole_tokens = c.tell_all_lodged.ensures.tokens each in
+    let whole_tokens = c.load_all_files-stock.ensures.tokens_of_files each in
     let some_tokens = ap (λ (s : Shelves Placed). weigh (in_place (λ (e : Entry). of_some geometry.files e.inode 1)) s.tokens) shelves in
     let plain_tokens = ap (λ (s : Shelves Placed). weigh (in_place (λ (e : Entry). 1)) s.tokens) shelves in
     let no_tokens : weigh each c.lodge_tokens.new.permit.tokens ≡ 0 = omega arith in

@@ -1,4 +1,4 @@
-use Rattle.std.proofs.Common.{◌≡◌, sym, subst, ◌∙◌}
+use Rattle.std.proofs.Common.{◌≡◌, sym, subst, inr, ◌∙◌, rules}
 use Rattle.device.specs.Disk.{Leaves}
 use Rattle.checkpoint_image.specs.View.{taken_view}
 use Rattle.packs_format.specs.Holding.{HoldsTables}
@@ -21,3 +21,9 @@ returns-in-Ok-clause-mountable g c =
       nodes = c.close_area-blocks.ensures.nodes;
       lawful = c.in-Ok.ensures.lawful;
     }
+
+pub returns-in-Some-clause-error : goal.returns-in-Some-clause-error
+returns-in-Some-clause-error g c = rw c.of.ensures.error (search rules)
+
+pub returns-after-is_wounded-clause-error : goal.returns-after-is_wounded-clause-error
+returns-after-is_wounded-clause-error g c = rw c.of-in-Err.ensures.error (inr (search (rules, c.in-Err.ensures.error)))

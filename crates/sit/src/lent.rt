@@ -1,0 +1,18 @@
+//! What a segment lends as it lies in memory.
+ghost use Rattle.std.specs.Prelude.{◌≡◌, map};
+ghost use Rattle.geometry.specs.Summary.{owner_in};
+ghost use Rattle.sit.specs.Summaries.{summary_in};
+
+use crate::segment::SegmentState;
+use device::Block;
+use geometry::Summary;
+
+impl<B: Block + Drop> SegmentState<B> {
+    /// What stands for each block in the segment summary area, in their order: both numbers 0 where nobody names it.
+    pub fn rows(&self) -> &[Summary]
+        ensures rows { result.now ≡ map summary_in self.now.segment.summaries }
+        ensures owners { map owner_in result.now ≡ self.now.segment.summaries }
+    {
+        self.body.rows()
+    }
+}
