@@ -1,6 +1,8 @@
 -- Writing one node exchanges its token in the file and in the hand alike, and no ticket: so what was held is held, the
 -- file is what it was, and one node less is marked.
 use Rattle.std.proofs.Common.{◌≡◌, ℕ, ◌+◌, ◌==◌, ◌&&◌, ◌||◌, nat_lt, Bool, true, false, if◌then◌else◌, length, inl, refl, sym, ap, ◌∙◌, subst, eq-eqb, arith}
+use Rattle.atomic_table.specs.Seated.{TableId}
+use Rattle.geometry.specs.declared.geometry.Geometry.{Geometry}
 use Rattle.geometry.specs.declared.shape.Shape.{Shape}
 use Rattle.geometry.specs.Shape.{block_bytes}
 use Rattle.image_codec.proofs.SpellingLemmas.{length-node_bytes}
@@ -23,7 +25,7 @@ use Rattle.nodes_law.specs.Law.{strange, ragged, IsSpelled, HasOwnTokens, FileSt
 use Rattle.nodes_law.proofs.Keeping.{each_written, spells_written}
 use Rattle.nodes_law.proofs.Owning.{own_each}
 use Rattle.file_flush.specs.Written.{HasSwapped, IsWrittenTo}
-use Rattle.file_flush.specs.Flushed.{HasFlushed}
+use Rattle.file_flush.specs.Flushed.{CanFlush, HasFlushed}
 use Rattle.file_flush.proofs.Ready.{nodes_among}
 
 whole_spelled : (shape : Shape) (inode : ℕ) (n : TreeNode) (token : Entry) → IsSpelled shape inode (rewritten token n) → ragged (block_bytes shape) token ≡ 0
@@ -120,3 +122,15 @@ module _ {B L : Type 0} (files : ℕ) (old new : FileState B L) (before after : 
   still_shown is =
       sym (only_file new done.kept.file (file_of old)
       (same_shows old new (file_of old) (shows_file_of old is) done.kept.kind_is done.kept.length_is (λ i. ap content_of (done.kept.same i))))
+
+-- what could be flushed still can be
+pub still_flushable : {B L : Type 0} (geometry : Geometry) (book : TableId) (old new : FileState B L) (before after : HandView)
+    → CanFlush geometry book old before → HasFlushed geometry.files old new before after → CanFlush geometry book new after
+still_flushable geometry book old new before after was done = record {
+  book_is = done.book ∙ was.book_is;
+  shape_is = done.kept.shape_is ∙ was.shape_is;
+  file_is = done.kept.file;
+  numbered = done.numbered;
+  law = done.law;
+  held = (was.held.0, still_held geometry.files old new before after done was.held.0 was.held.1);
+}

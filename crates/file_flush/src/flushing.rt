@@ -21,7 +21,7 @@ use area::MainArea;
 use device::Block;
 use geometry::Error;
 use nodes::FileState;
-use nodes_walks::flush_next;
+use nodes_walks::flush_after;
 use rights_books::Permit;
 use rights_names::VolumeName;
 use std::sync::Wait;
@@ -77,17 +77,24 @@ fn flush_all<R: Wait, V: VolumeName, B: Block + Drop>(
     ensures flushed { HasFlushed V.Numbers.geometry.files file.old file.new hand.old hand.new }
     ensures error { IfErr result (λ error. (error ≡ Device) ⊎ (error ≡ NoSpace)) }
 {
-    'marked: while flush_node(rt, area, hand, file, now, numbers, bytes)? {}
+    // One walk writes them all. The next begins at the front, and so tells that none is left.
+    let mut from = 0;
+    'walk: while flush_node(rt, area, hand, file, now, &mut from, numbers, bytes)? {}
+    let mut front = 0;
+    'marked: while flush_node(rt, area, hand, file, now, &mut front, numbers, bytes)? {
+        front = 0;
+    }
     Ok(())
 }
 
-// Writes the first marked node of a file. Answers whether there was one.
+// Writes the first marked node of a file that begins at or past an index. Answers whether there was one, and then where it begins.
 fn flush_node<R: Wait, V: VolumeName, B: Block + Drop>(
     rt: &R,
     area: &MainArea<V, B>,
     hand: &mut Permit,
     file: &mut FileState<B>,
     now: u64,
+    from: &mut usize,
     numbers: &mut [u32],
     bytes: &mut [u8],
 ) -> Result<bool, Error>
@@ -96,7 +103,7 @@ fn flush_node<R: Wait, V: VolumeName, B: Block + Drop>(
     requires file { CanFlush V.Numbers.geometry V.Books.books.book file.old hand.old }
     ensures one { IfOk result (λ found. found ≡ true → (n : TreeNode) × (token : Entry) × WritesOne (weight_of file.old) (weight_of file.new) n token
         × HasSwapped hand.old hand.new n.token token × IsWrittenTo file.old.shape file.old.token.number n token) }
-    ensures none { IfOk result (λ found. found ≡ false → (weight_of file.old each_marked ≡ 0) × (file.new ≡ file.old) × (hand.new ≡ hand.old)) }
+    ensures none { IfOk result (λ found. found ≡ false → (from.old ≡ 0 → weight_of file.old each_marked ≡ 0) × (file.new ≡ file.old) × (hand.new ≡ hand.old)) }
     ensures refused { OnErr result ((file.new ≡ file.old) × (hand.new ≡ hand.old)) }
     ensures error { IfErr result (λ error. (error ≡ Device) ⊎ (error ≡ NoSpace)) }
     ensures kept { KeepsFile file.old file.new }
@@ -113,7 +120,7 @@ fn flush_node<R: Wait, V: VolumeName, B: Block + Drop>(
         source,
         bytes,
     };
-    let found = flush_next(file, numbers, &mut writer);
+    let found = flush_after(file, from, numbers, &mut writer);
     let AreaWriter {
         rt: _,
         area: _,

@@ -15,4 +15,4 @@ pub use entries::next_in;
 pub use file::next_data;
 pub use index::index_of;
 pub use visit::visit_node;
-pub use walk::flush_next;
+pub use walk::{flush_after, flush_next};

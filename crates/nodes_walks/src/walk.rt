@@ -38,8 +38,31 @@ pub fn flush_next<B: Block, W: NodeWriter>(
     ensures kept { KeepsFile file.old file.new }
     ensures room { length numbers.new ≡ length numbers.old }
 {
-    if !is_inode_marked(file) {
-        return flush_below(file, numbers, writer);
+    let mut from = 0;
+    flush_after(file, &mut from, numbers, writer)
+}
+
+/// Does as `flush_next` does, and passes over the nodes that begin before the index `from` below the inode, and over the inode
+/// where that is not 0. Then `from` is where the node that was lent begins: who goes on from there looks at no node twice.
+pub fn flush_after<B: Block, W: NodeWriter>(
+    file: &mut FileState<B>,
+    from: &mut usize,
+    numbers: &mut [u32],
+    writer: &mut W,
+) -> Result<bool, Error>
+    requires file { IsFile file.old }
+    requires room { node_entries file.old.shape ≤ length numbers.old }
+    requires ready { (n : TreeNode) → n.dirty ≡ true → IsAmong (weight_of file.old) n → W.ready writer.old n }
+    ensures wrote { IfOk result (λ found. found ≡ true → (n : TreeNode) × (token : Entry)
+        × WritesOne (weight_of file.old) (weight_of file.new) n token × W.wrote writer.old n token writer.new) }
+    ensures clean { IfOk result (λ found. found ≡ false → (from.old ≡ 0 → weight_of file.old each_marked ≡ 0) × (file.new ≡ file.old) × (writer.new ≡ writer.old)) }
+    ensures refused { IfErr result (λ e. (file.new ≡ file.old) × (n : TreeNode) × (n.dirty ≡ true)
+        × IsAmong (weight_of file.old) n × W.refused writer.old n e writer.new) }
+    ensures kept { KeepsFile file.old file.new }
+    ensures room { length numbers.new ≡ length numbers.old }
+{
+    if *from > 0 || !is_inode_marked(file) {
+        return flush_below(file, from, numbers, writer);
     }
     match write_inode(file, numbers, writer) {
         Ok(()) => Ok(true),
@@ -122,6 +145,7 @@ fn write_inode<B: Block, W: NodeWriter>(
 // The walk below the inode.
 fn flush_below<B: Block, W: NodeWriter>(
     file: &mut FileState<B>,
+    from: &mut usize,
     numbers: &mut [u32],
     writer: &mut W,
 ) -> Result<bool, Error>
@@ -130,7 +154,7 @@ fn flush_below<B: Block, W: NodeWriter>(
     requires ready { (n : TreeNode) → n.dirty ≡ true → IsAmong (below_weight file.old) n → W.ready writer.old n }
     ensures wrote { IfOk result (λ found. found ≡ true → (n : TreeNode) × (token : Entry)
         × WritesOne (below_weight file.old) (below_weight file.new) n token × W.wrote writer.old n token writer.new) }
-    ensures clean { IfOk result (λ found. found ≡ false → (below_weight file.old each_marked ≡ 0) × (file.new ≡ file.old) × (writer.new ≡ writer.old)) }
+    ensures clean { IfOk result (λ found. found ≡ false → (from.old ≡ 0 → below_weight file.old each_marked ≡ 0) × (file.new ≡ file.old) × (writer.new ≡ writer.old)) }
     ensures refused { IfErr result (λ e. (file.new ≡ file.old) × (n : TreeNode) × (n.dirty ≡ true)
         × IsAmong (below_weight file.old) n × W.refused writer.old n e writer.new) }
     ensures inode { inode_of file.new ≡ inode_of file.old }
@@ -138,11 +162,20 @@ fn flush_below<B: Block, W: NodeWriter>(
     ensures room { length numbers.new ≡ length numbers.old }
 {
     let entries = file.shape.node_entries() as usize;
-    if flush_entries(&mut file.direct, 2, entries, numbers, writer)? {
+    let mut at = *from;
+    if flush_entries(&mut file.direct, 2, entries, &mut at, numbers, writer)? {
+        *from = at;
         return Ok(true);
     }
-    if flush_entries(&mut file.indirect, 2, entries, numbers, writer)? {
+    let direct = 2 * entries;
+    let mut at = from.saturating_sub(direct);
+    if flush_entries(&mut file.indirect, 2, entries, &mut at, numbers, writer)? {
+        *from = direct.saturating_add(at);
         return Ok(true);
     }
-    flush_entries(&mut file.double, 1, entries, numbers, writer)
+    let indirect = direct + direct * entries;
+    let mut at = from.saturating_sub(indirect);
+    let found = flush_entries(&mut file.double, 1, entries, &mut at, numbers, writer);
+    *from = indirect.saturating_add(at);
+    found
 }

@@ -1,5 +1,5 @@
 //! The walk over the entries of a node.
-ghost use Rattle.std.specs.Prelude.{Bool, ℕ, None, ◌≡◌, ◌≤◌, ◌<◌, ◌+◌, ◌*◌, true, false, map, slice_set, length, OnOk, OnErr, IfOk, IfErr};
+ghost use Rattle.std.specs.Prelude.{Bool, ℕ, None, ◌≡◌, ◌≤◌, ◌<◌, ◌+◌, ◌*◌, ◌^◌, true, false, map, slice_set, length, OnOk, OnErr, IfOk, IfErr};
 ghost use Rattle.geometry.specs.Weights.{weigh};
 ghost use Rattle.rights_books.specs.declared.claim.Entry.{Entry};
 ghost use Rattle.tree.specs.Tree.{Same, ShapedIn, UsefulIn, AreNone, entry_at, find_in};
@@ -73,21 +73,24 @@ pub fn write_branch<C: Subtree, W: NodeWriter>(
     }
 }
 
-// Lends the first marked node below one entry to the writer.
+// Lends the first marked node below one entry to the writer, of those that begin at or past an index.
 fn flush_at<C: Walk, W: NodeWriter>(
     below: &mut Entries<C>,
     place: usize,
     entries: usize,
+    from: &mut usize,
     numbers: &mut [u32],
     writer: &mut W,
 ) -> Result<bool, Error>
     requires at { place < length below.old.slots.items }
+    requires some { 0 < entries }
+    requires fits { C.span_of entries < 2 ^ 64 }
     requires shaped { C.shaped entries (entry_at below.old.slots.items place) }
     requires room { entries ≤ length numbers.old }
     requires ready { (n : TreeNode) → n.dirty ≡ true → IsAmong (λ w. weigh (C.weight w) below.old.slots.items) n → W.ready writer.old n }
     ensures wrote { IfOk result (λ found. found ≡ true → (n : TreeNode) × (token : Entry)
         × WritesOne (λ w. weigh (C.weight w) below.old.slots.items) (λ w. weigh (C.weight w) below.new.slots.items) n token × W.wrote writer.old n token writer.new) }
-    ensures clean { IfOk result (λ found. found ≡ false → (C.weight each_marked (entry_at below.old.slots.items place) ≡ 0) × (below.new ≡ below.old) × (writer.new ≡ writer.old)) }
+    ensures clean { IfOk result (λ found. found ≡ false → (from.old ≡ 0 → C.weight each_marked (entry_at below.old.slots.items place) ≡ 0) × (below.new ≡ below.old) × (writer.new ≡ writer.old)) }
     ensures refused { IfErr result (λ e. (below.new ≡ below.old) × (n : TreeNode) × (n.dirty ≡ true)
         × IsAmong (λ w. weigh (C.weight w) below.old.slots.items) n × W.refused writer.old n e writer.new) }
     ensures entry { below.new.slots.items ≡ slice_set below.old.slots.items place (entry_at below.new.slots.items place) }
@@ -100,23 +103,26 @@ fn flush_at<C: Walk, W: NodeWriter>(
     ensures mark { below.new.dirty ≡ below.old.dirty }
     ensures room { length numbers.new ≡ length numbers.old }
 {
-    C::flush_next(&mut below.slots[place], entries, numbers, writer)
+    C::flush_next(&mut below.slots[place], entries, from, numbers, writer)
 }
 
-/// Lends the first marked node below entries to the writer, one entry after another.
+/// Lends the first marked node below entries to the writer, one entry after another, of those that begin at or past an index.
 pub fn flush_entries<C: Walk, W: NodeWriter>(
     below: &mut Entries<C>,
     count: usize,
     entries: usize,
+    from: &mut usize,
     numbers: &mut [u32],
     writer: &mut W,
 ) -> Result<bool, Error>
+    requires some { 0 < entries }
+    requires fits { C.span_of entries < 2 ^ 64 }
     requires shaped { ShapedIn (C.shaped entries) count below.old.slots.items }
     requires room { entries ≤ length numbers.old }
     requires ready { (n : TreeNode) → n.dirty ≡ true → IsAmong (λ w. weigh (C.weight w) below.old.slots.items) n → W.ready writer.old n }
     ensures wrote { IfOk result (λ found. found ≡ true → (n : TreeNode) × (token : Entry)
         × WritesOne (λ w. weigh (C.weight w) below.old.slots.items) (λ w. weigh (C.weight w) below.new.slots.items) n token × W.wrote writer.old n token writer.new) }
-    ensures clean { IfOk result (λ found. found ≡ false → (weigh (C.weight each_marked) below.old.slots.items ≡ 0) × (below.new ≡ below.old) × (writer.new ≡ writer.old)) }
+    ensures clean { IfOk result (λ found. found ≡ false → (from.old ≡ 0 → weigh (C.weight each_marked) below.old.slots.items ≡ 0) × (below.new ≡ below.old) × (writer.new ≡ writer.old)) }
     ensures refused { IfErr result (λ e. (below.new ≡ below.old) × (n : TreeNode) × (n.dirty ≡ true)
         × IsAmong (λ w. weigh (C.weight w) below.old.slots.items) n × W.refused writer.old n e writer.new) }
     ensures same { Same (find_in (C.find entries) (C.span_of entries) below.old.slots.items) (find_in (C.find entries) (C.span_of entries) below.new.slots.items) }
@@ -128,10 +134,14 @@ pub fn flush_entries<C: Walk, W: NodeWriter>(
     ensures mark { below.new.dirty ≡ below.old.dirty }
     ensures room { length numbers.new ≡ length numbers.old }
 {
-    for place in 0..below.slots.end() {
-        if flush_at(below, place, entries, numbers, writer)? {
+    let span = C::span(entries);
+    let mut inside = *from % span;
+    for place in *from / span..below.slots.end() {
+        if flush_at(below, place, entries, &mut inside, numbers, writer)? {
+            *from = place.saturating_mul(span).saturating_add(inside);
             return Ok(true);
         }
+        inside = 0;
     }
     Ok(false)
 }

@@ -14,10 +14,13 @@ returns-clause-clean g c =
     let f = c.args.file.now in
     let one = c.in_ok-flush_entries.ensures.clean c.if-branch.false in
     let two = c.in_ok-flush_entries-2.ensures.clean c.if-branch-2.false in
-    if_ok c.flush_entries-3.result c.flush_entries-3.ensures.clean (λ found all no.
+    if_ok c.flush_entries-found.result c.flush_entries-found.ensures.clean (λ found all no.
     (let three = all no in
     let tickets = weigh_zero (ticket_weight each_marked) f.tickets.slots.items (λ k h. weightless each_marked (entry_at f.tickets.slots.items k) (λ t. refl)) in (
-      omega arith,
+      λ front. (let direct = one.0 front in
+          let indirect = two.0 (omega (arith, front, c.saturating_sub-at.ensures)) in
+          let double = three.0 (omega (arith, front, c.saturating_sub-at-2.ensures)) in
+          omega arith),
       λ k. record f { direct = one.1 k; indirect = two.1 k; double = three.1 k },
       three.2 ∙ two.2 ∙ one.2,
     )))
@@ -52,6 +55,6 @@ pub returns-clause-kept : goal.returns-clause-kept
 returns-clause-kept g c =
     let one = c.in_ok-flush_entries.ensures.clean c.if-branch.false in
     let two = c.in_ok-flush_entries-2.ensures.clean c.if-branch-2.false in
-    let done = c.flush_entries-3.ensures in
-    rw (one.1, two.1) (kept_double c.args.file.now c.requires.file c.node_entries-entries.result c.node_entries-entries.ensures c.flush_entries-3.new.below
+    let done = c.flush_entries-found.ensures in
+    rw (one.1, two.1) (kept_double c.args.file.now c.requires.file c.node_entries-entries.result c.node_entries-entries.ensures c.flush_entries-found.new.below
     (record { same = done.same; namer = done.namer; useful = done.useful; shaped = done.shaped }))

@@ -30,7 +30,7 @@ returns-clause-clean g c =
     let is = entry_is xs c.args.place c.index_mut.result.now c.requires.at c.index_mut.ensures.value in
     if_ok c.flush_next.result c.flush_next.ensures.clean (λ found all no. let clean = all no in
     let same = with_slot-same c.args.below.now.slots c.args.place _ _ clean.1 c.index_mut.ensures.value in (
-      ap (g.C.Subtree.weight each_marked) is ∙ clean.0,
+      λ front. ap (g.C.Subtree.weight each_marked) is ∙ clean.0 front,
       λ k. record { dirty = c.args.below.now.dirty; slots = same k },
       clean.2,
     ))

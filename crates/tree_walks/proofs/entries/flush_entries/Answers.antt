@@ -5,8 +5,8 @@ use Rattle.tree_walks.proofs.entries.flush_entries.Goals as goal
 
 pub returns-clause-clean : goal.returns-clause-clean
 returns-clause-clean g c = λ _. (
-  weigh_used (g.C.Subtree.weight each_marked) c.args.below.now.slots.items c.end-place-end.result (g.met.C.Subtree.weight_none each_marked) c.end-place-end.ensures.nothing
-      (λ k h. c.loop-place.invariant.clean k (omega arith)),
+  λ front. weigh_used (g.C.Subtree.weight each_marked) c.args.below.now.slots.items c.end-place-end.result (g.met.C.Subtree.weight_none each_marked) c.end-place-end.ensures.nothing
+      (λ k h. c.loop-place.invariant.clean front k (omega arith)),
   c.loop-place.invariant.below,
   c.loop-place.invariant.writer,
 )

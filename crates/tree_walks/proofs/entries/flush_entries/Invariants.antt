@@ -8,5 +8,6 @@ invariant-loop-place g l = record {
   below : l.below ≡ l.fn.below;
   writer : l.writer ≡ l.fn.writer;
   room : length l.numbers ≡ length l.fn.numbers;
-  clean : (k : ℕ) → k < l.place → g.C.Subtree.weight each_marked (entry_at l.fn.below.slots.items k) ≡ 0;
+  inside : l.fn.from ≡ 0 → l.inside ≡ 0;
+  clean : l.fn.from ≡ 0 → (k : ℕ) → k < l.place → g.C.Subtree.weight each_marked (entry_at l.fn.below.slots.items k) ≡ 0;
 }
