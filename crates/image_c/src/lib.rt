@@ -8,8 +8,9 @@ mod facts;
 mod file;
 
 use facts::{Facts, facts_of, fault_of};
-use file::{copy_file, length_of};
+use file::copy_file;
 use image::Image;
+use image_reading::length_of;
 use packs_format::ReadImage;
 use std::alloc::Global;
 

@@ -11,7 +11,8 @@ use Rattle.geometry.specs.File.{File, Block, written, cut_to}
 use Rattle.geometry.specs.Shape.{block_bytes}
 use Rattle.geometry.specs.declared.shape.Shape.{Shape}
 use Rattle.geometry.specs.declared.shape.Shape.TheVariants.{Tiny, Kernel}
-use Rattle.tool_files.specs.Content.{front_bytes, HasBytes}
+use Rattle.image_reading.specs.Content.{front_bytes}
+use Rattle.tool_files.specs.Content.{HasBytes}
 
 pub block_some : (shape : Shape) → 0 < block_bytes shape
 block_some Tiny = lit< tt

@@ -1,6 +1,5 @@
 mod Contents
 mod Got
-mod Handing
 mod Many
 mod Places
 mod Rows

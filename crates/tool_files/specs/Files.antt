@@ -1,8 +1,9 @@
 -- What the passes of a volume show of named files.
-use Rattle.std.specs.Prelude.{◌≡◌, ◌≢◌, ◌⊎◌, ℕ, zero, suc, ◌==◌, if◌then◌else◌, List, [], ◌∷◌, Option, Some, None, All, take, length}
+use Rattle.std.specs.Prelude.{◌≡◌, ◌≢◌, ◌⊎◌, ℕ, zero, suc, ◌==◌, if◌then◌else◌, List, [], ◌∷◌, Option, Some, None, All, length}
 use Rattle.file_cells.specs.Pass.{Pass}
 use Rattle.geometry.specs.File.{File}
-use Rattle.tool_files.specs.Content.{all_bytes, HasBytes}
+use Rattle.image_reading.specs.Content.{all_bytes}
+use Rattle.tool_files.specs.Content.{HasBytes}
 use Rattle.tool_folder.specs.Folder.{Row, BeginsWith}
 use Rattle.tool_folder.specs.Names.{HasNoRow, IsRowOf, Removes, Renames, Renews}
 
@@ -22,16 +23,6 @@ pub record HasFolder (size : ℕ) (passes : List Pass) (rows : List Row) : Type 
   pub folder : File
   pub here : file_at 1 passes ≡ Some folder
   pub spelled : BeginsWith rows (all_bytes size folder)
-
--- the folder among the passes names a file so, and that file has these bytes
-pub record HasFile (size : ℕ) (passes : List Pass) (name bytes : List ℕ) : Type 0 where
-  pub rows : List Row
-  pub in_folder : HasFolder size passes rows
-  pub row : Row
-  pub named : IsRowOf name rows row
-  pub file : File
-  pub there : file_at row.number passes ≡ Some file
-  pub content : bytes ≡ take row.bytes (all_bytes size file)
 
 -- the file of this number has the bytes, and all others are as they were
 pub record WasWritten (size : ℕ) (bytes : List ℕ) (number : ℕ) (before after : List Pass) : Type 0 where

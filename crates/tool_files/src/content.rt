@@ -1,23 +1,18 @@
 //! Bytes to whole blocks of a file, and back.
-ghost use Rattle.std.specs.Prelude.{◌≡◌, ◌<◌, ◌≤◌, ◌*◌, ◌^◌, ◌-◌, ◌++◌, ◌⊎◌, length, replicate, take, IfOk, IfErr, OnOk};
-ghost use Rattle.std.specs.Io.KnownBytes.{Appends};
+ghost use Rattle.std.specs.Prelude.{◌≡◌, ◌<◌, ◌≤◌, ◌-◌, ◌++◌, ◌⊎◌, length, replicate, IfOk, IfErr, OnOk};
 ghost use Rattle.geometry.specs.File.{bytes_at};
 ghost use Rattle.geometry.specs.Shape.{block_bytes};
 ghost use Rattle.geometry.specs.declared.error.Error.TheVariants.{Device, NoMemory};
-ghost use Rattle.tool_files.specs.Content.{all_bytes, front_bytes, HasBytes};
+ghost use Rattle.image_reading.specs.Content.{all_bytes};
+ghost use Rattle.tool_files.specs.Content.{HasBytes};
 
 use device::{Block, Meta};
 use file_cells::FilePass;
 use geometry::Error;
 use rights_names::VolumeName;
 use std::alloc::Global;
-use std::io;
-use std::io::Write;
 use std::sync::Wait;
 use volume::Volume;
-
-// The bytes that are handed out at once at most.
-const MOST_BYTES: u32 = 65_536;
 
 /// All bytes of the blocks of a file. Answers NoMemory, or Device where the device failed.
 pub(crate) fn read_all<V: VolumeName, M: Meta, B: Block + Drop, R: Wait>(
@@ -37,64 +32,6 @@ pub(crate) fn read_all<V: VolumeName, M: Meta, B: Block + Drop, R: Wait>(
         bytes.extend_from_slice(block.as_slice())?;
     }
     Ok(bytes)
-}
-
-/// Hands the bytes of a file's blocks to a writer, so many of them at most, a piece at a time. Whether the writer took them is its
-/// own answer; after an error of it some of the front were taken.
-///
-/// Answers NoMemory, or Device where the device failed.
-pub(crate) fn hand_out<V: VolumeName, M: Meta, B: Block + Drop, R: Wait, O: Write>(
-    rt: &R,
-    alloc: Global,
-    volume: &Volume<V, M, B>,
-    pass: &FilePass<V>,
-    most: u64,
-    out: &mut O,
-) -> Result<io::Result<()>, Error>
-    ensures bytes { IfOk result (λ written. OnOk written (Appends (O.contents out.old) (O.contents out.new) (take most (all_bytes (block_bytes V.Numbers.geometry.shape) pass.now.file)))) }
-    ensures length { IfOk result (λ written. OnOk written (length (all_bytes (block_bytes V.Numbers.geometry.shape) pass.now.file) < 2 ^ 64)) }
-    ensures error { IfErr result (λ error. (error ≡ NoMemory) ⊎ (error ≡ Device)) }
-{
-    let size = volume.geometry().shape.block_bytes();
-    let blocks = MOST_BYTES / size;
-    let mut buffer = vec![in alloc; 0u8; blocks as usize * size as usize]?;
-    let mut index = 0u32;
-    let mut left = most;
-    while index < pass.length() {
-        let end = index + blocks.min(pass.length() - index);
-        let piece = &mut buffer.as_mut_slice()[..(end - index) as usize * size as usize];
-        read_blocks(rt, volume, pass, index, end, piece)?;
-        let wanted = left.min(piece.len() as u64);
-        if let Err(error) = out.write_all(&piece[..wanted as usize]) {
-            return Ok(Err(error));
-        }
-        left -= wanted;
-        index = end;
-    }
-    Ok(Ok(()))
-}
-
-// Reads the blocks that the file has from an index on to before another.
-fn read_blocks<V: VolumeName, M: Meta, B: Block + Drop, R: Wait>(
-    rt: &R,
-    volume: &Volume<V, M, B>,
-    pass: &FilePass<V>,
-    first: u32,
-    end: u32,
-    out: &mut [u8],
-) -> Result<(), Error>
-    requires out { length out.old ≡ (end - first) * block_bytes V.Numbers.geometry.shape }
-    requires order { first ≤ end }
-    requires below { end ≤ pass.now.file.length }
-    ensures bytes { OnOk result (front_bytes (block_bytes V.Numbers.geometry.shape) pass.now.file first ++ out.new ≡ front_bytes (block_bytes V.Numbers.geometry.shape) pass.now.file end) }
-    ensures error { IfErr result (λ error. error ≡ Device) }
-{
-    let size = volume.geometry().shape.block_bytes() as usize;
-    for index in first..end {
-        let from = (index - first) as usize * size;
-        read_block(rt, volume, pass, index, &mut out[from..from + size])?;
-    }
-    Ok(())
 }
 
 // Reads a block that the file has.

@@ -6,16 +6,12 @@
 
 mod content;
 mod law;
-mod refusal;
 mod tidy;
 mod walk;
 mod work;
 
 pub use cleaning::Policy;
 pub use law::put_get_law;
-pub use refusal::Refusal;
 pub use tidy::{Clean, Tidied};
-pub use work::{
-    Get, GetNumber, Handed, List, Listing, MakeFolder, NewFile, NumberedFile, Put, PutAll, Remove,
-    Rename,
-};
+pub use tool_reading::Refusal;
+pub use work::{MakeFolder, NewFile, Put, PutAll, Remove, Rename};

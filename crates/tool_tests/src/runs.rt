@@ -1,8 +1,9 @@
 //! Runs over a device: each mounts the volume, does one work, and leaves it.
-ghost use Rattle.std.specs.Prelude.{ℕ, IfOk};
+ghost use Rattle.std.specs.Prelude.{◌≡◌, ℕ, IfOk};
 ghost use Rattle.device.specs.Parts.{IsBlockRun};
 
-use flash_volume::{Block, Error, Leave, Meta, Parts, Work, work_on};
+use device::{MemBlock, MemMeta};
+use flash_volume::{Block, Error, Leave, MemDevice, Meta, Parts, Work, work_on};
 use std::alloc::Global;
 use std::sync::Wait;
 
@@ -19,4 +20,17 @@ pub fn run<M: Meta + Drop, B: Block + Drop, R: Wait, W: Work<M, B> + Drop>(
 {
     let done = work_on(rt, alloc, parts, leave, work)?;
     Ok((done.parts, done.output))
+}
+
+/// The bytes of a device in memory, as an image file has them, and its parts.
+pub fn bytes_of(
+    alloc: Global,
+    parts: Parts<MemMeta, MemBlock>,
+) -> Result<(Parts<MemMeta, MemBlock>, Vec<u8>), Error>
+    ensures { IfOk result (λ done. done.0 ≡ parts) }
+{
+    let device = MemDevice::join(parts);
+    let mut bytes = Vec::new(alloc);
+    device.append_to(&mut bytes)?;
+    Ok((device.split(), bytes))
 }

@@ -116,7 +116,7 @@ fn numbers_of(found: &ArgMatches<'_>) -> Numbers {
 }
 
 fn program<'a>(alloc: Global) -> Result<Command<'a>, AllocError> {
-    Command::new(alloc, "rusziveg")
+    let program = Command::new(alloc, "rusziveg")
         .about(
             "Flash volumes in image files: makes them, keeps named files in them, cleans, checks and draws them.",
         )
@@ -124,7 +124,15 @@ fn program<'a>(alloc: Global) -> Result<Command<'a>, AllocError> {
             "Exit status: 0 done; 1 a volume, an image or a name was refused; 2 the words were; 4 a file, a stream or memory failed.",
         )
         .subcommand_required(true)
-        .subcommand(format_command(alloc)?)?
+        .subcommand(format_command(alloc)?)?;
+    let program = with_file_commands(alloc, program)?;
+    let program = with_volume_commands(alloc, program)?;
+    with_folder_commands(alloc, program)
+}
+
+// The commands on one file of the volume, and on their list.
+fn with_file_commands<'a>(alloc: Global, program: Command<'a>) -> Result<Command<'a>, AllocError> {
+    program
         .subcommand(named(
             alloc,
             "put",
@@ -139,7 +147,15 @@ fn program<'a>(alloc: Global) -> Result<Command<'a>, AllocError> {
             "Lists the files, by name and by number",
             "json",
             "Writes JSON",
-        )?)?
+        )?)
+}
+
+// The commands on the whole volume.
+fn with_volume_commands<'a>(
+    alloc: Global,
+    program: Command<'a>,
+) -> Result<Command<'a>, AllocError> {
+    program
         .subcommand(flagged(
             alloc,
             "clean",
@@ -159,7 +175,15 @@ fn program<'a>(alloc: Global) -> Result<Command<'a>, AllocError> {
             "json",
             "Writes JSON",
         )?)?
-        .subcommand(map_command(alloc)?)?
+        .subcommand(map_command(alloc)?)
+}
+
+// The commands that copy a folder of the system.
+fn with_folder_commands<'a>(
+    alloc: Global,
+    program: Command<'a>,
+) -> Result<Command<'a>, AllocError> {
+    program
         .subcommand(foldered(
             alloc,
             "dump",

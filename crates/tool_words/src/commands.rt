@@ -4,7 +4,7 @@ use crate::command_line::{Numbers, Task, Words};
 use crate::draw::draw;
 use crate::fault::Fault;
 use crate::folders::dump;
-use crate::image_run::{image_length, now, put_making_room, read_image, run};
+use crate::image_run::{image_length, now, open_volume, put_making_room, read_image, run};
 use crate::importing::import;
 use crate::screen::Screen;
 use crate::stat::{list, stat};
@@ -15,7 +15,7 @@ use std::fs::{File, Files};
 use std::io::{BufWriter, Read, Write};
 use std::rt::Runtime;
 use std::sync::Wait;
-use tool_files::{Clean, Get, GetNumber, MakeFolder, Policy, Put, Refusal, Remove, Rename};
+use tool_files::{Clean, MakeFolder, Policy, Put, Refusal, Remove, Rename};
 use tool_folder::is_name;
 
 /// Does what the words ask for, and answers the exit status.
@@ -118,18 +118,18 @@ fn put<R: Runtime + AllocGlobal + Wait + Files<File = File>, I: Read, O: Write>(
     Ok(())
 }
 
-fn get<R: AllocGlobal + Wait + Files<File = File>, O: Write>(
+fn get<R: AllocGlobal + Files<File = File>, O: Write>(
     rt: &R,
     image: &str,
     name: Option<&str>,
     number: u32,
     out: &mut O,
 ) -> Result<(), Fault> {
-    let handed = match name {
-        Some(name) => run(rt, image, Leave::Discard, Get { name, out })??,
-        None => run(rt, image, Leave::Discard, GetNumber { number, out })??,
-    };
-    handed.written?;
+    let volume = open_volume(rt, image)?;
+    match name {
+        Some(name) => volume.get(rt.alloc(), name, out)??,
+        None => volume.get_number(rt.alloc(), number, out)??,
+    }
     Ok(())
 }
 

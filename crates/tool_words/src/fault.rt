@@ -1,6 +1,7 @@
 //! Why the program stops, and what is said then.
 use file_device::FileFault;
 use flash_volume::{Error, Fault as VolumeFault};
+use image_reading::ReadFault;
 use std::alloc::{AllocError, AllocFailed};
 use std::io;
 use std::io::Write;
@@ -48,6 +49,16 @@ impl From<FileFault> for Fault {
             FileFault::Busy => Fault::Busy,
             FileFault::NoFile => Fault::NotAFile,
             FileFault::Refused(error) => Fault::Volume(error),
+        }
+    }
+}
+
+impl From<ReadFault> for Fault {
+    fn from(fault: ReadFault) -> Fault {
+        match fault {
+            ReadFault::Io(error) => Fault::Image(error),
+            ReadFault::Out(error) => Fault::Stream(error),
+            ReadFault::Refused(error) => Fault::Volume(error),
         }
     }
 }

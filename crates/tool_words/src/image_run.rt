@@ -13,6 +13,7 @@ use std::io::Read;
 use std::sync::Wait;
 use std::time::{Clock, SystemTime};
 use tool_files::{Clean, Policy, Put, Refusal};
+use tool_reading::OpenVolume;
 
 /// The most sections that are cleaned to make room.
 const MOST_SECTIONS: u32 = 4096;
@@ -70,13 +71,30 @@ pub fn read_image<R: AllocGlobal + Files<File = File>>(
     path: &str,
 ) -> Result<(Geometry, Image), Fault> {
     let length = image_length(rt, path)?;
-    let mut file = File::open(rt, path).map_err(Fault::Image)?;
-    if file.try_lock_shared().is_err() {
-        return Err(Fault::Busy);
-    }
+    let mut file = open_to_read(rt, path)?;
     let mut bytes = Vec::with_capacity(rt.alloc(), usize::try_from(length).unwrap_or(0))?;
     file.read_to_end(&mut bytes).map_err(Fault::Image)?;
     Ok(Image::read(rt.alloc(), bytes.as_slice())?)
+}
+
+/// Opens an image file so that its files are read, and changes nothing. As long as the volume is there nobody may open the file to
+/// change it; others may read it too.
+pub fn open_volume<R: AllocGlobal + Files<File = File>>(
+    rt: &R,
+    path: &str,
+) -> Result<OpenVolume<File>, Fault> {
+    image_length(rt, path)?;
+    let file = open_to_read(rt, path)?;
+    Ok(OpenVolume::open(rt.alloc(), file)?)
+}
+
+// Opens a file that nobody changes meanwhile.
+fn open_to_read<R: AllocGlobal + Files<File = File>>(rt: &R, path: &str) -> Result<File, Fault> {
+    let file = File::open(rt, path).map_err(Fault::Image)?;
+    if file.try_lock_shared().is_err() {
+        return Err(Fault::Busy);
+    }
+    Ok(file)
 }
 
 /// The seconds since 1970, 0 where the clock fails.

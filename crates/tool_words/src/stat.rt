@@ -1,15 +1,14 @@
 //! What a volume has, in numbers.
 use crate::fault::Fault;
-use crate::image_run::{read_image, run};
-use flash_volume::{Geometry, Leave};
+use crate::image_run::{open_volume, read_image};
+use flash_volume::Geometry;
 use image::Image;
 use serde::Serialize;
 use std::alloc::Global;
 use std::fs::{File, Files};
 use std::io::Write;
-use std::sync::Wait;
-use tool_files::{List, Listing};
 use tool_folder::{Entry, FOLDER, is_name};
+use tool_reading::Listing;
 use unicode_width::UnicodeWidthStr;
 
 /// The numbers of a volume.
@@ -96,13 +95,13 @@ fn facts_of(geometry: &Geometry, image: &Image) -> Facts {
 }
 
 /// Lists the files: the named ones in the folder's order, and then the others.
-pub fn list<R: AllocGlobal + Wait + Files<File = File>, O: Write>(
+pub fn list<R: AllocGlobal + Files<File = File>, O: Write>(
     rt: &R,
     path: &str,
     json: bool,
     out: &mut O,
 ) -> Result<(), Fault> {
-    let listing = run(rt, path, Leave::Discard, List)?;
+    let listing = open_volume(rt, path)?.list(rt.alloc())?;
     let rows = rows_of(rt.alloc(), &listing)?;
     if json {
         let text = serde_json::to_string_pretty(rt.alloc(), &rows);

@@ -7,7 +7,6 @@ ghost use Rattle.tool_folder.specs.Names.{IsRowOf, IsRowPlace};
 ghost use Rattle.tool_folder.specs.Rows.{row_of};
 
 use crate::content::write_all;
-use crate::refusal::Refusal;
 use crate::walk::{are_there, place_of, read_folder, write_folder};
 use device::{Block, Meta};
 use file_cells::FilePass;
@@ -17,6 +16,7 @@ use rights_names::VolumeName;
 use std::alloc::Global;
 use std::sync::Wait;
 use tool_folder::{Entry, is_name, put_row, row_at};
+use tool_reading::Refusal;
 use volume::Volume;
 
 /// The file of a name becomes these bytes; where there is none it is made. Answers its number.

@@ -1,5 +1,4 @@
 //! Files get their bytes, one after the other.
-use crate::refusal::Refusal;
 use crate::work::Put;
 use device::{Block, Meta};
 use flash_volume::{Rights, Work};
@@ -8,6 +7,7 @@ use rights_names::VolumeName;
 use std::alloc::Global;
 use std::cell::Cell;
 use std::sync::Wait;
+use tool_reading::Refusal;
 use volume::Volume;
 
 /// A file that is to be put: its name and its bytes.

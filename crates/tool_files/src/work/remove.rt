@@ -2,7 +2,6 @@
 ghost use Rattle.std.specs.Prelude.{◌≡◌, ◌≢◌, ℕ, None, OnOk};
 ghost use Rattle.tool_files.specs.Files.{file_at};
 
-use crate::refusal::Refusal;
 use crate::walk::{place_of, read_folder, write_folder};
 use device::{Block, Meta};
 use file_cells::FilePass;
@@ -12,6 +11,7 @@ use rights_names::VolumeName;
 use std::alloc::Global;
 use std::sync::Wait;
 use tool_folder::{row_at, take_row};
+use tool_reading::Refusal;
 use volume::Volume;
 
 /// Removes a name from the folder, and deletes its file.

@@ -1,5 +1,4 @@
 //! A file gets another name.
-use crate::refusal::Refusal;
 use crate::walk::{read_folder, write_folder};
 use device::{Block, Meta};
 use flash_volume::{Rights, Work};
@@ -8,6 +7,7 @@ use rights_names::VolumeName;
 use std::alloc::Global;
 use std::sync::Wait;
 use tool_folder::{is_name, rename_row, row_at};
+use tool_reading::Refusal;
 use volume::Volume;
 
 /// A file gets another name, which no file has.

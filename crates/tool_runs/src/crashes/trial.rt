@@ -4,7 +4,8 @@ use super::recorder::{Call, Recorder};
 use file_device::{keep_in, read_device};
 use flash_volume::{Geometry, Leave, MemDevice, Shape, work_on, work_on_new};
 use std::sync::Wait;
-use tool_files::{Get, MakeFolder, Put};
+use tool_files::{Clean, MakeFolder, Policy, Put};
+use tool_reading::OpenVolume;
 use tool_words::Fault;
 
 // The file that nobody touches, and the one that is put, with its bytes before and after.
@@ -146,16 +147,21 @@ fn is(got: &Result<Vec<u8>, Fault>, bytes: &[u8]) -> bool {
     }
 }
 
-// What a run gets from an image.
+// What is got out of an image once it was mounted.
 fn got<R: AllocGlobal + Wait>(rt: &R, image: &[u8], name: &str) -> Result<Vec<u8>, Fault> {
+    let alloc = rt.alloc();
     let mut input = image;
-    let (_geometry, device) = read_device(rt.alloc(), &mut input)?;
-    let work = Get {
-        name,
-        out: Vec::new(rt.alloc()),
+    let (_geometry, device) = read_device(alloc, &mut input)?;
+    let nothing = Clean {
+        policy: Policy::Foreground,
+        most: 0,
+        now: 1,
     };
-    let done = work_on(rt, rt.alloc(), device.split(), Leave::Discard, work)?;
-    let handed = done.output?;
-    handed.written?;
-    Ok(handed.out)
+    let mounted = work_on(rt, alloc, device.split(), Leave::Discard, nothing)?;
+    let mut bytes = Vec::new(alloc);
+    MemDevice::join(mounted.parts).append_to(&mut bytes)?;
+    let volume = OpenVolume::open(alloc, bytes.as_slice())?;
+    let mut got = Vec::new(alloc);
+    volume.get(alloc, name, &mut got)??;
+    Ok(got)
 }

@@ -2,7 +2,7 @@ use Rattle.std.proofs.Common.{◌≡◌, ◌∙◌, ◌++◌, ap, sym, add-one, 
 use Rattle.std.proofs.lemmas.Grind.{common_steps}
 use Rattle.geometry.specs.File.{bytes_at}
 use Rattle.geometry.specs.Shape.{block_bytes}
-use Rattle.tool_files.specs.Content.{front_bytes}
+use Rattle.image_reading.specs.Content.{front_bytes}
 use Rattle.tool_files.proofs.content.read_all.Goals as goal
 
 pub loop-index-preserved : goal.loop-index-preserved

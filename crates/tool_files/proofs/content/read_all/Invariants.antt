@@ -1,6 +1,6 @@
 use Rattle.std.proofs.Common.{◌≡◌, length}
 use Rattle.geometry.specs.Shape.{block_bytes}
-use Rattle.tool_files.specs.Content.{front_bytes}
+use Rattle.image_reading.specs.Content.{front_bytes}
 use Rattle.tool_files.proofs.content.read_all.Given as goal
 
 abbrev pub invariant-loop-index : goal.invariant-loop-index

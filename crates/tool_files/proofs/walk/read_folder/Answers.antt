@@ -1,7 +1,7 @@
 use Rattle.std.proofs.Common.{◌≡◌, ◌∙◌, ℕ, List, Some, map, get_or, unwrap_or, ap, sym, subst, rules}
 use Rattle.geometry.specs.Shape.{block_bytes}
 use Rattle.file_cells.specs.Pass.{Pass}
-use Rattle.tool_files.specs.Content.{all_bytes}
+use Rattle.image_reading.specs.Content.{all_bytes}
 use Rattle.tool_folder.specs.Folder.{Row, BeginsWith}
 use Rattle.tool_files.specs.Files.{file_at, HasFolder, IsPlace}
 use Rattle.tool_folder.specs.Rows.{row_of}

@@ -1,0 +1,3 @@
+mod FileBlocks
+pub mod Handing
+mod Tables

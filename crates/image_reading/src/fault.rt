@@ -1,0 +1,39 @@
+//! Why an image file was not read.
+use geometry::Error;
+use std::alloc::{AllocError, AllocFailed};
+use std::io;
+
+/// Why an image file was not read.
+#[derive(Debug, Drop)]
+pub enum ReadFault {
+    /// It could not be read.
+    Io(io::Error),
+    /// The writer that was handed its bytes failed.
+    Out(io::Error),
+    /// NoMemory, or what is wrong with the image.
+    Refused(Error),
+}
+
+impl From<io::Error> for ReadFault {
+    fn from(error: io::Error) -> ReadFault {
+        ReadFault::Io(error)
+    }
+}
+
+impl From<Error> for ReadFault {
+    fn from(error: Error) -> ReadFault {
+        ReadFault::Refused(error)
+    }
+}
+
+impl From<AllocError> for ReadFault {
+    fn from(_error: AllocError) -> ReadFault {
+        ReadFault::Refused(Error::NoMemory)
+    }
+}
+
+impl<T: Drop> From<AllocFailed<T>> for ReadFault {
+    fn from(_failed: AllocFailed<T>) -> ReadFault {
+        ReadFault::Refused(Error::NoMemory)
+    }
+}

@@ -1,0 +1,14 @@
+//! The image of a volume, and its files, read where they stand in an image file: no block is kept.
+#![tactic(auto)]
+
+mod address;
+mod blocks;
+mod fault;
+mod reading;
+mod source;
+
+pub use address::{address_at, length_of};
+pub use blocks::hand_out;
+pub use fault::ReadFault;
+pub use reading::read_image;
+pub use source::ImageSource;
