@@ -1,7 +1,8 @@
 //! How long checkpoints take, a close and a mount, on one thread.
 //!
-//! A new volume gets a file, some of whose blocks stand so far from each other that each has a node of its own. Then a block is
-//! written again and a checkpoint written, which finds few nodes marked, and then a tenth of the first blocks and another one; the volume is closed, and what was closed is mounted. In a small volume what was done is told. Otherwise the
+//! A new volume gets a file, some of whose blocks stand so far from each other that each has a node of its own, and a checkpoint
+//! writes all. Then a block is written again and a checkpoint written, which finds few nodes marked, ten times, and then a tenth of
+//! the first blocks and another one; the volume is closed, and what was closed is mounted. In a small volume what was done is told. Otherwise the
 //! microseconds are told, beside those of one copy of the bytes of a pack, and how many these are.
 mod report;
 mod work;

@@ -4,10 +4,12 @@ use std::fmt::Write;
 use std::io;
 use std::time::Duration;
 
-/// How many blocks the file has, and the times of two checkpoints: after one block was written, and after a tenth of all.
+/// How many blocks the file has, and the times of checkpoints: the first, which writes all; the least after one block was written;
+/// and after a tenth of all.
 #[derive(Clone, Copy)]
 pub struct Checkpoints {
     pub blocks: u32,
+    pub all: Duration,
     pub one: Duration,
     pub tenth: Duration,
 }
@@ -40,14 +42,20 @@ impl Found {
     // The microseconds of each call.
     fn tell_times(self, text: &mut String) -> io::Result<()> {
         let (blocks, total) = (self.checkpoints.blocks, self.total);
-        let (one, tenth) = (
-            self.checkpoints.one.as_micros(),
-            self.checkpoints.tenth.as_micros(),
-        );
+        let Checkpoints {
+            all,
+            one,
+            tenth,
+            ..
+        } = self.checkpoints;
+        let (all, one, tenth) = (all.as_micros(), one.as_micros(), tenth.as_micros());
         let (close, mount) = (self.close.as_micros(), self.mount.as_micros());
         let (bytes, copy) = (self.pack, self.copy.as_micros());
         write!(text, "{blocks} blocks, total {total}: ")?;
-        write!(text, "sync after one {one} us, after a tenth {tenth} us, ")?;
+        write!(
+            text,
+            "first sync {all} us, after one {one} us, after a tenth {tenth} us, "
+        )?;
         write!(text, "close {close} us, mount {mount} us, ")?;
         write!(text, "copy of a pack of {bytes} bytes {copy} us\n")?;
         Ok(())

@@ -9,8 +9,11 @@ use std::io;
 use std::sync::Wait;
 use std::time::{Clock, Duration, Instant};
 
-/// Writes a file, and checkpoints after one of its blocks was written again and after a tenth of them. With their times comes the
-/// moment at which all was done.
+// So often one block is written again and a checkpoint written.
+const ROUNDS: u32 = 10;
+
+/// Writes a file, and checkpoints: of all of it, after one of its blocks was written again, and after a tenth of them. With their
+/// times comes the moment at which all was done.
 #[derive(Drop)]
 pub struct WriteAndSync<'a, C> {
     pub clock: &'a C,
@@ -52,12 +55,31 @@ fn write_and_sync<V: VolumeName, M: Meta, B: Block + Drop, R: Wait, C: Clock>(
     } = size;
     desk.write_each(rt, 0, 1, blocks)?;
     desk.write_each(rt, shape.inode_entries(), shape.node_entries(), far)?;
-    desk.sync(rt)?;
-    desk.write_each(rt, 0, 1, 1)?;
-    let one = sync(rt, clock, desk)?;
+    let all = sync(rt, clock, desk)?;
+    let one = least_sync(rt, clock, desk)?;
     desk.write_each(rt, 0, 1, blocks / 10)?;
     let tenth = sync(rt, clock, desk)?;
-    Ok((Checkpoints { blocks, one, tenth }, Instant::now(clock)?))
+    let times = Checkpoints {
+        blocks,
+        all,
+        one,
+        tenth,
+    };
+    Ok((times, Instant::now(clock)?))
+}
+
+// The least time of a checkpoint after one block was written again.
+fn least_sync<V: VolumeName, M: Meta, B: Block + Drop, R: Wait, C: Clock>(
+    rt: &R,
+    clock: &C,
+    desk: &mut Desk<'_, V, M, B>,
+) -> Result<Duration, Fault> {
+    let mut least = Duration::MAX;
+    for _ in 0..ROUNDS {
+        desk.write_each(rt, 0, 1, 1)?;
+        least = least.min(sync(rt, clock, desk)?);
+    }
+    Ok(least)
 }
 
 // The time of a checkpoint that has the file.
