@@ -21,7 +21,7 @@ use area::MainArea;
 use device::Block;
 use geometry::Error;
 use nodes::FileState;
-use nodes_walks::flush_after;
+use nodes_walks::flush_next;
 use rights_books::Permit;
 use rights_names::VolumeName;
 use std::sync::Wait;
@@ -120,7 +120,7 @@ fn flush_node<R: Wait, V: VolumeName, B: Block + Drop>(
         source,
         bytes,
     };
-    let found = flush_after(file, from, numbers, &mut writer);
+    let found = flush_next(file, from, numbers, &mut writer);
     let AreaWriter {
         rt: _,
         area: _,

@@ -7,8 +7,10 @@ use Rattle.std.proofs.lemmas.List.{get_or_append_left, get_or_push, length-appen
 use Rattle.tickets.specs.Placed.{Placed}
 use Rattle.tree.specs.Tree.{EmptyFrom}
 use Rattle.nodes.specs.declared.file.FileState.{FileState}
-use Rattle.nodes.specs.File.{IsFile, ticket_at, content_of}
+use Rattle.nodes.specs.File.{IsFile, address_of, ticket_at, content_of}
 use Rattle.nodes_walks.specs.Data.{IsNextData}
+use Rattle.nodes_walks.specs.Lent.{IsLent}
+use Rattle.nodes_walks.specs.declared.data_walk.LentBlock.{LentBlock}
 use Rattle.file_readers.specs.Law.{AreLent, AreOfFile, AreRising, IsAmong}
 
 none_some : {A X : Type 0} (o : Option X) → o ≡ None → IsSome o → A
@@ -18,6 +20,19 @@ none_some o none some = absurd (let no = sym some ∙ ap is_some none in cc)
 pub some_there : {X : Type 0} (o : Option X) → IsSome o → (x : X) × (o ≡ Some x)
 some_there {X} None some = absurd (let no = some in cc)
 some_there (Some x) some = (x, refl)
+
+-- what a block that was lent says of the place where it stands
+module _ {Lease : Type 0} (items : Lease → List ℕ) (lent : LentBlock Lease) where
+  abbrev pub IsLentAt : Option Placed → Type 0
+  IsLentAt o = IsLent (λ (t : Placed). t.mark.address) (λ (t : Placed). t.content) items lent o
+
+  pub lent_address : (o : Option Placed) → IsLentAt o → lent.address ≡ address_of o
+  lent_address None so = absurd so
+  lent_address (Some t) so = sym so.0
+
+  pub lent_bytes : (o : Option Placed) → IsLentAt o → MatchOption o ⊥ (λ t. items lent.lease ≡ t.content)
+  lent_bytes None so = absurd so
+  lent_bytes (Some t) so = so.1
 
 -- the next block stands below the file's length
 pub below_length : {B L : Type 0} (f : FileState B L) → IsFile f → (from i : ℕ) → IsNextData (ticket_at f) from (Some i) → i < f.length

@@ -23,7 +23,7 @@ use area::MainArea;
 use device::Block;
 use geometry::Error;
 use nodes::FileState;
-use nodes_walks::next_data;
+use nodes_walks::lend_next;
 use rights_books::FileAccount;
 use rights_claims::Remembered;
 use rights_names::VolumeName;
@@ -113,16 +113,12 @@ fn prepare<V: VolumeName, B: Block + Drop>(
     let mut leases = Vec::new(alloc);
     area.books().show_within(account);
     let mut from = 0;
-    while let Some(index) = next_data(file, from) {
-        let segment = area.geometry().segment_of(file.slot(index));
+    while let Some(lent) = lend_next(file, from)? {
+        let index = lent.index as u32;
+        let segment = area.geometry().segment_of(lent.address);
         noted[segment as usize] = true;
-        match file.lend(index)? {
-            Some(lease) => {
-                indexes.push(index)?;
-                leases.push(lease)?;
-            }
-            None => unreachable!(),
-        }
+        indexes.push(index)?;
+        leases.push(lent.lease)?;
         from = index + 1;
     }
     Ok(Prepared {

@@ -51,6 +51,11 @@ module _ {C L : Type 0} (find : Option C → ℕ → Option L) (span : ℕ) (slo
           ],
         )
 
+    -- and so does what is said of it
+    pub found_with : (P : Option L → Type 0) → ((i : ℕ) → span ≤ i → find (entry_at slots at) i ≡ None) → (i : ℕ)
+        → IsNextData (find (entry_at slots at)) (from - at * span) (Some i) → P (find (entry_at slots at) i) → P (find_in find span slots (at * span + i))
+    found_with P past i next so = subst P (sym (below i (within_width (find (entry_at slots at)) span (from - at * span) i past next))) so
+
 -- nothing stands below any entry
 pub passed_all : {C L : Type 0} (find : Option C → ℕ → Option L) (span : ℕ) (slots : List (Option C)) (from to : ℕ)
     → Passed find span slots from to → ((j : ℕ) → to ≤ j → find_in find span slots j ≡ None) → EmptyFrom (find_in find span slots) from

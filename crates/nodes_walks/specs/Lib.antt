@@ -1,3 +1,4 @@
 pub mod Unmarked
 pub mod Data
+pub mod Lent
 pub mod Kept

@@ -10,9 +10,9 @@ mod index;
 mod visit;
 mod walk;
 
-pub use data_walk::SeekData;
-pub use entries::next_in;
-pub use file::next_data;
+pub use data_walk::{LentBlock, SeekData};
+pub use entries::{lend_next_in, next_in};
+pub use file::{lend_next, next_data};
 pub use index::index_of;
 pub use visit::visit_node;
-pub use walk::{flush_after, flush_next};
+pub use walk::flush_next;

@@ -18,33 +18,13 @@ use tree_walks::{NodeBlock, NodeWriter, flush_entries, spell_entries};
 const CHILDREN: usize = 5;
 
 /// Lends the first marked node to the writer, in this order: the inode, then the trees of its five pointers, one after
-/// another, each node before what its entries name. After an Ok of the writer the node is no longer marked. Answers
-/// whether there was one. A refused node stays as it was, and so does all else; the file is as it was in each case.
+/// another, each node before what its entries name. It passes over the nodes that begin before the index `from` below the inode,
+/// and over the inode where that is not 0; then `from` is where the node that was lent begins, so who goes on from there looks at
+/// no node twice. After an Ok of the writer the node is no longer marked. Answers whether there was one. A refused node stays as
+/// it was, and so does all else; the file is as it was in each case.
 ///
 /// `numbers` has room for the entries of a node.
 pub fn flush_next<B: Block, W: NodeWriter>(
-    file: &mut FileState<B>,
-    numbers: &mut [u32],
-    writer: &mut W,
-) -> Result<bool, Error>
-    requires file { IsFile file.old }
-    requires room { node_entries file.old.shape ≤ length numbers.old }
-    requires ready { (n : TreeNode) → n.dirty ≡ true → IsAmong (weight_of file.old) n → W.ready writer.old n }
-    ensures wrote { IfOk result (λ found. found ≡ true → (n : TreeNode) × (token : Entry)
-        × WritesOne (weight_of file.old) (weight_of file.new) n token × W.wrote writer.old n token writer.new) }
-    ensures clean { IfOk result (λ found. found ≡ false → (weight_of file.old each_marked ≡ 0) × (file.new ≡ file.old) × (writer.new ≡ writer.old)) }
-    ensures refused { IfErr result (λ e. (file.new ≡ file.old) × (n : TreeNode) × (n.dirty ≡ true)
-        × IsAmong (weight_of file.old) n × W.refused writer.old n e writer.new) }
-    ensures kept { KeepsFile file.old file.new }
-    ensures room { length numbers.new ≡ length numbers.old }
-{
-    let mut from = 0;
-    flush_after(file, &mut from, numbers, writer)
-}
-
-/// Does as `flush_next` does, and passes over the nodes that begin before the index `from` below the inode, and over the inode
-/// where that is not 0. Then `from` is where the node that was lent begins: who goes on from there looks at no node twice.
-pub fn flush_after<B: Block, W: NodeWriter>(
     file: &mut FileState<B>,
     from: &mut usize,
     numbers: &mut [u32],

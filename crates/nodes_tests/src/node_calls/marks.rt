@@ -58,8 +58,12 @@ fn flush_all(file: &mut FileState<MemBlock>, recorder: &mut Recorder) -> Result<
     ensures held { (marks : List MarkOf) (entries : List Entry) → AreHeld file.old marks entries → AreHeld file.new marks entries }
 {
     let mut numbers = [0u32; 10];
-    'marked: while flush_next(file, &mut numbers, recorder)? {}
-    Ok(())
+    'marked: loop {
+        let mut from = 0;
+        if !flush_next(file, &mut from, &mut numbers, recorder)? {
+            return Ok(());
+        }
+    }
 }
 
 // Writes all marked nodes.

@@ -3,8 +3,8 @@ use Rattle.file_flush.specs.Written.{IsWritable, IsInHand}
 use Rattle.file_flush.proofs.Ready.{writable, in_hand}
 use Rattle.file_flush.proofs.flushing.flush_node.Goals as goal
 
-pub flush_after-found-requires-clause-ready : goal.flush_after-found-requires-clause-ready
-flush_after-found-requires-clause-ready g c =
+pub flush_next-found-requires-clause-ready : goal.flush_next-found-requires-clause-ready
+flush_next-found-requires-clause-ready g c =
     let f = c.args.file.now in
     let was = c.requires.file in
     let shape = was.shape_is in

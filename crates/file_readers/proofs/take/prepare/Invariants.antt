@@ -4,8 +4,8 @@ use Rattle.file_readers.proofs.Lending.{AreLentBelow}
 use Rattle.file_readers.proofs.Pinning.{AreCoveredBelow}
 use Rattle.file_readers.proofs.take.prepare.Given as goal
 
-abbrev pub invariant-loop-index : goal.invariant-loop-index
-invariant-loop-index g l = record {
+abbrev pub invariant-loop-leases : goal.invariant-loop-leases
+invariant-loop-leases g l = record {
   same : l.file ≡ l.fn.file;
   account : l.account ≡ l.fn.account;
   bound : l.from ≤ l.fn.file.length;
@@ -15,5 +15,5 @@ invariant-loop-index g l = record {
   occupied : AreOccupied g.V.Numbers.GeometryName.geometry.shape l.noted.items l.fn.account.tickets;
 }
 
-abbrev pub decreases-loop-index : goal.decreases-loop-index
-decreases-loop-index g l = l.fn.file.length - l.from
+abbrev pub decreases-loop-leases : goal.decreases-loop-leases
+decreases-loop-leases g l = l.fn.file.length - l.from

@@ -1,3 +1,4 @@
+-- The indexes ascend, so the search finds the lease of an index, or shows that the file has a hole there.
 use Rattle.std.proofs.Common.{◌≡◌, ◌∙◌, ◌<◌, length, get_or, replicate, ap, subst, arith, Err}
 use Rattle.std.specs.List.Sorted.{IsBinarySearchResult}
 use Rattle.std.specs.Ordering.{nat_cmp}

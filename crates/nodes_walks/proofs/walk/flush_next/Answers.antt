@@ -1,5 +1,5 @@
 use Rattle.nodes_walks.proofs.Keeping.{kept_unmarked, kept_same}
-use Rattle.nodes_walks.proofs.walk.flush_after.Goals as goal
+use Rattle.nodes_walks.proofs.walk.flush_next.Goals as goal
 
 pub returns-in-Ok-clause-kept : goal.returns-in-Ok-clause-kept
 returns-in-Ok-clause-kept g c =
