@@ -2,6 +2,7 @@ mod Consumed
 mod Front
 pub mod Texts
 mod Memory
+pub mod Loans
 pub mod Runs
 pub mod Going
 pub mod Shown

@@ -1,26 +1,22 @@
-//! What is told at the end of a script: its device is mounted, and the files are read. A function for each step of the mount, so
-//! that names are picked between them.
+//! What is told at the end of a script: its device is mounted, and the files are read.
 ghost use Rattle.std.specs.Prelude.{◌≡◌, ◌<◌, ◌++◌, ℕ, false, length, map, IfErr, IfOk, OnOk};
 ghost use Rattle.std.specs.Io.KnownBytes.{Appends};
 ghost use Rattle.device.specs.Parts.{IsBlockRun};
 ghost use Rattle.geometry.specs.Shape.{block_bytes};
-ghost use Rattle.image_codec.specs.Blocks.{bytes_at};
 ghost use Rattle.program_run.specs.Ending.{ToldParts};
-ghost use Rattle.program_session.specs.Lines.{block_text, file_line, image_lines, lines_of, total_line};
+ghost use Rattle.program_session.specs.Lines.{block_text, file_line, lines_of, total_line};
 ghost use Rattle.program_run.specs.Run.{names_line};
-ghost use Rattle.volume.specs.Picked.{HaveNames};
 
 use crate::stop::Stop;
 use device::{Block, Meta, Parts};
 use file_cells::FilePass;
+use flash_volume::{Done, Leave, Rights, Visit, visit_volume};
 use geometry::Error;
-use mount::{Mounted, MountedQueues, mount};
 use program_session::Content;
 use program_session::lines::tell_total;
-use rights_names::{BooksName, GeometryName, PoolName, TurnName, VolumeName, WordsName};
+use rights_names::VolumeName;
 use std::alloc::Global;
 use std::io::Write;
-use std::marker::Brand;
 use std::sync::Wait;
 use volume::Volume;
 
@@ -35,55 +31,61 @@ pub fn tell_parts<M: Meta + Drop, B: Block + Drop, R: Wait, O: Write>(
     ensures told { OnOk result (ToldParts M.seen B.content_of parts (O.contents out.old) (O.contents out.new)) }
     ensures err { IfErr result (λ stop. names_line stop ≡ false) }
 {
-    match mount(alloc, parts) {
-        Ok(mounted) => tell_mounted::<Brand, Brand, Brand, M, B, R, O>(rt, alloc, mounted, out),
+    let visit = TellFiles { out: &mut *out };
+    match visit_volume(rt, alloc, parts, Leave::Discard, visit) {
+        Ok(left) => match left {
+            Ok(done) => {
+                let Done {
+                    parts: _parts,
+                    output,
+                } = done;
+                let Told { out: writer, told } = output;
+                // No effect at run time. The proof reads what `out` holds from this use of `writer`.
+                let _ = &*writer;
+                told
+            }
+            Err(fault) => Err(Stop::Refused(fault.error)),
+        },
         Err(fault) => Err(Stop::Refused(fault.error)),
     }
 }
 
-fn tell_mounted<
-    L: BooksName,
-    W: WordsName,
-    N: GeometryName,
-    M: Meta + Drop,
-    B: Block + Drop,
-    R: Wait,
-    O: Write,
->(rt: &R, alloc: Global, mounted: Mounted<M, B>, out: &mut O) -> Result<(), Stop>
-    requires books { mounted.books ≡ L.books }
-    requires words { mounted.words ≡ W.words }
-    requires geometry { mounted.geometry ≡ N.geometry }
-    ensures told { OnOk result (Appends (O.contents out.old) (O.contents out.new) (image_lines mounted.geometry mounted.image (bytes_at B.content_of mounted.parts.blocks.items))) }
-    ensures err { IfErr result (λ stop. names_line stop ≡ false) }
-{
-    match mounted.name::<L, W, N>() {
-        Ok(opened) => { tell_opened::<L, W, N, Brand, Brand, M, B, R, O>(rt, alloc, opened, out) }
-        Err(fault) => Err(Stop::Refused(fault.error)),
-    }
+// A visit that writes the line of each file, and the total of the image at which the volume was opened.
+#[derive(Drop)]
+struct TellFiles<'a, O> {
+    out: &'a mut O,
 }
 
-fn tell_opened<
-    L: BooksName,
-    W: WordsName,
-    N: GeometryName,
-    P: PoolName,
-    T: TurnName,
-    M: Meta + Drop,
-    B: Block + Drop,
-    R: Wait,
-    O: Write,
->(rt: &R, alloc: Global, opened: MountedQueues<L, W, N, M, B>, out: &mut O) -> Result<(), Stop>
-    requires named { HaveNames opened.queues opened.channel P.ordinary P.reserve T.turns T.key }
-    ensures told { OnOk result (Appends (O.contents out.old) (O.contents out.new) (image_lines opened.named.mounted.geometry opened.named.mounted.image (bytes_at B.content_of opened.named.mounted.parts.blocks.items))) }
-    ensures err { IfErr result (λ stop. names_line stop ≡ false) }
-{
-    match opened.name::<P, T, R>(rt) {
-        Ok((volume, _seats, passes)) => {
-            let told = tell_volume(rt, alloc, &volume, passes.as_slice(), out);
-            let _parts = volume.discard(rt);
-            told
-        }
-        Err(fault) => Err(Stop::Refused(fault.error)),
+// The writer that was lent, and whether all was told.
+#[derive(Drop)]
+struct Told<'a, O> {
+    out: &'a mut O,
+    told: Result<(), Stop>,
+}
+
+impl<'a, M: Meta, B: Block + Drop, O: Write> Visit<M, B> for TellFiles<'a, O> {
+    ghost use Rattle.std.specs.Prelude.{◌≡◌, ◌++◌, false, map, IfErr, OnOk};
+    ghost use Rattle.std.specs.Io.KnownBytes.{Appends};
+    ghost use Rattle.program_session.specs.Lines.{lines_of, total_line};
+    ghost use Rattle.program_run.specs.Run.{names_line};
+
+    type Output = Told<'a, O>;
+
+    // The writer that comes back is the one that was lent, so who lent it knows what it holds.
+    ghost did = { λ tell geometry base before output after. (output.out.ghost_name ≡ tell.out.ghost_name)
+        × OnOk output.told (Appends (O.contents tell.out.now) (O.contents output.out.now) (lines_of geometry.shape (map (λ pass. (pass.number, pass.file)) before) ++ total_line base.total))
+        × IfErr output.told (λ stop. names_line stop ≡ false) };
+
+    fn visit<V: VolumeName, R: Wait>(
+        self,
+        rt: &R,
+        alloc: Global,
+        volume: &Volume<V, M, B>,
+        rights: &mut Rights<V>,
+    ) -> Result<Told<'a, O>, Error> {
+        let out = self.out;
+        let told = tell_volume(rt, alloc, volume, rights.passes.as_slice(), out);
+        Ok(Told { out, told })
     }
 }
 

@@ -1,17 +1,42 @@
-//! The cases of a file: what is done, and what is to be told of it.
-use crate::stage::Stage;
-use crate::text::push_lines;
+//! The cases of the files of `data/`: what is done, and what is to be told of it.
+mod answer;
+mod input;
+mod stage;
+mod text;
+mod turns;
+
+use crate::cases::stage::Stage;
+use crate::cases::text::push_lines;
+use crate::fault::Fault;
 use std::alloc::Global;
-use std::io;
+use std::fs::{File, Files};
 use std::rt::Runtime;
 use std::sync::Wait;
 use std::thread::Threads;
+use std::{fs, io};
 
-/// How many cases were played, and how many told something else than stands there.
+// The files, in the order in which they are played.
+const FILES: [&str; 13] = [
+    "files",
+    "readers",
+    "cleans",
+    "checkpoints",
+    "holes",
+    "failures",
+    "packs",
+    "numbers",
+    "workers",
+    "grammar",
+    "inputs",
+    "images",
+    "saved",
+];
+
+// How many cases were played, and how many told something else than stands there.
 #[derive(Clone, Copy)]
-pub struct Count {
-    pub played: u32,
-    pub wrong: u32,
+struct Count {
+    played: u32,
+    wrong: u32,
 }
 
 impl Count {
@@ -24,8 +49,24 @@ impl Count {
     }
 }
 
-/// Plays the cases of a file, which stand between empty lines. The first paragraph says what the file is about.
-pub fn play_file<R: Runtime + Threads + Wait + Sync>(
+/// Plays the files, and tells how many cases each has. All is to be told as it stands there.
+pub fn play_all<R: Runtime + Threads + Wait + Sync + Files<File = File>>(
+    rt: &R,
+    alloc: Global,
+) -> Result<(), Fault> {
+    for name in FILES {
+        let text = fs::read_to_string(rt, name)?;
+        let Count { played, wrong } = play_file(rt, alloc, text.as_str())?;
+        println!(rt; "{name}: {played} cases, {wrong} wrong")?;
+        if wrong > 0 {
+            return Err(Fault::Wrong(format!(in alloc; "{wrong} cases of {name}")?));
+        }
+    }
+    Ok(())
+}
+
+// Plays the cases of a file, which stand between empty lines. The first paragraph says what the file is about.
+fn play_file<R: Runtime + Threads + Wait + Sync>(
     rt: &R,
     alloc: Global,
     text: &str,

@@ -1,63 +1,101 @@
-//! Scripts with the lines that they print, texts that are scripts or none, and image files with what is told of them, as one program:
-//! it plays the files of `data/`, case by case, and prints of each case that told something else than stands there.
+//! Runs of the program: scripts with the lines that they print, and what a user of storage fears, tried at many points: each call of
+//! the device that fails, each moment of a crash, orders of calls side by side, damaged images. Each run is judged by what it tells.
+//!
+//! With no word each part is run small. A part's word runs it alone, with `--count N` by as much as N says.
 #![tactic(auto)]
 
-mod answer;
+mod acts;
+mod around;
 mod cases;
-mod input;
-mod stage;
-mod text;
-mod turns;
+mod chance;
+mod comparing;
+mod crashes;
+mod damage;
+mod fault;
+mod files;
+mod growths;
+mod judge;
+mod lawful;
+mod machine;
+mod marks;
+mod mounting;
+mod naming;
+mod order;
+mod play;
+mod recorded;
+mod replay;
+mod replaying;
+mod request;
+mod scene;
+mod schedules;
+mod scripts;
+mod sweep;
+mod trial;
+mod ways;
 
-use cases::{Count, play_file};
+use fault::Fault;
+use program_run::status::{DONE, FAILED, MISUSED, REFUSED};
+use request::{PARTS, Part, Request, USAGE, read_request};
 use std::alloc::Global;
+use std::env;
 use std::fs::{File, Files};
 use std::process::ExitCode;
 use std::rt::Runtime;
 use std::sync::Wait;
 use std::thread::Threads;
-use std::{fs, io};
-
-// The files, in the order in which they are played.
-const FILES: [&str; 13] = [
-    "files",
-    "readers",
-    "cleans",
-    "checkpoints",
-    "holes",
-    "failures",
-    "packs",
-    "numbers",
-    "workers",
-    "grammar",
-    "inputs",
-    "images",
-    "saved",
-];
 
 fn main(rt: HostRuntime) -> ExitCode {
-    match play_all(&rt, rt.alloc()) {
-        Ok(status) => ExitCode::from(status),
-        Err(error) => {
-            let _ = eprintln!(rt; "failed: {error}");
-            ExitCode::from(2)
+    let status = match called(&rt, rt.alloc()) {
+        Ok(status) => status,
+        Err(Fault::Wrong(what)) => {
+            let _ = eprintln!(rt; "wrong: {what}");
+            REFUSED
         }
-    }
+        Err(Fault::Failed(error)) => {
+            let _ = eprintln!(rt; "failed: {error}");
+            FAILED
+        }
+    };
+    ExitCode::from(status)
 }
 
-// Plays the files, and tells how many cases each has. Answers 0 where all was told as it stands there.
-fn play_all<R: Runtime + Threads + Wait + Sync + Files<File = File>>(
+fn called<R: Runtime + Threads + Wait + Sync + Files<File = File>>(
     rt: &R,
     alloc: Global,
-) -> io::Result<u8> {
-    let mut status = 0;
-    for name in FILES {
-        let text = fs::read_to_string(rt, name)?;
-        let Count { played, wrong } = play_file(rt, alloc, text.as_str())?;
-        println!(rt; "{name}: {played} cases, {wrong} wrong")?;
-        if wrong > 0 {
-            status = 1;
+) -> Result<u8, Fault> {
+    let mut words = Vec::new(alloc);
+    for word in env::args(rt)? {
+        words.push(word)?;
+    }
+    let Some(Request { only, count }) = read_request(alloc, words.as_slice())? else {
+        eprintln!(rt; "{USAGE}")?;
+        return Ok(MISUSED);
+    };
+    match only {
+        Some(part) => run_part(rt, alloc, part, count)?,
+        None => {
+            for part in PARTS {
+                run_part(rt, alloc, part, None)?;
+            }
         }
     }
-    Ok(status)
+    Ok(DONE)
+}
+
+fn run_part<R: Runtime + Threads + Wait + Sync + Files<File = File>>(
+    rt: &R,
+    alloc: Global,
+    part: Part,
+    count: Option<u32>,
+) -> Result<(), Fault> {
+    let count = count.unwrap_or(part.small());
+    match part {
+        Part::Cases => cases::play_all(rt, alloc),
+        Part::Sweep => sweep::sweep(rt, alloc, count),
+        Part::Crashes => crashes::crash(rt, alloc, count),
+        Part::Machine => replaying::replay_all(rt, alloc, count),
+        Part::Schedules => schedules::run_schedules(rt, alloc, count),
+        Part::Damage => damage::damage(rt, alloc, count),
+        Part::Growths => growths::grow(rt, alloc),
+    }
 }

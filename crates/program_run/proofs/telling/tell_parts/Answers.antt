@@ -1,26 +1,25 @@
-use Rattle.std.proofs.Common.{◌≡◌, ℕ, ◌-◌, List, [], ap, get_or, subst}
-use Rattle.std.specs.Io.KnownBytes.{Appends}
-use Rattle.image_codec.specs.Blocks.{bytes_at}
-use Rattle.program_run.specs.Ending.{ToldParts}
-use Rattle.program_session.specs.Lines.{image_lines}
+-- The visit began with the files of the image that the parts hold, and so it told their lines. The writer that comes back is the one
+-- that was lent, so what it holds is what `out` holds in the end.
+use Rattle.std.proofs.Common.{rules, OnOk}
 use Rattle.program_session.proofs.OnOk.{on_ok}
+use Rattle.program_run.specs.Ending.{ToldParts}
+use Rattle.program_run.proofs.Loans.{ends_as}
 use Rattle.program_run.proofs.telling.tell_parts.Goals as goal
 
--- a mount leaves the bytes of the blocks as they were
-pub returns-in-Ok-clause-told : goal.returns-in-Ok-clause-told
-returns-in-Ok-clause-told g c =
-    let mounted = c.in-Ok.mounted in
-    let found = c.in-Ok.ensures in
-    let content = g.B.Block.content_of in
+pub returns-in-Ok-left-clause-told : goal.returns-in-Ok-left-clause-told
+returns-in-Ok-left-clause-told g c =
+    let on = c.in-Ok.ensures.done in
     let old = g.O.Write.contents c.args.out.now in
-    let new = g.O.Write.contents c.tell_mounted.new.out in
-    let same : bytes_at content mounted.parts.blocks.items ≡ bytes_at content c.args.parts.blocks.items =
-    ap (λ (contents : List (List ℕ)). λ (address : ℕ). get_or contents (address - 1) []) found.parts.contents in
-    on_ok c.tell_mounted.result (Appends old new (image_lines mounted.geometry mounted.image (bytes_at content mounted.parts.blocks.items))) (ToldParts g.M.Meta.seen content c.args.parts old new)
+    let output = c.in-Ok-left.done.output in
+    let ended = rw c.in-Ok-left.is at on.from.visited.done in
+    let same_writer = ended.kept.0 in
+    ends_as (λ writer. OnOk output.told (ToldParts g.M.Meta.seen g.B.Block.content_of c.args.parts old (g.O.Write.contents writer))) output.out.now _
+    (search (rules, same_writer))
+    (on_ok output.told _ _
     (λ told. record {
-      geometry = mounted.geometry;
-      image = mounted.image;
-      held = record { front = found.front; tables = found.image.tables; nodes = found.image.nodes };
-      lawful = found.lawful;
-      told = subst (λ (bytes : ℕ → List ℕ). Appends old new (image_lines mounted.geometry mounted.image bytes)) same told;
-    }) c.tell_mounted.ensures.told
+      geometry = on.geometry;
+      image = on.image;
+      held = on.held.held;
+      lawful = on.held.lawful;
+      told = rw on.from.began at told;
+    }) ended.kept.1)

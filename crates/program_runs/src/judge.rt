@@ -24,7 +24,7 @@ const WOUNDED: &[u8] = b"refused 8 Wounded";
 const UNSYNCED: &[u8] = b"closed without sync";
 
 /// What is refused in a run that is judged.
-#[derive(Clone, Copy, Debug, PartialEq, Eq)]
+#[derive(Clone, Copy, PartialEq, Eq)]
 pub enum Trouble {
     /// Nothing.
     None,

@@ -1,5 +1,5 @@
 //! What the program `f2fsim` tells of an input.
-use crate::input::Input;
+use crate::cases::input::Input;
 use program_run::{check_image, run_script, tell_files};
 use program_script::{Script, Words};
 use program_workers::OpenGate;

@@ -9,8 +9,11 @@ use std::thread::Threads;
 
 const WRITERS: u32 = 8;
 
+// The blocks of a file.
+const LENGTH: u32 = 10;
+
 // The writes of a writer, and the calls of a cleaner, of a reader and of one who writes checkpoints.
-const WRITES: u32 = 20;
+const WRITES: u32 = 2 * LENGTH;
 
 const CLEANS: u32 = 10;
 
@@ -57,11 +60,8 @@ fn run_seed<R: Threads + Wait + Sync>(
     part: &Part,
     seed: u32,
 ) -> Result<(), Fault> {
-    let order = Order::of(alloc, part.calls.as_slice(), seed)?;
+    let order = Order::of(rt, alloc, part.calls.as_slice(), seed)?;
     let told = play(rt, alloc, part.text.as_str(), None, &order);
-    if order.was_broken() {
-        return Err(Fault::Wrong(format!(in alloc; "seed {seed}: a call waited in vain")?));
-    }
     if told.lines.as_slice() != part.lines.as_bytes() || told.status != 0 {
         let lines = String::from_utf8_lossy(alloc, told.lines.as_slice())?;
         return Err(Fault::Wrong(format!(in alloc; "seed {seed}: {lines}")?));
@@ -78,7 +78,7 @@ fn make_part(alloc: Global, checkpoints: bool) -> Result<Part, Fault> {
     };
     begin(alloc, &mut part)?;
     for file in 1..WRITERS + 1 {
-        let work = format!(in alloc; "fill {file} 0 10 0{file}\nfill {file} 0 10 1{file}\n")?;
+        let work = writes_of(alloc, file)?;
         add_worker(&mut part, work.as_str(), 1, WRITES)?;
     }
     for _cleaner in 0..2 {
@@ -104,6 +104,18 @@ fn begin(alloc: Global, part: &mut Part) -> Result<(), Fault> {
     part.text.push_str("fill 1 0 3 be\nsnap 1\nsnap 2\npar\n")?;
     part.lines.push_str("ok\nreader 1\nreader 2\n")?;
     Ok(())
+}
+
+// The writes of a file's worker. A fill would make fewer calls where one is refused, and its turns would be waited for in vain.
+fn writes_of(alloc: Global, file: u32) -> Result<String, Fault> {
+    let mut work = String::new(alloc);
+    for call in 0..WRITES {
+        let index = call % LENGTH;
+        let round = call / LENGTH;
+        let line = format!(in alloc; "write {file} {index} {round}{file}\n")?;
+        work.push_str(line.as_str())?;
+    }
+    Ok(work)
 }
 
 // Adds a worker that does some work so many times.

@@ -6,11 +6,13 @@ use std::convert::AsStr;
 
 /// What is printed of words that are refused.
 pub const USAGE: &str =
-    "usage: hostile_runs [sweep | crashes | machine | schedules | damage | growths] [--count N]";
+    "usage: program_runs [cases | sweep | crashes | machine | schedules | damage | growths] [--count N]";
 
 /// A part of the program.
-#[derive(Clone, Copy, Debug, PartialEq, Eq)]
+#[derive(Clone, Copy)]
 pub enum Part {
+    /// Scripts and images with the lines that they are told to have, in the files of the folder that it is run in.
+    Cases,
     /// Each call of a device fails in turn, and each of the next N behind it too.
     Sweep,
     /// A crash at each moment of a checkpoint, N times by a seed.
@@ -26,7 +28,8 @@ pub enum Part {
 }
 
 /// Each part that is run where no word asks for one, in order.
-pub const PARTS: [Part; 5] = [
+pub const PARTS: [Part; 6] = [
+    Part::Cases,
     Part::Sweep,
     Part::Crashes,
     Part::Machine,
@@ -35,7 +38,7 @@ pub const PARTS: [Part; 5] = [
 ];
 
 /// The part that is asked for, if not all are, and the number beside it.
-#[derive(Clone, Copy, Debug, PartialEq, Eq)]
+#[derive(Clone, Copy)]
 pub struct Request {
     pub only: Option<Part>,
     pub count: Option<u32>,
@@ -45,6 +48,7 @@ impl Part {
     /// The word that asks for it.
     fn word(self) -> &'static str {
         match self {
+            Part::Cases => "cases",
             Part::Sweep => "sweep",
             Part::Crashes => "crashes",
             Part::Machine => "machine",
@@ -57,7 +61,7 @@ impl Part {
     /// The number of a small run.
     pub fn small(self) -> u32 {
         match self {
-            Part::Sweep | Part::Growths => 0,
+            Part::Cases | Part::Sweep | Part::Growths => 0,
             Part::Crashes => 20,
             Part::Machine => 20,
             Part::Schedules => 20,
@@ -80,6 +84,7 @@ pub fn read_request<S: AsStr>(alloc: Global, words: &[S]) -> Result<Option<Reque
 fn parsed<S: AsStr>(alloc: Global, words: &[S]) -> Result<Option<Request>, Error> {
     let matches = program(alloc)?.try_get_matches_from(words)?;
     for part in [
+        Part::Cases,
         Part::Sweep,
         Part::Crashes,
         Part::Machine,
@@ -113,7 +118,8 @@ fn requested(part: Part, count: Option<&str>) -> Option<Request> {
 }
 
 fn program<'a>(alloc: Global) -> Result<Command<'a>, AllocError> {
-    let command = Command::new(alloc, "hostile_runs");
+    let command = Command::new(alloc, "program_runs");
+    let command = with_part(alloc, command, "cases")?;
     let command = with_part(alloc, command, "sweep")?;
     let command = with_part(alloc, command, "crashes")?;
     let command = with_part(alloc, command, "machine")?;

@@ -1,8 +1,8 @@
 //! What stands ready for the steps of a case.
-use crate::answer::{Question, answer, tell_call, tell_script};
-use crate::input::{End, Input};
-use crate::text::{bytes_of, number, push_lines};
-use crate::turns::run_in_turns;
+use crate::cases::answer::{Question, answer, tell_call, tell_script};
+use crate::cases::input::{End, Input};
+use crate::cases::text::{bytes_of, number, push_lines};
+use crate::cases::turns::run_in_turns;
 use std::alloc::{AllocError, Global};
 use std::io;
 use std::io::Write;

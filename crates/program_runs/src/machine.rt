@@ -11,7 +11,7 @@ use geometry::Geometry;
 use std::alloc::Global;
 
 /// A step of a segment's life, as far as a device shows it.
-#[derive(Clone, Copy, Debug, PartialEq, Eq)]
+#[derive(Clone, Copy, PartialEq, Eq)]
 pub enum State {
     Free,
     Open,

@@ -8,7 +8,7 @@ use std::alloc::{AllocError, Global};
 type Steps = [Option<u32>; 3];
 
 /// Where a node stands in its file's tree.
-#[derive(Clone, Copy, Debug, PartialEq, Eq)]
+#[derive(Clone, Copy)]
 pub struct Stand {
     file: u32,
     steps: Steps,

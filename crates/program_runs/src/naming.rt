@@ -4,7 +4,7 @@ use image_codec::decode_node;
 use std::alloc::{AllocError, Global};
 
 /// Who names a block.
-#[derive(Clone, Copy, Debug, PartialEq, Eq)]
+#[derive(Clone, Copy, PartialEq, Eq)]
 pub enum Name {
     /// The node of this number.
     Node(u32),

@@ -47,12 +47,12 @@ impl<'a> Input<'a> {
             return Err(io::Error::from(io::ErrorKind::Interrupted));
         }
         let count = buf.len().min(MOST);
-        for (place, byte) in buf.iter_mut().take(count).enumerate() {
-            let at = self.given.saturating_add(place);
-            *byte = self.bytes.get(at).copied().unwrap_or(0);
-        }
+        let front = &mut buf[..count];
+        front.fill(0);
+        let mut left = self.bytes.get(self.given..).unwrap_or(&[]);
+        left.read(front)?;
         self.given = self.given.saturating_add(count);
-        Ok(buf.len().min(MOST))
+        Ok(count)
     }
 }
 
