@@ -1,76 +1,33 @@
 -- A file's map of blocks has at each index what stands at its address, so what is read there is the file's block.
-use Rattle.std.proofs.Common.{◌≡◌, ◌≢◌, ℕ, zero, suc, ◌+◌, ◌-◌, ◌*◌, ◌<◌, ◌≤◌, List, [], ◌∷◌, ◌++◌, append-nil, Option, Some, None, cond, inl, inr, refl, sym, ap, ◌∙◌, eq-eqb, ne_eqb, length, take, drop, replicate, unwrap_or, arith}
+use Rattle.std.proofs.Common.{◌≡◌, ◌≢◌, ℕ, zero, suc, ◌+◌, ◌-◌, ◌*◌, ◌<◌, ◌≤◌, List, [], refl, sym, ap, ◌∙◌, length, take, replicate, unwrap_or, arith}
 use Rattle.std.proofs.Math.Nat.{mul-le-mul_right}
 use Rattle.std.proofs.Math.Seq.{take-nil}
-use Rattle.std.proofs.lemmas.Bool.{cases_eq}
 use Rattle.std.proofs.lemmas.Cmp.{nat_cmp_total}
 use Rattle.std.proofs.lemmas.List.{drop_all}
-use Rattle.std.proofs.lemmas.List.Elements.{filter_map-append}
-use Rattle.std.specs.Cmp.{unsigned_tied}
-use Rattle.std.specs.FinMap.{from_entries, get-from_entries}
-use Rattle.std.specs.FinMap.Entries.{find, find-append}
-use Rattle.std.specs.List.{filter_map, cons_option}
-use Rattle.std.specs.Ordering.{nat_cmp}
+use Rattle.std.specs.FinMap.{get-from_entries}
 use Rattle.device.specs.Disk.{part}
 use Rattle.geometry.specs.Area.{block_count, meta_bytes}
 use Rattle.geometry.specs.File.{Block, bytes_at}
 use Rattle.geometry.specs.Shape.{block_bytes}
 use Rattle.geometry.specs.declared.geometry.Geometry.{Geometry}
 use Rattle.geometry.specs.declared.shape.Shape.{Shape}
-use Rattle.image.specs.Files.{data_address, below, block_at, file_of}
+use Rattle.image.specs.Files.{data_address, file_of}
 use Rattle.image.specs.Image.{Image, node_of}
 use Rattle.image.specs.Reading.{node_at, read_node}
+use Rattle.image.proofs.FileBlocks.{content, entries, in_entries}
 use Rattle.image_reading.specs.Held.{file_in}
 use Rattle.packs_format.specs.File.{block_in, file_bytes}
 
 module _ (blocks : ℕ → Block) where
-  -- the block at an address, none at 0
-  abbrev content : ℕ → Option Block
-  content zero = None
-  content (suc a) = Some (blocks (suc a))
-
-  found_last : (es : List (ℕ × Block)) (n a q : ℕ) → q ≡ n → find nat_cmp n es ≡ None → find nat_cmp q (es ++ cons_option (block_at blocks n a) []) ≡ content a
-  found_last es n zero q e none = ap (find nat_cmp q) (append-nil es) ∙ ap (λ k. find nat_cmp k es) e ∙ none
-  found_last es n (suc a) q e none =
-      find-append nat_cmp nat_cmp_total es n (blocks (suc a)) q none
-      ∙ ap (λ b. cond b (Some (blocks (suc a))) (find nat_cmp q es)) (unsigned_tied q n ∙ eq-eqb q n e)
-
-  found_before : (es : List (ℕ × Block)) (n a q : ℕ) → q ≢ n → find nat_cmp n es ≡ None → find nat_cmp q (es ++ cons_option (block_at blocks n a) []) ≡ find nat_cmp q es
-  found_before es n zero q ne none = ap (find nat_cmp q) (append-nil es)
-  found_before es n (suc a) q ne none =
-      find-append nat_cmp nat_cmp_total es n (blocks (suc a)) q none
-      ∙ ap (λ b. cond b (Some (blocks (suc a))) (find nat_cmp q es)) (unsigned_tied q n ∙ ne_eqb q n ne)
-
-  module _ (address : ℕ → ℕ) where
-    abbrev entries : ℕ → List (ℕ × Block)
-    entries n = filter_map (λ i. block_at blocks i (address i)) (below n)
-
-    entries_more : (n q : ℕ) → find nat_cmp q (entries (suc n)) ≡ find nat_cmp q (entries n ++ cons_option (block_at blocks n (address n)) [])
-    entries_more n q = ap (find nat_cmp q) (filter_map-append (λ i. block_at blocks i (address i)) (below n) (n ∷ []))
-
-    past_entries : (n i : ℕ) → n ≤ i → find nat_cmp i (entries n) ≡ None
-    past_entries zero i h = refl
-    past_entries (suc n) i h =
-        entries_more n i
-        ∙ found_before (entries n) n (address n) i (λ e. absurd (omega arith)) (past_entries n n (omega arith))
-        ∙ past_entries n i (omega arith)
-
-    in_entries : (n i : ℕ) → i < n → find nat_cmp i (entries n) ≡ content (address i)
-    in_entries zero i h = absurd (omega arith)
-    in_entries (suc n) i h = entries_more n i ∙ elim (cases_eq i n) [
-      | inl e ↦ found_last (entries n) n (address n) i e (past_entries n n (omega arith)) ∙ ap (λ k. content (address k)) (sym e)
-      | inr ne ↦ found_before (entries n) n (address n) i ne (past_entries n n (omega arith)) ∙ in_entries n i (omega arith)
-    ]
-
   -- a block that the file has
   block_there : (size : ℕ) (shape : Shape) (image : Image) (number index : ℕ) → index < (node_of image number).length
-      → bytes_at size (file_of shape image blocks number) index ≡ unwrap_or (content (data_address shape image number index)) (replicate size 0)
+      → bytes_at size (file_of shape image blocks number) index ≡ unwrap_or (content blocks (data_address shape image number index)) (replicate size 0)
   block_there size shape image number index low =
       ap (λ o. unwrap_or o (replicate size 0))
-      (get-from_entries nat_cmp_total (entries (data_address shape image number) (node_of image number).length) index
-      ∙ in_entries (data_address shape image number) (node_of image number).length index low)
+      (get-from_entries nat_cmp_total (entries blocks (data_address shape image number) (node_of image number).length) index
+      ∙ in_entries blocks (data_address shape image number) (node_of image number).length index low)
 
-  some_block : (size a : ℕ) → a ≢ 0 → unwrap_or (content a) (replicate size 0) ≡ blocks a
+  some_block : (size a : ℕ) → a ≢ 0 → unwrap_or (content blocks a) (replicate size 0) ≡ blocks a
   some_block size zero some = absurd (some refl)
   some_block size (suc a) some = refl
 

@@ -1,3 +1,5 @@
 mod FileBlocks
 pub mod Handing
+mod Refusing
 mod Tables
+mod Telling

@@ -1,5 +1,5 @@
 -- Size, front, tables and nodes were each read off the bytes, so what was read is what they hold.
-use Rattle.std.proofs.Common.{◌≡◌, ◌∙◌, ◌≤◌, ◌+◌, ℕ, List, Some, length, take, refl, sym, ap, arith}
+use Rattle.std.proofs.Common.{◌≡◌, ◌∙◌, ℕ, List, length, take, sym, ap, arith}
 use Rattle.std.proofs.lemmas.List.{length-take, take-take}
 use Rattle.device.specs.Disk.{part}
 use Rattle.geometry.specs.Area.{meta_bytes}

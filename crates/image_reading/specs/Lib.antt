@@ -1,2 +1,4 @@
 pub mod Content
 pub mod Held
+pub mod Told
+pub mod Refused

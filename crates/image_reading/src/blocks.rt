@@ -7,6 +7,7 @@ ghost use Rattle.image.specs.Image.{node_of};
 ghost use Rattle.image.specs.View.{image_view};
 ghost use Rattle.image_reading.specs.Content.{all_bytes, front_bytes};
 ghost use Rattle.image_reading.specs.Held.{file_in};
+ghost use Rattle.image_reading.specs.Told.{Narrows};
 
 use crate::address::{address_at, length_of};
 use crate::fault::ReadFault;
@@ -25,17 +26,18 @@ const MOST_BYTES: u32 = 65_536;
 /// Answers Out where the writer failed, which may have taken some of the front; Io where the source did; and NoMemory.
 pub fn hand_out<S: ImageSource, O: Write>(
     alloc: Global,
-    source: &S,
+    source: &mut S,
     geometry: &Geometry,
     image: &Image,
     number: u32,
     most: u64,
     out: &mut O,
 ) -> Result<(), ReadFault>
-    ensures handed { OnOk result ((bytes : List ℕ) → S.shows source.now bytes → let file = file_in geometry.now (image_view image.now) bytes number in
+    ensures handed { OnOk result ((bytes : List ℕ) → S.shows source.new bytes → let file = file_in geometry.now (image_view image.now) bytes number in
         Appends (O.contents out.old) (O.contents out.new) (take most (all_bytes (block_bytes geometry.now.shape) file))) }
-    ensures length { OnOk result ((bytes : List ℕ) → S.shows source.now bytes → let file = file_in geometry.now (image_view image.now) bytes number in
+    ensures length { OnOk result ((bytes : List ℕ) → S.shows source.new bytes → let file = file_in geometry.now (image_view image.now) bytes number in
         length (all_bytes (block_bytes geometry.now.shape) file) < 2 ^ 64) }
+    ensures kept { Narrows (S.shows source.old) (S.shows source.new) }
 {
     let size = geometry.shape.block_bytes();
     let blocks = MOST_BYTES / size;
@@ -59,7 +61,7 @@ pub fn hand_out<S: ImageSource, O: Write>(
 
 // Reads the blocks that the file has from an index on to before another.
 fn read_blocks<S: ImageSource>(
-    source: &S,
+    source: &mut S,
     geometry: &Geometry,
     image: &Image,
     number: u32,
@@ -70,8 +72,9 @@ fn read_blocks<S: ImageSource>(
     requires out { length out.old ≡ (end - first) * block_bytes geometry.now.shape }
     requires order { first ≤ end }
     requires below { end ≤ (node_of (image_view image.now) number).length }
-    ensures { OnOk result ((bytes : List ℕ) → S.shows source.now bytes → let file = file_in geometry.now (image_view image.now) bytes number in
+    ensures read { OnOk result ((bytes : List ℕ) → S.shows source.new bytes → let file = file_in geometry.now (image_view image.now) bytes number in
         front_bytes (block_bytes geometry.now.shape) file first ++ out.new ≡ front_bytes (block_bytes geometry.now.shape) file end) }
+    ensures kept { Narrows (S.shows source.old) (S.shows source.new) }
 {
     let size = geometry.shape.block_bytes() as usize;
     for index in first..end {
@@ -90,7 +93,7 @@ fn read_blocks<S: ImageSource>(
 
 // Reads a block that the file has: zeros where none was written.
 fn read_block<S: ImageSource>(
-    source: &S,
+    source: &mut S,
     geometry: &Geometry,
     image: &Image,
     number: u32,
@@ -99,8 +102,9 @@ fn read_block<S: ImageSource>(
 ) -> Result<(), ReadFault>
     requires out { length out.old ≡ block_bytes geometry.now.shape }
     requires below { index < (node_of (image_view image.now) number).length }
-    ensures { OnOk result ((bytes : List ℕ) → S.shows source.now bytes
+    ensures read { OnOk result ((bytes : List ℕ) → S.shows source.new bytes
         → out.new ≡ bytes_at (block_bytes geometry.now.shape) (file_in geometry.now (image_view image.now) bytes number) index) }
+    ensures kept { Narrows (S.shows source.old) (S.shows source.new) }
 {
     let address = address_at(geometry, image, number, index);
     if address == 0 {

@@ -10,8 +10,6 @@ mod tidy;
 mod walk;
 mod work;
 
-pub use cleaning::Policy;
 pub use law::put_get_law;
 pub use tidy::{Clean, Tidied};
-pub use tool_reading::Refusal;
 pub use work::{MakeFolder, NewFile, Put, PutAll, Remove, Rename};

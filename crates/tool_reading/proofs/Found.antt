@@ -1,5 +1,5 @@
 -- A number that is taken is that of a file of the image, and no two files have one number.
-use Rattle.std.proofs.Common.{◌≡◌, ◌∙◌, ◌≤◌, ℕ, zero, suc, List, Bool, true, Option, Some, None, IfSome, ap, sym, arith}
+use Rattle.std.proofs.Common.{◌≡◌, ◌∙◌, ◌≤◌, ℕ, zero, suc, true, Option, Some, None, IfSome, ap, sym, arith}
 use Rattle.std.proofs.lemmas.Bool.{false≢true}
 use Rattle.geometry.specs.File.{File, Block}
 use Rattle.geometry.specs.declared.geometry.Geometry.{Geometry}

@@ -1,9 +1,9 @@
 //! What commands do with files over runs, where no folder is. Else see `tool_runs`.
 use crate::runs::{bytes_of, run};
-use flash_volume::{Error, Geometry, Leave, MemDevice, Shape, work_on, work_on_new};
+use flash_volume::{Error, Geometry, Leave, MemDevice, Policy, Shape, work_on, work_on_new};
 use std::test::Fail;
-use tool_files::{Clean, MakeFolder, Policy, Put, Refusal};
-use tool_reading::OpenVolume;
+use tool_files::{Clean, MakeFolder, Put};
+use tool_reading::{OpenVolume, Refusal};
 
 #[test]
 fn a_volume_without_a_folder_is_told_by_numbers(rt: HostRuntime) -> Result<(), Fail> {
@@ -19,7 +19,7 @@ fn a_volume_without_a_folder_is_told_by_numbers(rt: HostRuntime) -> Result<(), F
         return Err("not made".into());
     };
     let (parts, bytes) = bytes_of(alloc, made.parts)?;
-    let volume = OpenVolume::open(alloc, bytes.as_slice())?;
+    let mut volume = OpenVolume::open(alloc, bytes.as_slice())?;
     assert!(rt; volume.list(alloc)?.named.is_none());
     let work = Put {
         name: "a",
@@ -32,7 +32,7 @@ fn a_volume_without_a_folder_is_told_by_numbers(rt: HostRuntime) -> Result<(), F
     let (parts, number) = run(&rt, alloc, parts, Leave::Close, work)?;
     assert!(rt; number == Ok(2));
     let (parts, bytes) = bytes_of(alloc, parts)?;
-    let volume = OpenVolume::open(alloc, bytes.as_slice())?;
+    let mut volume = OpenVolume::open(alloc, bytes.as_slice())?;
     let mut all = Vec::new(alloc);
     assert!(rt; volume.get_number(alloc, 2, &mut all)? == Ok(()));
     assert!(rt; all.len() == 64);

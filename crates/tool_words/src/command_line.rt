@@ -7,14 +7,14 @@ use std::convert::AsStr;
 const SHAPES: [&str; 2] = ["kernel", "tiny"];
 
 /// What the program is to do with an image file.
-#[derive(Clone, Copy, Debug)]
+#[derive(Clone, Copy)]
 pub struct Words<'a> {
     pub image: &'a str,
     pub task: Task<'a>,
 }
 
 /// The numbers of a volume that is to be made.
-#[derive(Clone, Copy, Debug)]
+#[derive(Clone, Copy)]
 pub struct Numbers {
     pub is_tiny: bool,
     pub segments: u32,
@@ -24,7 +24,7 @@ pub struct Numbers {
 }
 
 /// What is to be done.
-#[derive(Clone, Copy, Debug)]
+#[derive(Clone, Copy)]
 pub enum Task<'a> {
     Format(Numbers),
     Put { name: &'a str },

@@ -10,13 +10,14 @@ use crate::screen::Screen;
 use crate::stat::{list, stat};
 use crate::svg::draw_svg;
 use file_device::{create_image, open_image};
-use flash_volume::{Geometry, Leave, Shape, work_on_new};
+use flash_volume::{Geometry, Leave, Policy, Shape, work_on_new};
 use std::fs::{File, Files};
 use std::io::{BufWriter, Read, Write};
 use std::rt::Runtime;
 use std::sync::Wait;
-use tool_files::{Clean, MakeFolder, Policy, Put, Refusal, Remove, Rename};
+use tool_files::{Clean, MakeFolder, Put, Remove, Rename};
 use tool_folder::is_name;
+use tool_reading::Refusal;
 
 /// Does what the words ask for, and answers the exit status.
 pub fn obey<R: Runtime + AllocGlobal + Wait + Files<File = File>, I: Read, O: Write, E: Write>(
@@ -125,7 +126,7 @@ fn get<R: AllocGlobal + Files<File = File>, O: Write>(
     number: u32,
     out: &mut O,
 ) -> Result<(), Fault> {
-    let volume = open_volume(rt, image)?;
+    let mut volume = open_volume(rt, image)?;
     match name {
         Some(name) => volume.get(rt.alloc(), name, out)??,
         None => volume.get_number(rt.alloc(), number, out)??,

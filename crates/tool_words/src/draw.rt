@@ -24,7 +24,7 @@ const BARS: [&str; 8] = ["▁", "▂", "▃", "▄", "▅", "▆", "▇", "█"]
 const LINE: u32 = 32;
 
 /// What a segment is at a mount of an image.
-#[derive(Clone, Copy, Debug, PartialEq, Eq)]
+#[derive(Clone, Copy, PartialEq, Eq)]
 pub enum Look {
     /// It has no valid block, and no log appends to it.
     Free,

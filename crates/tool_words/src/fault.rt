@@ -5,7 +5,7 @@ use image_reading::ReadFault;
 use std::alloc::{AllocError, AllocFailed};
 use std::io;
 use std::io::Write;
-use tool_files::Refusal;
+use tool_reading::Refusal;
 
 /// A volume, an image or a name was refused.
 const REFUSED: u8 = 1;
@@ -44,8 +44,10 @@ pub enum Fault {
 impl From<FileFault> for Fault {
     fn from(fault: FileFault) -> Fault {
         match fault {
-            FileFault::Io(error) if error.kind() == io::ErrorKind::AlreadyExists => Fault::InTheWay,
-            FileFault::Io(error) => Fault::Image(error),
+            FileFault::Io(error) => match error.kind() {
+                io::ErrorKind::AlreadyExists => Fault::InTheWay,
+                _ => Fault::Image(error),
+            },
             FileFault::Busy => Fault::Busy,
             FileFault::NoFile => Fault::NotAFile,
             FileFault::Refused(error) => Fault::Volume(error),

@@ -2,6 +2,7 @@
 use crate::fault::Fault;
 use crate::image_run::open_volume;
 use crate::screen::Screen;
+use image_reading::FileSource;
 use std::fs;
 use std::fs::{File, Files};
 use std::io::Write;
@@ -18,11 +19,11 @@ pub fn dump<R: Runtime + AllocGlobal + Files<File = File>, E: Write>(
     folder: &str,
     errors: &mut E,
 ) -> Result<(), Fault> {
-    let volume = open_volume(rt, image)?;
+    let mut volume = open_volume(rt, image)?;
     let listing = volume.list(rt.alloc())?;
     fs::create_dir_all(rt, folder)?;
-    dump_named(rt, screen, &volume, &listing, folder, errors)?;
-    dump_unnamed(rt, screen, &volume, &listing, folder, errors)?;
+    dump_named(rt, screen, &mut volume, &listing, folder, errors)?;
+    dump_unnamed(rt, screen, &mut volume, &listing, folder, errors)?;
     screen.clear(errors);
     Ok(())
 }
@@ -31,7 +32,7 @@ pub fn dump<R: Runtime + AllocGlobal + Files<File = File>, E: Write>(
 fn dump_named<R: Runtime + AllocGlobal + Files<File = File>, E: Write>(
     rt: &R,
     screen: Screen,
-    volume: &OpenVolume<File>,
+    volume: &mut OpenVolume<FileSource>,
     listing: &Listing,
     folder: &str,
     errors: &mut E,
@@ -52,7 +53,7 @@ fn dump_named<R: Runtime + AllocGlobal + Files<File = File>, E: Write>(
 fn dump_unnamed<R: Runtime + AllocGlobal + Files<File = File>, E: Write>(
     rt: &R,
     screen: Screen,
-    volume: &OpenVolume<File>,
+    volume: &mut OpenVolume<FileSource>,
     listing: &Listing,
     folder: &str,
     errors: &mut E,

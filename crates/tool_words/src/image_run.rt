@@ -4,16 +4,17 @@ ghost use Rattle.device.specs.Parts.{IsBlockRun};
 
 use crate::fault::Fault;
 use file_device::{FileBlock, FileMeta, open_image};
-use flash_volume::{Block, Error, Geometry, Leave, Meta, Parts, Stage, Work, work_on};
+use flash_volume::{Block, Error, Geometry, Leave, Meta, Parts, Policy, Stage, Work, work_on};
 use image::Image;
+use image_reading::FileSource;
 use packs_format::ReadImage;
 use std::fs;
 use std::fs::{File, Files};
 use std::io::Read;
 use std::sync::Wait;
 use std::time::{Clock, SystemTime};
-use tool_files::{Clean, Policy, Put, Refusal};
-use tool_reading::OpenVolume;
+use tool_files::{Clean, Put};
+use tool_reading::{OpenVolume, Refusal};
 
 /// The most sections that are cleaned to make room.
 const MOST_SECTIONS: u32 = 4096;
@@ -82,10 +83,10 @@ pub fn read_image<R: AllocGlobal + Files<File = File>>(
 pub fn open_volume<R: AllocGlobal + Files<File = File>>(
     rt: &R,
     path: &str,
-) -> Result<OpenVolume<File>, Fault> {
+) -> Result<OpenVolume<FileSource>, Fault> {
     image_length(rt, path)?;
     let file = open_to_read(rt, path)?;
-    Ok(OpenVolume::open(rt.alloc(), file)?)
+    Ok(OpenVolume::open(rt.alloc(), FileSource::of(file))?)
 }
 
 // Opens a file that nobody changes meanwhile.

@@ -14,8 +14,9 @@ use std::fs::{File, Files};
 use std::io::{Read, Write};
 use std::rt::Runtime;
 use std::sync::Wait;
-use tool_files::{NewFile, Put, PutAll, Refusal};
+use tool_files::{NewFile, Put, PutAll};
 use tool_folder::is_name;
+use tool_reading::Refusal;
 
 /// Puts each ordinary file of a folder of the system under its name, in the order of the names, and tells on `out` which were put.
 /// Each is put whole or not at all. Where one is refused it stops, names it on `errors`, and those before it are there.

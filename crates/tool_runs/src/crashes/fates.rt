@@ -5,7 +5,7 @@ use rand_pcg::Pcg32;
 use std::alloc::{AllocError, Global};
 
 /// What becomes of a write that was not settled.
-#[derive(Clone, Copy, Debug, PartialEq, Eq)]
+#[derive(Clone, Copy, PartialEq, Eq)]
 pub enum Fate {
     Kept,
     Lost,

@@ -2,9 +2,10 @@
 use super::fates::Fates;
 use super::recorder::{Call, Recorder};
 use file_device::{keep_in, read_device};
-use flash_volume::{Geometry, Leave, MemDevice, Shape, work_on, work_on_new};
+use flash_volume::{Geometry, Leave, MemDevice, Policy, Shape, work_on, work_on_new};
+use std::alloc::Global;
 use std::sync::Wait;
-use tool_files::{Clean, MakeFolder, Policy, Put};
+use tool_files::{Clean, MakeFolder, Put};
 use tool_reading::OpenVolume;
 use tool_words::Fault;
 
@@ -20,7 +21,7 @@ const OLD_BYTES: [u8; 150] = [1; 150];
 const NEW_BYTES: [u8; 300] = [2; 300];
 
 /// How many states have the old file and how many the new one, with the other file as it was, and how many have neither.
-#[derive(Clone, Copy, Debug)]
+#[derive(Clone, Copy)]
 pub struct Counts {
     pub old: u64,
     pub new: u64,
@@ -119,7 +120,8 @@ impl Trial {
         let image = fates.crashed(rt.alloc(), self.image.as_slice(), calls, settles)?;
         let other = got(rt, image.as_slice(), OTHER);
         let file = got(rt, image.as_slice(), FILE);
-        if !is(&other, &OTHER_BYTES) {
+        let as_it_is = read(rt.alloc(), image.as_slice(), FILE);
+        if !is(&other, &OTHER_BYTES) || !are_same(&file, &as_it_is) {
             counts.bad = counts.bad.saturating_add(1);
         } else if is(&file, &OLD_BYTES) {
             counts.old = counts.old.saturating_add(1);
@@ -147,6 +149,21 @@ fn is(got: &Result<Vec<u8>, Fault>, bytes: &[u8]) -> bool {
     }
 }
 
+fn are_same(one: &Result<Vec<u8>, Fault>, other: &Result<Vec<u8>, Fault>) -> bool {
+    match one {
+        Ok(bytes) => is(other, bytes.as_slice()),
+        Err(_) => false,
+    }
+}
+
+// What is read of an image where it stands, without a mount.
+fn read(alloc: Global, image: &[u8], name: &str) -> Result<Vec<u8>, Fault> {
+    let mut volume = OpenVolume::open(alloc, image)?;
+    let mut got = Vec::new(alloc);
+    volume.get(alloc, name, &mut got)??;
+    Ok(got)
+}
+
 // What is got out of an image once it was mounted.
 fn got<R: AllocGlobal + Wait>(rt: &R, image: &[u8], name: &str) -> Result<Vec<u8>, Fault> {
     let alloc = rt.alloc();
@@ -160,8 +177,5 @@ fn got<R: AllocGlobal + Wait>(rt: &R, image: &[u8], name: &str) -> Result<Vec<u8
     let mounted = work_on(rt, alloc, device.split(), Leave::Discard, nothing)?;
     let mut bytes = Vec::new(alloc);
     MemDevice::join(mounted.parts).append_to(&mut bytes)?;
-    let volume = OpenVolume::open(alloc, bytes.as_slice())?;
-    let mut got = Vec::new(alloc);
-    volume.get(alloc, name, &mut got)??;
-    Ok(got)
+    read(alloc, bytes.as_slice(), name)
 }

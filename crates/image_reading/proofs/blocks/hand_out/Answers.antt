@@ -1,3 +1,4 @@
+-- The pieces that were handed out are the front of the file's bytes, cut at the most that is wanted.
 use Rattle.std.proofs.Common.{◌≡◌, ◌+◌, ◌-◌, ◌*◌, ◌≤◌, ◌++◌, min, take, length, sym, subst, rules, arith}
 use Rattle.std.specs.Io.KnownBytes.{Appends}
 use Rattle.geometry.specs.Shape.{block_bytes}
@@ -10,6 +11,7 @@ use Rattle.image_reading.proofs.blocks.hand_out.Goals as goal
 pub loop-index-init : goal.loop-index-init
 loop-index-init g c = record {
   handing = λ bytes shown. handing_begins (block_bytes c.args.geometry.now.shape) c.args.most (file_in c.args.geometry.now (image_view c.args.image.now) bytes c.args.number) (g.O.Write.contents c.args.out.now);
+  kept = λ bytes shown. shown;
   reaches = search rules;
   buffer = search rules;
 }
@@ -32,9 +34,11 @@ loop-index-preserved g c =
     record {
       handing = λ bytes shown.
           let file = file_in c.args.geometry.now (image_view c.args.image.now) bytes c.args.number in
-          let read : front_bytes size file index ++ piece ≡ front_bytes size file end = c.in_ok-read_blocks.ensures bytes shown in
+          let held = c.loop-index.invariant.handing bytes (c.in_ok-read_blocks.ensures.kept bytes shown) in
+          let read : front_bytes size file index ++ piece ≡ front_bytes size file end = c.in_ok-read_blocks.ensures.read bytes shown in
           subst (λ w. Handing size c.args.most file end (left - w) first after) (sym wanted)
-          (handing_goes_on size c.args.most file index end left piece first before after (c.loop-index.invariant.handing bytes shown) order (omega (arith, within, c.length_of-length.ensures)) long read given);
+          (handing_goes_on size c.args.most file index end left piece first before after held order (omega (arith, within, c.length_of-length.ensures)) long read given);
+      kept = λ bytes shown. c.loop-index.invariant.kept bytes (c.in_ok-read_blocks.ensures.kept bytes shown);
       reaches = within;
       buffer = search rules;
     }

@@ -1,3 +1,4 @@
+-- Each turn writes a block of what is left, filled up with zeros, so the blocks so far are the bytes so far.
 use Rattle.std.proofs.Common.{◌≡◌, ◌∙◌, ◌++◌, ◌+◌, ◌-◌, ◌<◌, ◌≤◌, min, length, take, drop, replicate, ap, ap₂, sym, subst, refl, rules, arith}
 use Rattle.std.proofs.lemmas.Grind.{common_steps}
 use Rattle.std.proofs.lemmas.List.{take-append-drop, drop_all, nil_from_length}

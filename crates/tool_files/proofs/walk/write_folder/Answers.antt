@@ -1,3 +1,4 @@
+-- The folder is the pass of number 1, and what is written into it are the bytes of its rows, with zeros behind: so it is a folder of these rows.
 use Rattle.std.proofs.Common.{◌≡◌, ◌∙◌, ◌++◌, ◌<◌, ◌^◌, length, replicate, ap, subst, sym, rules}
 use Rattle.std.proofs.lemmas.List.{length-map}
 use Rattle.geometry.specs.Shape.{block_bytes}

@@ -1,3 +1,4 @@
+-- The rows so far are spelled by the bytes so far, a row at a time; where a row is not spelled, no list of rows is.
 use Rattle.std.proofs.Common.{◌≡◌, ◌∙◌, ◌+◌, ◌++◌, ◌<◌, ◌≤◌, ◌^◌, ℕ, List, [], ◌∷◌, ap, sym, subst, length, map, take, drop, rules, arith}
 use Rattle.std.proofs.lemmas.List.{length-map, length_push, map-append}
 use Rattle.tool_folder.specs.Folder.{Row, IsRow, row_bytes}

@@ -1,3 +1,4 @@
+-- A row of the name is overwritten where it stands, or none stands and one is added: in both cases no other row changes.
 use Rattle.std.proofs.Common.{◌≡◌, ◌++◌, [], ◌∷◌, map, string_bytes, refl, rules}
 use Rattle.std.proofs.lemmas.Str.{IsUtf8-string_bytes}
 use Rattle.tool_folder.specs.Folder.{Row}

@@ -10,8 +10,8 @@ use Rattle.tool_folder.proofs.Entries.{found_row}
 use Rattle.tool_reading.specs.Named.{HasFolder}
 use Rattle.tool_reading.proofs.volume.OpenVolume.get.Goals as goal
 
-pub returns : goal.returns
-returns g c = λ bytes shown.
+pub returns-clause-got : goal.returns-clause-got
+returns-clause-got g c = λ bytes shown.
     let geometry = c.args.self.now.geometry in
     let image = image_view c.args.self.now.image in
     let size = block_bytes geometry.shape in
@@ -27,8 +27,8 @@ returns g c = λ bytes shown.
       take entry.bytes (all_bytes size file),
       record {
         rows = map row_of entries;
-        in_folder = some_of (λ found. (bytes : List ℕ) → g.S.ImageSource.shows c.args.self.now.source bytes → HasFolder size (files_in geometry image bytes) (map row_of found.items))
-            c.in_ok-entries.field-0 c.in-Some.entries c.in-Some.is c.in_ok-entries.ensures.some bytes shown;
+        in_folder = some_of (λ found. (bytes : List ℕ) → g.S.ImageSource.shows c.rows.new.source bytes → HasFolder size (files_in geometry image bytes) (map row_of found.items))
+            c.in_ok-entries.field-0 c.in-Some.entries c.in-Some.is c.in_ok-entries.ensures.some bytes (c.in_ok-hand_out.ensures.kept bytes shown);
         row = row_of entry;
         named = found_row name entries row entry entry_is row_here;
         file = file;

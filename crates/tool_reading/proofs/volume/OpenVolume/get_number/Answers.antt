@@ -6,8 +6,8 @@ use Rattle.image_reading.specs.Held.{file_in}
 use Rattle.image_reading.proofs.Handing.{all_handed}
 use Rattle.tool_reading.proofs.volume.OpenVolume.get_number.Goals as goal
 
-pub returns : goal.returns
-returns g c = λ bytes shown.
+pub returns-clause-got : goal.returns-clause-got
+returns-clause-got g c = λ bytes shown.
     let geometry = c.args.self.now.geometry in
     let file = file_in geometry (image_view c.args.self.now.image) bytes c.args.number in
     let all = all_bytes (block_bytes geometry.shape) file in

@@ -1,3 +1,4 @@
+-- The row of the name is the new one's, and the folder is written last: so each name shows what it showed, but this one.
 use Rattle.std.proofs.Common.{◌≡◌, ◌≢◌, ◌∙◌, ◌++◌, ℕ, List, All, IfSome, IfNone, length, map, take, drop, ap, rules}
 use Rattle.std.proofs.lemmas.List.{take_at}
 use Rattle.geometry.specs.Shape.{block_bytes}

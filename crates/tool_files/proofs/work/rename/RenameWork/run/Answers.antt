@@ -1,3 +1,4 @@
+-- Only a row of the folder changes, so each number shows the file that it showed, and the name in the row is the new one.
 use Rattle.std.proofs.Common.{◌≡◌, ◌≢◌, ◌∙◌, ◌++◌, ℕ, All, length, map, take, drop, ap, subst, sym, rules}
 use Rattle.std.proofs.lemmas.List.{take_at}
 use Rattle.geometry.specs.Shape.{block_bytes}

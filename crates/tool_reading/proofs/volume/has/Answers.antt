@@ -4,10 +4,10 @@ use Rattle.image.specs.View.{image_view}
 use Rattle.image.specs.declared.image.NodeEntry.{NodeEntry}
 use Rattle.packs_format.specs.File.{block_in}
 use Rattle.tool_reading.proofs.Found.{file_there}
-use Rattle.tool_reading.proofs.volume.OpenVolume.has.Goals as goal
+use Rattle.tool_reading.proofs.volume.has.Goals as goal
 
-pub returns-then-number-self : goal.returns-then-number-self
-returns-then-number-self g c = λ taken bytes.
-    let geometry = c.args.self.now.geometry in
-    file_there geometry (image_view c.args.self.now.image) (block_in geometry bytes) c.args.number c.if-number-self.true
+pub returns-then-number-geometry : goal.returns-then-number-geometry
+returns-then-number-geometry c = λ taken bytes.
+    let geometry = c.args.geometry.now in
+    file_there geometry (image_view c.args.image.now) (block_in geometry bytes) c.args.number c.if-number-geometry.true
     (sym (ap (λ (e : NodeEntry). not (e.address == 0)) c.entry.ensures) ∙ taken)
