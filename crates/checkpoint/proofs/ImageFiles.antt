@@ -1,70 +1,30 @@
 -- A state's tickets name the addresses where the main blocks hold their contents: so what an image reads there, block
 -- by block, is the file that the state shows.
-use Rattle.std.proofs.Common.{◌≡◌, ◌≢◌, ℕ, zero, suc, ◌<◌, ◌≤◌, List, [], ◌∷◌, ◌++◌, append-nil, Option, Some, None, cond, inl, inr, refl, sym, ap, subst, ◌∙◌, eq-eqb, ne_eqb, arith}
-use Rattle.std.proofs.lemmas.Bool.{cases_eq, cases_lt}
-use Rattle.std.proofs.lemmas.List.Elements.{filter_map-append}
-use Rattle.std.specs.List.{filter_map, cons_option}
+use Rattle.std.proofs.Common.{◌≡◌, ℕ, zero, suc, ◌<◌, Option, Some, None, inl, inr, refl, sym, ap, ◌∙◌, arith}
+use Rattle.std.proofs.lemmas.Bool.{cases_lt}
+use Rattle.std.specs.List.{filter_map}
 use Rattle.std.specs.Ordering.{nat_cmp}
-use Rattle.std.specs.Cmp.{unsigned_tied}
 use Rattle.std.proofs.lemmas.Cmp.{nat_cmp_total}
 use Rattle.std.specs.FinMap.{FinMap, get, from_entries, get-from_entries, same_map, nat_cmp-IsAntisymmetric}
-use Rattle.std.specs.FinMap.Entries.{find, find-append}
 use Rattle.geometry.specs.File.{Block}
 use Rattle.tickets.specs.Placed.{Placed}
 use Rattle.image.specs.Image.{Image, node_of}
 use Rattle.image.specs.Files.{data_address, below, block_at, file_of as image_file}
+use Rattle.image.proofs.FileBlocks.{content, entries, past_entries, in_entries}
 use Rattle.nodes.specs.declared.file.FileState.{FileState}
 use Rattle.nodes.specs.File.{IsFile, ticket_at, address_of, content_of, file_of}
 use Rattle.nodes.proofs.Files.{shows_file_of}
 use Rattle.checkpoint.specs.Files.{IsStateOf, HoldContents}
 
 module _ (blocks : ℕ → Block) where
-  -- the block at an address, none at 0
-  abbrev content : ℕ → Option Block
-  content zero = None
-  content (suc a) = Some (blocks (suc a))
-
-  found_last : (es : List (ℕ × Block)) (n a q : ℕ) → q ≡ n → find nat_cmp n es ≡ None → find nat_cmp q (es ++ cons_option (block_at blocks n a) []) ≡ content a
-  found_last es n zero q e none = ap (find nat_cmp q) (append-nil es) ∙ ap (λ k. find nat_cmp k es) e ∙ none
-  found_last es n (suc a) q e none =
-      find-append nat_cmp nat_cmp_total es n (blocks (suc a)) q none
-      ∙ ap (λ b. cond b (Some (blocks (suc a))) (find nat_cmp q es)) (unsigned_tied q n ∙ eq-eqb q n e)
-
-  found_before : (es : List (ℕ × Block)) (n a q : ℕ) → q ≢ n → find nat_cmp n es ≡ None → find nat_cmp q (es ++ cons_option (block_at blocks n a) []) ≡ find nat_cmp q es
-  found_before es n zero q ne none = ap (find nat_cmp q) (append-nil es)
-  found_before es n (suc a) q ne none =
-      find-append nat_cmp nat_cmp_total es n (blocks (suc a)) q none
-      ∙ ap (λ b. cond b (Some (blocks (suc a))) (find nat_cmp q es)) (unsigned_tied q n ∙ ne_eqb q n ne)
-
-  content_there : (a : ℕ) → 0 < a → content a ≡ Some (blocks a)
+  content_there : (a : ℕ) → 0 < a → content blocks a ≡ Some (blocks a)
   content_there zero h = absurd (omega arith)
   content_there (suc a) h = refl
 
   -- what stands at a ticket's address is its content
-  same_content : (ticket : Option Placed) → ((t : Placed) → ticket ≡ Some t → (0 < t.mark.address) × (blocks t.mark.address ≡ t.content)) → content (address_of ticket) ≡ content_of ticket
+  same_content : (ticket : Option Placed) → ((t : Placed) → ticket ≡ Some t → (0 < t.mark.address) × (blocks t.mark.address ≡ t.content)) → content blocks (address_of ticket) ≡ content_of ticket
   same_content None held = refl
   same_content (Some t) held = let h = held t refl in content_there t.mark.address h.0 ∙ ap (λ b. Some b) h.1
-
-  module _ (address : ℕ → ℕ) where
-    abbrev entries : ℕ → List (ℕ × Block)
-    entries n = filter_map (λ i. block_at blocks i (address i)) (below n)
-
-    entries_more : (n q : ℕ) → find nat_cmp q (entries (suc n)) ≡ find nat_cmp q (entries n ++ cons_option (block_at blocks n (address n)) [])
-    entries_more n q = ap (find nat_cmp q) (filter_map-append (λ i. block_at blocks i (address i)) (below n) (n ∷ []))
-
-    past_entries : (n i : ℕ) → n ≤ i → find nat_cmp i (entries n) ≡ None
-    past_entries zero i h = refl
-    past_entries (suc n) i h =
-        entries_more n i
-        ∙ found_before (entries n) n (address n) i (λ e. absurd (omega arith)) (past_entries n n (omega arith))
-        ∙ past_entries n i (omega arith)
-
-    in_entries : (n i : ℕ) → i < n → find nat_cmp i (entries n) ≡ content (address i)
-    in_entries zero i h = absurd (omega arith)
-    in_entries (suc n) i h = entries_more n i ∙ elim (cases_eq i n) [
-      | inl e ↦ found_last (entries n) n (address n) i e (past_entries n n (omega arith)) ∙ ap (λ k. content (address k)) (sym e)
-      | inr ne ↦ found_before (entries n) n (address n) i ne (past_entries n n (omega arith)) ∙ in_entries n i (omega arith)
-    ]
 
 -- the blocks that a state shows, by the addresses of its tickets
 module _ {B L : Type 0} (state : FileState B L) (file : IsFile state) (blocks : ℕ → Block) (held : HoldContents blocks state)

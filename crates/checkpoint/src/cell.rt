@@ -1,7 +1,7 @@
 //! What a checkpoint needs, in its lock.
 ghost use Rattle.std.specs.Prelude.{◌≡◌, ◌≤◌, ◌+◌, ◌^◌, ◌-◌, ◌<◌, ◌⊎◌, ◌∷◌, [], true, false, All, length, vec_capacity, OnOk, IfOk, IfErr};
 ghost use Rattle.geometry.specs.Area.{meta_bytes};
-ghost use Rattle.geometry.specs.declared.error.Error.TheVariants.{NoMemory, Device, Wounded, Exhausted};
+ghost use Rattle.geometry.specs.declared.error.Error.TheVariants.{BadGeometry, Device, Wounded, Exhausted};
 ghost use Rattle.image.specs.Rules.{IsInRange};
 ghost use Rattle.checkpoint_image.specs.View.{taken_view};
 ghost use Rattle.checkpoint.specs.Holding.{AreWhole, IsInPack};
@@ -17,7 +17,6 @@ use geometry::Error;
 use packs::Packs;
 use pool::PoolPass;
 use rights_names::VolumeName;
-use std::alloc::Global;
 use words::{CheckpointSeat, FreeSlip, Words};
 
 /// What a checkpoint needs: the two packs of the meta area, the right to advance the version, and with what it gives free
@@ -102,14 +101,9 @@ impl<V: VolumeName, M: Meta> PacksCell<V, M> {
 
     /// Writes an image as the next pack, and advances the version once it is the one that counts.
     ///
-    /// Answers NoMemory before any call of the device, and then nothing has changed. Answers Device where the device failed:
-    /// the volume is wounded then.
-    pub fn store<B: Block>(
-        &mut self,
-        alloc: Global,
-        words: &Words,
-        taken: Taken<B>,
-    ) -> Result<Stored<M, B>, Error>
+    /// Answers BadGeometry where the image is of a volume of another shape, and then nothing has changed; and Device where the
+    /// device failed: the volume is wounded then. It takes no memory.
+    pub fn store<B: Block>(&mut self, words: &Words, taken: Taken<B>) -> Result<Stored<M, B>, Error>
         requires words { words.now.table ≡ V.Words.words }
         requires sound { self.old.wounded ≡ false }
         requires range { IsInRange V.Numbers.geometry (taken_view taken.image) }
@@ -120,20 +114,21 @@ impl<V: VolumeName, M: Meta> PacksCell<V, M> {
         ensures complete { OnOk result (self.new.checkpoint.version ≡ taken.image.tables.version) }
         ensures held { OnOk result (Leaves M.may_leave self.new.packs.area.meta (HoldsTables V.Numbers.geometry (taken_view taken.image))) }
         ensures area { IfOk result (λ stored. stored.pack.shown.items ≡ (self.new.packs.area, self.new.packs.area.version) ∷ []) }
-        ensures error { IfErr result (λ error. ((error ≡ NoMemory) × (self.new.wounded ≡ false)) ⊎ ((error ≡ Device) × (self.new.wounded ≡ true))) }
-        ensures memory { IfErr result (λ error. error ≡ NoMemory → self.new.packs ≡ self.old.packs) }
+        ensures error { IfErr result (λ error. ((error ≡ BadGeometry) × (self.new.wounded ≡ false)) ⊎ ((error ≡ Device) × (self.new.wounded ≡ true))) }
+        ensures other { IfErr result (λ error. error ≡ BadGeometry → taken.image.geometry.shape ≡ V.Numbers.geometry.shape → ⊥) }
+        ensures unchanged { IfErr result (λ error. error ≡ BadGeometry → self.new.packs ≡ self.old.packs) }
         // A version is complete only once its pack is on the device.
         ensures refused { IfErr result (λ error. self.new.checkpoint ≡ self.old.checkpoint) }
         ensures slips { (self.new.pass ≡ self.old.pass) × (self.new.kept ≡ self.old.kept) }
     {
         // A version fits its field.
         let _version = taken.tables().version;
-        match self.packs.write(alloc, taken) {
+        match self.packs.write(taken) {
             Ok(stored) => {
                 words.advance(&mut self.checkpoint);
                 Ok(stored)
             }
-            Err(Error::NoMemory) => Err(Error::NoMemory),
+            Err(Error::BadGeometry) => Err(Error::BadGeometry),
             Err(error) => {
                 self.wounded = true;
                 Err(error)

@@ -1,5 +1,6 @@
 //! What shows that an image was written.
 ghost use Rattle.std.specs.Prelude.{◌≡◌, All};
+ghost use Rattle.image.specs.Free.{free_count};
 ghost use Rattle.image.specs.Pack.{pack_body};
 ghost use Rattle.checkpoint_image.specs.View.{taken_view};
 ghost use Rattle.packs.specs.Area.{reading_of};
@@ -25,11 +26,18 @@ pub struct Stored<M: Meta, B: Block> {
 }
 
 impl<M: Meta, B: Block> Stored<M, B> {
-    /// The tables that were written.
+    /// Of the tables that were written, version and total, the logs and the node address table. The other tables are empty.
     pub fn tables(&self) -> &Image
         ensures { result.now ≡ self.now.taken.image.tables }
     {
         self.taken.tables()
+    }
+
+    /// How many segments a mount finds free.
+    pub fn free(&self) -> u32
+        ensures { result ≡ free_count self.now.taken.image.geometry (taken_view self.now.taken.image) }
+    {
+        self.taken.image.free
     }
 
     /// Gives up all but what was written.

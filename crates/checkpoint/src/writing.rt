@@ -1,6 +1,6 @@
 //! An image is written as the pack that counts.
 ghost use Rattle.std.specs.Prelude.{◌≡◌, ◌⊎◌, ◌<◌, ◌+◌, ℕ, [], ◌∷◌, OnOk, IfOk, IfErr};
-ghost use Rattle.geometry.specs.declared.error.Error.TheVariants.{NoMemory, Device};
+ghost use Rattle.geometry.specs.declared.error.Error.TheVariants.{BadGeometry, Device};
 ghost use Rattle.geometry.specs.File.{Block};
 ghost use Rattle.device.specs.Disk.{Leaves, LeavesOnly};
 ghost use Rattle.image.specs.Pack.{pack_body};
@@ -18,16 +18,15 @@ use crate::{ImagePacks, Stored, Taken};
 use checkpoint_image::TakenImage;
 use device::{Block, Meta};
 use geometry::Error;
-use packs_format::encode;
-use std::alloc::Global;
 
 impl<M: Meta> ImagePacks<M> {
     /// Writes an image as the next pack: of its two tables only the parts that changed. After an Ok it is the one that counts whatever crash
     /// comes.
     ///
-    /// Answers NoMemory before any call of the device, and then nothing has changed; and Device where the device failed:
-    /// then it is not known which of the two packs counts, and the area has to be opened again.
-    pub fn write<B: Block>(&mut self, alloc: Global, taken: Taken<B>) -> Result<Stored<M, B>, Error>
+    /// Answers BadGeometry where the image was spelled for another shape than that of these packs, and then nothing has changed; and
+    /// Device where the device failed: then it is not known which of the two packs counts, and the area has to be opened again.
+    /// It takes no memory.
+    pub fn write<B: Block>(&mut self, taken: Taken<B>) -> Result<Stored<M, B>, Error>
         requires whole { AreWhole M.seen M.may_leave self.old }
         requires range { IsInRange self.old.geometry (taken_view taken.image) }
         requires next { taken.image.tables.version ≡ self.old.area.version + 1 }
@@ -44,14 +43,15 @@ impl<M: Meta> ImagePacks<M> {
             (KeepsArea (M.seen self.old.area.meta) (Between (reading_of self.old.area.geometry)
             (counting_body M.seen self.old) (pack_body self.old.geometry.shape (taken_view taken.image)))) }
 
-        ensures errors { IfErr result (λ e. (e ≡ NoMemory) ⊎ (e ≡ Device)) }
-        ensures memory { IfErr result (λ e. e ≡ NoMemory → self.new ≡ self.old) }
+        ensures errors { IfErr result (λ e. (e ≡ BadGeometry) ⊎ (e ≡ Device)) }
+        ensures other { IfErr result (λ e. e ≡ BadGeometry → taken.image.geometry.shape ≡ self.old.geometry.shape → ⊥) }
+        ensures unchanged { IfErr result (λ e. e ≡ BadGeometry → self.new ≡ self.old) }
         ensures device { IfErr result (λ e. e ≡ Device → M.failed self.old.area.meta < M.failed self.new.area.meta) }
         ensures same { IsSameArea (M.seen self.old.area.meta) (M.seen self.new.area.meta) }
         ensures geometry { self.new.geometry ≡ self.old.geometry }
         ensures numbers { self.new.area.geometry ≡ self.old.area.geometry }
     {
-        let pack = self.store(alloc, &taken.image)?;
+        let pack = self.store(&taken.image)?;
         let geometry = self.geometry;
         Ok(Stored {
             taken,
@@ -60,8 +60,8 @@ impl<M: Meta> ImagePacks<M> {
         })
     }
 
-    // The body is made before the first call of the device.
-    fn store(&mut self, alloc: Global, image: &TakenImage) -> Result<packs::Stored<M>, Error>
+    // The image brings its body.
+    fn store(&mut self, image: &TakenImage) -> Result<packs::Stored<M>, Error>
         requires whole { AreWhole M.seen M.may_leave self.old }
         requires range { IsInRange self.old.geometry (taken_view image.now) }
         requires next { image.now.tables.version ≡ self.old.area.version + 1 }
@@ -73,8 +73,9 @@ impl<M: Meta> ImagePacks<M> {
             (KeepsArea (M.seen self.old.area.meta) (Between (reading_of self.old.area.geometry)
             (counting_body M.seen self.old) (pack_body self.old.geometry.shape (taken_view image.now)))) }
 
-        ensures errors { IfErr result (λ e. (e ≡ NoMemory) ⊎ (e ≡ Device)) }
-        ensures memory { IfErr result (λ e. e ≡ NoMemory → self.new ≡ self.old) }
+        ensures errors { IfErr result (λ e. (e ≡ BadGeometry) ⊎ (e ≡ Device)) }
+        ensures other { IfErr result (λ e. e ≡ BadGeometry → image.now.geometry.shape ≡ self.old.geometry.shape → ⊥) }
+        ensures unchanged { IfErr result (λ e. e ≡ BadGeometry → self.new ≡ self.old) }
         ensures device { IfErr result (λ e. e ≡ Device → M.failed self.old.area.meta < M.failed self.new.area.meta) }
         ensures same { IsSameArea (M.seen self.old.area.meta) (M.seen self.new.area.meta) }
         ensures geometry { self.new.geometry ≡ self.old.geometry }
@@ -82,8 +83,10 @@ impl<M: Meta> ImagePacks<M> {
     {
         // A version fits its field.
         let _version = image.tables.version;
-        let body = encode(alloc, &self.geometry, &image.tables)?;
-        match self.area.write(body.as_slice()) {
+        if image.geometry.shape != self.geometry.shape {
+            return Err(Error::BadGeometry);
+        }
+        match self.area.write(image.body.as_slice()) {
             Ok(stored) => Ok(stored),
             Err(_) => Err(Error::Device),
         }

@@ -13,3 +13,4 @@ pub mod Rows
 pub mod Taking
 pub mod Turning
 pub mod Joining
+pub mod Spelled

@@ -1,28 +1,32 @@
 -- An owner that is there counts as one valid bit, and a number with one entry at most is found as that entry: so the
 -- rows tell what the segment and the shard have.
 use Rattle.std.proofs.Common.{◌≡◌, ◌≢◌, refl, sym, ◌∙◌, ap, ℕ, ◌+◌, ◌<◌, ◌≤◌, ◌==◌, ◌⊎◌, inl, inr, Bool, true, false, List, [], ◌∷◌, map, length, if◌then◌else◌, fold, cond, eq-eqb, arith}
-use Rattle.std.specs.Prelude.{Option, Some, None, is_some, count_by}
+use Rattle.std.specs.Prelude.{Option, Some, None, count_by}
 use Rattle.std.proofs.lemmas.Bool.Decides.{eqb_tells}
 use Rattle.geometry.specs.declared.owner.Owner.{Owner}
 use Rattle.geometry.specs.declared.owner.Summary.{Summary}
-use Rattle.sit.specs.Summaries.{summary_in, count_of}
+use Rattle.image.specs.Image.{SegmentInfo}
+use Rattle.sit.specs.Segment.{Segment}
+use Rattle.sit.specs.Summaries.{is_set, summary_in, count_of}
 use Rattle.rights_books.specs.declared.claim.Entry.{Entry}
 use Rattle.rights_books.specs.Lists.{times}
 use Rattle.rights_books.specs.Sameness.{same_entry}
 use Rattle.rights_books.proofs.Sameness.{entry_eq}
 use Rattle.nat.specs.Taken.{entries_of}
-use Rattle.image_law.specs.Parts.{is_named, found, summary_in as summary_at}
-use Rattle.checkpoint_image.specs.Cells.{token_of}
-
-pub named_some : (o : Option Owner) → is_some o ≡ is_named o
-named_some None = refl
-named_some (Some owner) = refl
+use Rattle.image_law.specs.Parts.{is_named, info, found, summary_in as summary_at}
+use Rattle.checkpoint_image.specs.Cells.{segment_part, token_of}
 
 -- what stands for a block is said twice
 pub rows_same : (xs : List (Option Owner)) → map summary_in xs ≡ map summary_at xs
 rows_same [] = refl
 rows_same (None ∷ xs) = ap (λ (l : List Summary). summary_at None ∷ l) (rows_same xs)
 rows_same (Some owner ∷ xs) = ap (λ (l : List Summary). summary_at (Some owner) ∷ l) (rows_same xs)
+
+-- which blocks somebody names is said twice
+set_each : (xs : List (Option Owner)) → map is_set xs ≡ map is_named xs
+set_each [] = refl
+set_each (None ∷ xs) = ap (λ (bits : List Bool). false ∷ bits) (set_each xs)
+set_each (Some owner ∷ xs) = ap (λ (bits : List Bool). true ∷ bits) (set_each xs)
 
 fold_count : (a : ℕ) (xs : List (Option Owner)) → fold (λ a bit. a + cond bit 1 0) a (map is_named xs) ≡ a + count_of xs
 fold_count a [] = omega arith
@@ -31,6 +35,14 @@ fold_count a (Some owner ∷ xs) = fold_count (a + 1) xs ∙ omega arith
 
 pub named_count : (xs : List (Option Owner)) → count_by (λ bit. bit) (map is_named xs) ≡ count_of xs
 named_count xs = fold_count 0 xs ∙ omega arith
+
+-- the entry that is spelled of bits, with as many valid blocks as are counted
+pub entry_same : (segment : Segment) (bits : List Bool) (valid mtime : ℕ) → bits ≡ map is_set segment.summaries → valid ≡ count_of segment.summaries → mtime ≡ segment.mtime
+    → ◌≡◌ {A = SegmentInfo} (record { count = valid; mtime = mtime; bits = bits }) (info (segment_part segment))
+entry_same segment bits valid mtime told count time =
+    let counts = count ∙ sym (named_count segment.summaries) in
+    let named = told ∙ set_each segment.summaries in
+    λ i. record { count = counts i; mtime = time i; bits = named i }
 
 abbrev of_number : ℕ → Entry → ℕ
 of_number number e = if e.number == number then 1 else 0

@@ -4,5 +4,6 @@ pub mod Blocks
 pub mod Taken
 pub mod PartsLaw
 pub mod Held
+pub mod Rows
 pub mod Learning
 pub mod View

@@ -1,65 +1,41 @@
 //! A segment's rows of an image.
-ghost use Rattle.std.specs.Prelude.{◌≡◌, ◌++◌, ◌≤◌, map, length, IfOk, OnOk};
+ghost use Rattle.std.specs.Prelude.{◌≡◌, ◌++◌, ◌<◌, ◌≤◌, ◌^◌, All, OnOk};
+ghost use Rattle.std.specs.List.{flat_map};
 ghost use Rattle.geometry.specs.Shape.{segment_blocks};
-ghost use Rattle.geometry.specs.Summary.{owner_in};
-ghost use Rattle.image.specs.View.{info_view};
-ghost use Rattle.image_law.specs.Parts.{is_named, summary_in, info};
+ghost use Rattle.image.specs.Pack.{segment_bytes, summary_bytes};
+ghost use Rattle.image_law.specs.Parts.{info, summaries_in};
+ghost use Rattle.packs_format.specs.Grammar.{IsSummaryRow};
 ghost use Rattle.checkpoint_image.specs.Cells.{segment_part};
 
 use device::Block;
-use geometry::Summary;
-use image::SegmentInfo;
+use geometry::Shape;
+use packs_format::{spell_info, spell_summaries};
 use sit::SegmentState;
-use std::alloc::{AllocError, Global};
+use std::alloc::AllocError;
 
-// Whether a block with each of these summaries is valid.
-fn tell_valid(rows: &[Summary], bits: &mut [bool])
-    requires { length bits.old ≡ length rows.now }
-    ensures { bits.new ≡ map (λ row. is_named (owner_in row)) rows.now }
-{
-    for place in 0..rows.len() {
-        bits[place] = rows[place].owner().is_some();
-    }
-}
-
-// Whether each of its blocks is valid.
-fn bits_of<B: Block + Drop>(
-    alloc: Global,
-    segment: &SegmentState<B>,
-) -> Result<Vec<bool>, AllocError>
-    ensures { IfOk result (λ bits. bits.items ≡ map is_named segment.now.segment.summaries) }
-{
-    let rows = segment.rows();
-    let mut bits = vec![in alloc; false; rows.len()]?;
-    tell_valid(rows, bits.as_mut_slice());
-    Ok(bits)
-}
-
-/// Its entry of the segment information table.
-pub(crate) fn info_of<B: Block + Drop>(
-    alloc: Global,
-    segment: &SegmentState<B>,
-) -> Result<SegmentInfo, AllocError>
-    ensures { IfOk result (λ entry. info_view entry ≡ info (segment_part segment.now.segment)) }
-{
-    let bits = bits_of(alloc, segment)?;
-    let row = segment.row();
-    Ok(SegmentInfo {
-        count: row.valid,
-        mtime: row.mtime,
-        bits,
-    })
-}
-
-/// Adds its part of the segment summary area.
-pub(crate) fn push_summaries<B: Block + Drop>(
-    summaries: &mut Vec<Summary>,
+/// Spells its entry of the segment information table, in the words that its bits lie in.
+pub(crate) fn spell_entry<B: Block + Drop>(
+    body: &mut Vec<u8>,
+    shape: Shape,
     segment: &SegmentState<B>,
 ) -> Result<(), AllocError>
-    ensures { OnOk result (summaries.new.items ≡ summaries.old.items ++ map summary_in segment.now.segment.summaries) }
+    requires { segment_blocks segment.now.segment.shape ≡ segment_blocks shape }
+    ensures added { OnOk result (body.new.items ≡ body.old.items ++ segment_bytes shape (info (segment_part segment.now.segment))) }
+    ensures small { OnOk result (((info (segment_part segment.now.segment)).count < 2 ^ 32) × ((info (segment_part segment.now.segment)).mtime < 2 ^ 64)) }
 {
-    summaries.extend_from_slice(segment.rows())?;
-    Ok(())
+    let row = segment.row();
+    spell_info(body, shape, row.valid, row.mtime, segment.valid_words())
+}
+
+/// Spells its part of the segment summary area.
+pub(crate) fn spell_part<B: Block + Drop>(
+    body: &mut Vec<u8>,
+    segment: &SegmentState<B>,
+) -> Result<(), AllocError>
+    ensures added { OnOk result (body.new.items ≡ body.old.items ++ flat_map summary_bytes (summaries_in (segment_part segment.now.segment))) }
+    ensures small { OnOk result (All IsSummaryRow (summaries_in (segment_part segment.now.segment))) }
+{
+    spell_summaries(body, segment.rows())
 }
 
 /// How many of its blocks are valid.

@@ -1,35 +1,14 @@
 //! The tables of an image.
-ghost use Rattle.std.specs.Prelude.{◌≡◌, ◌<◌, ◌≤◌, map, length, IfOk, IfSome};
-ghost use Rattle.image.specs.View.{info_view};
+ghost use Rattle.std.specs.Prelude.{◌≡◌, ◌<◌, ◌≤◌, length, IfOk, IfSome};
 ghost use Rattle.checkpoint_image.specs.Cells.{place_in};
-ghost use Rattle.checkpoint_image.specs.Held.{segments_in, infos_in, summaries_in, total_in, HaveBlocks, AreOwnShards, entry_in, entries_in, places_in, AreWithin};
+ghost use Rattle.checkpoint_image.specs.Held.{segments_in, total_in, HaveBlocks, AreOwnShards, entry_in, entries_in, places_in, AreWithin};
 
 use crate::held::{HoldsLog, HoldsSegment, HoldsShard};
-use crate::segment::{info_of, push_summaries, valid_of};
+use crate::segment::valid_of;
 use crate::shard::entry_of;
 use device::Block;
-use geometry::Summary;
-use image::{NodeEntry, Place, SegmentInfo};
+use image::{NodeEntry, Place};
 use std::alloc::{AllocError, Global};
-
-/// The segment information table and the segment summary area. What a segment lends is read once for both, and memory for so
-/// many summaries is taken at once.
-pub(crate) fn rows_of<B: Block + Drop, S: HoldsSegment<B>>(
-    alloc: Global,
-    count: usize,
-    segments: &[S],
-) -> Result<(Vec<SegmentInfo>, Vec<Summary>), AllocError>
-    ensures infos { IfOk result (λ rows. map info_view rows.0.items ≡ infos_in S.shown segments.now) }
-    ensures summaries { IfOk result (λ rows. rows.1.items ≡ summaries_in S.shown segments.now) }
-{
-    let mut infos = Vec::with_capacity(alloc, segments.len())?;
-    let mut summaries = Vec::with_capacity(alloc, count)?;
-    for held in segments {
-        infos.push(info_of(alloc, held.segment())?)?;
-        push_summaries(&mut summaries, held.segment())?;
-    }
-    Ok((infos, summaries))
-}
 
 /// How many blocks are valid.
 pub(crate) fn total_of<B: Block + Drop, S: HoldsSegment<B>>(blocks: u32, segments: &[S]) -> u32

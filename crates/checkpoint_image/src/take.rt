@@ -53,6 +53,7 @@ pub fn take_audited<
     ensures accounts { map F.account files.new.items ≡ map F.account files.old.items }
     ensures parts { ArePartsOf geometry.now (cells_in S.shown H.shown L.shown F.shown segments.old.items shards.old.items logs.now.items files.old.items) }
     ensures version { IfOk result (λ image. image.tables.version ≡ version) }
+    ensures geometry { IfOk result (λ image. image.geometry ≡ geometry.now) }
     ensures image { IfOk result (λ image. IsImageOf geometry.now (parts_of (cells_in S.shown H.shown L.shown F.shown segments.old.items shards.old.items logs.now.items files.old.items)) (taken_view image)) }
     ensures faithful { IfOk result (λ image. IsFaithfulImage geometry.now (parts_of (cells_in S.shown H.shown L.shown F.shown segments.old.items shards.old.items logs.now.items files.old.items)) (taken_view image)) }
     ensures err { IfErr result (λ error. error ≡ NoMemory) }

@@ -54,6 +54,7 @@ impl<'a, V: VolumeName, B: Block + Drop + 'a> HeldArea<'a, V, B> {
         ensures accounts { map F.account files.new.items ≡ map F.account files.old.items }
         ensures parts { ArePartsOf V.Numbers.geometry (held_cells F.shown self.old files.old.items) }
         ensures version { IfOk result (λ image. image.tables.version ≡ version) }
+        ensures geometry { IfOk result (λ image. image.geometry ≡ V.Numbers.geometry) }
         ensures image { IfOk result (λ image. IsImageOf V.Numbers.geometry (parts_of (held_cells F.shown self.old files.old.items)) (taken_view image)) }
         ensures faithful { IfOk result (λ image. IsFaithfulImage V.Numbers.geometry (parts_of (held_cells F.shown self.old files.old.items)) (taken_view image)) }
         ensures lawful { IfOk result (λ image. IsLawful V.Numbers.geometry (taken_view image)) }

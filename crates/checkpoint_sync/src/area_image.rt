@@ -42,6 +42,7 @@ pub fn take_image<V: VolumeName, B: Block + Drop, F: AuditedFile, R: Wait>(
     ensures taken { IfOk result.1 (λ image. IsTakenFrom V.Numbers.geometry (map F.shown files.old.items) (taken_view image)) }
     ensures trees { IfOk result.1 (λ image. HasTrees (taken_view image) (map F.shown files.old.items)) }
     ensures version { IfOk result.1 (λ image. image.tables.version ≡ version) }
+    ensures geometry { IfOk result.1 (λ image. image.geometry ≡ V.Numbers.geometry) }
     ensures lawful { IfOk result.1 (λ image. IsLawful V.Numbers.geometry (taken_view image)) }
     ensures error { IfErr result.1 (λ error. error ≡ NoMemory) }
 {

@@ -41,6 +41,7 @@ pub fn take_volume<V: VolumeName, B: Block + Drop, R: Wait>(
     requires version { 1 ≤ version }
     ensures home { result.0.hand ≡ at_home V.Books.books.book }
     ensures version { IfOk result.1 (λ taken. taken.image.tables.version ≡ version) }
+    ensures geometry { IfOk result.1 (λ taken. taken.image.geometry ≡ V.Numbers.geometry) }
     ensures lawful { IfOk result.1 (λ taken. IsLawful V.Numbers.geometry (taken_view taken.image)) }
     ensures files { IfOk result.1 (λ taken. files_of taken.added.items ≡ reverse (map (λ pass. shown_by pass.now) passes.now)) }
     ensures error { IfErr result.1 (λ error. (error ≡ NoMemory) ⊎ ((error ≡ Device) ⊎ (error ≡ NoSpace))) }
@@ -69,6 +70,7 @@ fn take_held<'a, V: VolumeName + 'a, B: Block + Drop + 'a, R: Wait>(
     requires version { 1 ≤ version }
     ensures home { result.0.hand ≡ at_home V.Books.books.book }
     ensures version { IfOk result.1 (λ taken. taken.image.tables.version ≡ version) }
+    ensures geometry { IfOk result.1 (λ taken. taken.image.geometry ≡ V.Numbers.geometry) }
     ensures lawful { IfOk result.1 (λ taken. IsLawful V.Numbers.geometry (taken_view taken.image)) }
     ensures files { IfOk result.1 (λ taken. files_of taken.added.items ≡ reverse (map (λ pass. shown_by pass.now) passes.now)) }
     ensures error { IfErr result.1 (λ error. error ≡ NoMemory) }

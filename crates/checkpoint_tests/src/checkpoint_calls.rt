@@ -91,22 +91,20 @@ fn opened<M: Meta + Drop>(
 fn write_total<M: Meta>(
     packs: &mut ImagePacks<M>,
     alloc: Global,
-    image: TakenImage,
+    mut image: Image,
     total: u32,
 ) -> Result<TakenImage, Error>
     requires whole { AreWhole M.seen M.may_leave packs.old }
-    requires range { IsInRange packs.old.geometry (taken_view image) }
+    requires range { IsInRange packs.old.geometry (image_view image) }
     ensures whole { OnOk result (AreWhole M.seen M.may_leave packs.new) }
-    ensures range { IfOk result (λ image. IsInRange packs.new.geometry (taken_view image)) }
 {
     if packs.area.version > 1_000 {
         return Err(Error::Exhausted);
     }
-    let mut image = image;
-    image.tables.version = packs.area.version + 1;
-    image.tables.total = total;
-    let taken = Taken::<MemBlock>::of(image);
-    let stored = packs.write(alloc, taken)?;
+    image.version = packs.area.version + 1;
+    image.total = total;
+    let taken = Taken::<MemBlock>::of(TakenImage::of(alloc, &packs.geometry, image)?);
+    let stored = packs.write(taken)?;
     Ok(stored.into_image())
 }
 
@@ -126,8 +124,9 @@ fn each_image_is_read_back(rt: HostRuntime) -> Result<(), Fail> {
     let file = empty_file(alloc)?;
     let (mut packs, image) = opened(alloc, area_of(alloc, &file)?, &file)?;
     assert!(rt; read_numbers(&mut packs, alloc) == Ok((1, 0)));
-    let image = write_total(&mut packs, alloc, TakenImage::of(alloc, image), 7)?;
+    let _image = write_total(&mut packs, alloc, image, 7)?;
     assert!(rt; read_numbers(&mut packs, alloc) == Ok((2, 7)));
+    let (mut packs, image) = opened(alloc, packs.area.meta, &file)?;
     let _image = write_total(&mut packs, alloc, image, 9)?;
     assert!(rt; read_numbers(&mut packs, alloc) == Ok((3, 9)));
     Ok(())
@@ -140,7 +139,7 @@ fn crash_in_write(alloc: Global, nth: u32, late: bool) -> Result<(bool, u32), Er
     let meta = Faulty::new(area_of(alloc, &file)?, Arc::try_clone(&fuse)?);
     let (mut packs, image) = opened(alloc, meta, &file)?;
     fuse.arm(nth, late)?;
-    let done = write_total(&mut packs, alloc, TakenImage::of(alloc, image), 7).is_ok();
+    let done = write_total(&mut packs, alloc, image, 7).is_ok();
     let (again, _image) = opened(alloc, packs.area.meta.into_inner(), &file)?;
     Ok((done, again.area.version))
 }
@@ -210,7 +209,7 @@ fn give_back(
 fn an_empty_file_is_added_where_the_image_has_it(rt: HostRuntime) -> Result<(), Fail> {
     let alloc = rt.alloc();
     let file = empty_file(alloc)?;
-    let (_, without) = Image::read(alloc, &file)?;
+    let (geometry, without) = Image::read(alloc, &file)?;
     let (_, mut image) = Image::read(alloc, &file)?;
     let (books, dealer) = Books::open(alloc, &LAYOUT)?;
     let (permits, dealer) = books.deal_permits(dealer);
@@ -218,15 +217,17 @@ fn an_empty_file_is_added_where_the_image_has_it(rt: HostRuntime) -> Result<(), 
     let (_segment, dealer) = books.deal_segment(dealer);
     let (mut shard, _dealer) = books.deal_shard(dealer);
     let state = empty_state(&rt, alloc, &books, &mut shard, &mut permit);
-    let (_without, added_without) = take_with_empty(alloc, without, &state);
+    let without = take_with_empty(alloc, &geometry, without, &state);
     for entry in image.nat.iter_mut().skip(15) {
         *entry = NodeEntry {
             inode: 16,
             address: 9,
         };
     }
-    let (taken, added) = take_with_empty(alloc, image, &state);
+    let with = take_with_empty(alloc, &geometry, image, &state);
     give_back(&rt, &books, &mut shard, &mut permit, state);
+    let (_, added_without) = without?;
+    let (taken, added) = with?;
     assert!(rt; !added_without);
     assert!(rt; added);
     assert!(rt; taken.tables().version == 1);

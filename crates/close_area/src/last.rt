@@ -157,7 +157,7 @@ fn store_image<V: VolumeName, M: Meta, B: Block + Drop, R: Wait>(
     if passes < living {
         return (all, Err(Error::PassesOut((living - passes) as u32)));
     }
-    match packs.store::<B>(alloc, area.words(), Taken::of(image)) {
+    match packs.store::<B>(area.words(), Taken::of(image)) {
         Ok(stored) => (all, Ok(stored.into_image())),
         Err(error) => (all, Err(error)),
     }

@@ -14,3 +14,4 @@ pub mod Segment
 pub mod Path
 pub mod Version
 pub mod Blocks
+pub mod Bits

@@ -1,6 +1,7 @@
 pub mod Fronts
 pub mod Bytes
 pub mod Bits
+pub mod Words
 pub mod Chunks
 pub mod Rooms
 pub mod Widths

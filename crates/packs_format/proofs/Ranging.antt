@@ -1,7 +1,7 @@
 -- Whatever is in range is below a geometry's limits, which fit the widths of the rows: so such an image has a spelling,
 -- once version, counts, times and owners fit theirs.
 use Rattle.std.proofs.Common.{ℕ, ◌*◌, ◌^◌, ◌<◌, ◌≤◌, List, Option, Some, None, arith}
-use Rattle.std.specs.Prelude.{All, IfSome}
+use Rattle.std.specs.Prelude.{IfSome}
 use Rattle.std.proofs.lemmas.List.Elements.{All-weaker}
 use Rattle.geometry.specs.declared.shape.Shape.{Shape}
 use Rattle.geometry.specs.declared.shape.Shape.TheVariants.{Tiny, Kernel}
@@ -11,7 +11,7 @@ use Rattle.image.specs.declared.image.Place.{Place}
 use Rattle.image.specs.Image.{Image}
 use Rattle.image.specs.Node.{Node}
 use Rattle.image.specs.Rules.{IsInRange, IsPlace}
-use Rattle.packs_format.specs.Grammar.{HasSpelling, IsPlaceRow, IsSummaryRow}
+use Rattle.packs_format.specs.Grammar.{HasSmallNumbers, HasSpelling, IsPlaceRow}
 
 blocks_few : (shape : Shape) (segments : ℕ) → segments ≤ 4096 → segments * segment_blocks shape < 2 ^ 32
 blocks_few Tiny segments few = omega arith
@@ -27,13 +27,6 @@ place_small geometry (Some place) is =
     let few = geometry.limits.segments_fit in
     let low = is.0 in
     (omega arith, offset_small geometry.shape place.next is.1)
-
--- the numbers of the two tables that a rule on ranges leaves open
-pub record HasSmallNumbers (image : Image) : Type 0 where
-  pub version : image.version < 2 ^ 32
-  pub total : image.total < 2 ^ 32
-  pub infos : All (λ info. (info.count < 2 ^ 32) × (info.mtime < 2 ^ 64)) image.segments
-  pub owners : All IsSummaryRow image.summaries
 
 -- whichever nodes are in range with the tables
 pub has_spelling : (geometry : Geometry) (image : Image) (rows : List Node) → HasSmallNumbers image → IsInRange geometry (record image { nodes = rows }) → HasSpelling geometry image

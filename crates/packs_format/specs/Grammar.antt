@@ -43,6 +43,13 @@ pub record HasSpelling (geometry : Geometry) (image : Image) : Type 0 where
   pub summaries : length image.summaries ≡ block_count geometry
   pub owners : All IsSummaryRow image.summaries
 
+-- The numbers of the tables that a rule on ranges leaves open fit their fields.
+pub record HasSmallNumbers (image : Image) : Type 0 where
+  pub version : image.version < 2 ^ 32
+  pub total : image.total < 2 ^ 32
+  pub infos : All (λ info. (info.count < 2 ^ 32) × (info.mtime < 2 ^ 64)) image.segments
+  pub owners : All IsSummaryRow image.summaries
+
 -- a body spells the tables of an image; its nodes stand in the main blocks
 abbrev pub SpellsTables : Geometry → List ℕ → Image → Type 0
 SpellsTables geometry body image = HasSpelling geometry image × (body ≡ pack_body geometry.shape image)

@@ -2,13 +2,14 @@
 ghost use Rattle.std.specs.Prelude.{◌≡◌, ◌≤◌, ◌<◌, ◌+◌, ◌*◌, ◌/◌, ◌^◌, ◌++◌, ℕ, List, [], ◌∷◌, length, take, drop, map, All, IfOk, IfErr, OnOk};
 ghost use Rattle.std.specs.List.{flat_map};
 ghost use Rattle.byteorder.specs.Endian.{little_bytes};
+ghost use Rattle.geometry.specs.Bits.{bits_of};
 ghost use Rattle.geometry.specs.declared.error.Error.TheVariants.{NoMemory};
 ghost use Rattle.geometry.specs.Shape.{segment_blocks};
 ghost use Rattle.image.specs.Node.{Node, numbers};
 ghost use Rattle.image.specs.Pack.{pack_body, log_bytes, entry_bytes, segment_bytes, summary_bytes, bits_number, bitmap};
 ghost use Rattle.image.specs.Rules.{IsInRange};
 ghost use Rattle.image.specs.View.{image_view, info_view};
-ghost use Rattle.packs_format.specs.Grammar.{IsSummaryRow, SpellsTables};
+ghost use Rattle.packs_format.specs.Grammar.{HasSmallNumbers, IsSummaryRow, SpellsTables};
 
 use crate::rows::NO_SEGMENT;
 use byteorder::{ByteOrder, LittleEndian};
@@ -18,6 +19,9 @@ use std::alloc::{AllocError, Global};
 
 // So many rows of two numbers are spelled before they are added.
 const ROWS: usize = 64;
+
+// A segment's bits take at most so many words of 64.
+const WORDS: usize = 8;
 
 // A row of two numbers.
 trait Pair {
@@ -161,6 +165,62 @@ fn push_segment(out: &mut Vec<u8>, shape: Shape, info: &SegmentInfo) -> Result<(
     push_bits(out, shape.segment_blocks() / 8, &info.bits)
 }
 
+// The first bytes of the words, each word's lowest first. Past the words they are zeros.
+fn push_words(out: &mut Vec<u8>, count: usize, words: &[u64]) -> Result<(), AllocError>
+    requires { count ≤ 64 }
+    ensures { OnOk result (out.new.items ≡ out.old.items ++ bitmap count (bits_of words.now (8 * count))) }
+{
+    let mut bytes = [0u8; 8 * WORDS];
+    let (some, _) = words.split_at(words.len().min(WORDS));
+    LittleEndian::write_u64_into(some, &mut bytes[..8 * some.len()]);
+    out.extend_from_slice(&bytes[..count])?;
+    Ok(())
+}
+
+/// Adds a segment's row of the segment information table, of which the bits of the words tell the valid blocks: bit `o % 64` of
+/// word `o / 64` is that of block `o`, clear where there is no such word. The only error is that memory is out.
+pub fn spell_info(
+    out: &mut Vec<u8>,
+    shape: Shape,
+    count: u32,
+    mtime: u64,
+    words: &[u64],
+) -> Result<(), AllocError>
+    ensures added { OnOk result (out.new.items ≡ out.old.items ++ segment_bytes shape (record { count = count; mtime = mtime; bits = bits_of words.now (segment_blocks shape) })) }
+    ensures small { OnOk result ((count < 2 ^ 32) × (mtime < 2 ^ 64)) }
+{
+    out.extend_from_slice(&count.to_le_bytes())?;
+    out.extend_from_slice(&mtime.to_le_bytes())?;
+    push_words(out, shape.segment_blocks() as usize / 8, words)
+}
+
+/// Adds rows of the segment summary area. The only error is that memory is out.
+pub fn spell_summaries(out: &mut Vec<u8>, rows: &[Summary]) -> Result<(), AllocError>
+    ensures added { OnOk result (out.new.items ≡ out.old.items ++ flat_map summary_bytes rows.now) }
+    ensures small { OnOk result (All IsSummaryRow rows.now) }
+{
+    push_rows(out, rows)
+}
+
+/// A pack's body up to the row of the first segment, with memory for all of it. The only error is that memory is out.
+pub fn begin_body(
+    alloc: Global,
+    geometry: &Geometry,
+    version: u32,
+    total: u32,
+    logs: &[Option<Place>],
+    nat: &[NodeEntry],
+) -> Result<Vec<u8>, AllocError>
+    ensures bytes { IfOk result (λ body. body.items ≡ (numbers (version ∷ total ∷ []) ++ flat_map log_bytes logs.now) ++ flat_map entry_bytes nat.now) }
+    ensures small { OnOk result ((version < 2 ^ 32) × (total < 2 ^ 32)) }
+{
+    let mut body = Vec::with_capacity(alloc, geometry.pack_bytes() as usize - 4)?;
+    push_pair(&mut body, version, total)?;
+    push_logs(&mut body, logs)?;
+    push_rows(&mut body, nat)?;
+    Ok(body)
+}
+
 fn push_segments(
     out: &mut Vec<u8>,
     shape: Shape,
@@ -183,12 +243,17 @@ pub fn encode(alloc: Global, geometry: &Geometry, image: &Image) -> Result<Vec<u
     // So that it is read back, where its numbers are in range with any nodes.
     ensures spelled { IfOk result (λ body. (nodes : List Node) → IsInRange geometry.now (record (image_view image.now) { nodes = nodes })
         → SpellsTables geometry.now body.items (image_view image.now)) }
+    ensures small { IfOk result (λ body. HasSmallNumbers (image_view image.now)) }
     ensures refused { IfErr result (λ e. e ≡ NoMemory) }
 {
-    let mut body = Vec::with_capacity(alloc, geometry.pack_bytes() as usize - 4)?;
-    push_pair(&mut body, image.version, image.total)?;
-    push_logs(&mut body, &image.logs)?;
-    push_rows(&mut body, &image.nat)?;
+    let mut body = begin_body(
+        alloc,
+        geometry,
+        image.version,
+        image.total,
+        &image.logs,
+        &image.nat,
+    )?;
     push_segments(&mut body, geometry.shape, &image.sit)?;
     push_rows(&mut body, &image.ssa)?;
     Ok(body)

@@ -11,7 +11,7 @@ mod rows;
 mod superblock;
 
 pub use decoding::decode;
-pub use encoding::encode;
+pub use encoding::{begin_body, encode, spell_info, spell_summaries};
 pub use file::{ReadImage, file_bytes};
 pub use law::reading_law;
 pub use one_image::one_image_law;

@@ -242,7 +242,12 @@ impl<'a, V: VolumeName, M: Meta, B: Block + Drop> Session<'a, V, M, B> {
     {
         let passes = lend_all(self.alloc, self.passes.as_slice())?;
         let stored = self.volume.sync(rt, passes.as_slice())?;
-        Ok(Synced::of(stored.tables(), &self.volume.geometry()))
+        let tables = stored.tables();
+        Ok(Synced {
+            version: tables.version,
+            total: tables.total,
+            free: stored.free(),
+        })
     }
 
     /// Takes a reader of a file as it is now, and answers its number. Answers SeatsOut with all seats where none is left.

@@ -14,7 +14,8 @@ use Rattle.std.proofs.lemmas.List.FromFn.{length-map-range_with_len, get_or-map-
 use Rattle.std.proofs.lemmas.Nat.Bits.{bit_at-zero, bit_at_set_same, bit_at_set_other, bit_at_clear_same, bit_at_clear_other, bit_at-trailing_zeros, bit_at_above, bit_at_and, bit_at_or, bit_at_not, bit_at-lt, bit_at_ones, bit_at_ones_above}
 use Rattle.std.proofs.lemmas.Nat.{shr-shr, shr_le, or_lt}
 use Rattle.std.proofs.Math.Pow.{pow-lt}
-use Rattle.sit.specs.Bits.{is_bit, bits_of, IsBits, IsFirstBit, IsFirstTrue, AreFirstBits, AreClearBits, neither, neither_of, has_true}
+use Rattle.geometry.specs.Bits.{is_bit, bits_of}
+use Rattle.sit.specs.Bits.{IsBits, IsFirstBit, IsFirstTrue, AreFirstBits, AreClearBits, neither, neither_of, has_true}
 
 -- a word whose bit at p becomes b
 abbrev pub TurnsBit : ℕ → ℕ → ℕ → ℕ → Type 0

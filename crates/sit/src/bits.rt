@@ -2,6 +2,7 @@
 ghost use Rattle.std.specs.Prelude.{◌≡◌, ◌+◌, ◌<◌, ◌≤◌, ◌^◌, ℕ, true, false, length, replicate, slice_index_or, slice_set, IfOk, IfErr};
 ghost use Rattle.geometry.specs.declared.error.Error.TheVariants.{NoMemory};
 ghost use Rattle.std.specs.Int.{bit_at};
+ghost use Rattle.geometry.specs.Bits.{bits_of};
 ghost use Rattle.sit.specs.Bits.{IsFirstBit, IsFirstTrue, AreFirstBits, AreClearBits, has_true, neither_of};
 
 use geometry::Error;
@@ -17,7 +18,8 @@ pub(crate) struct Bits {
 
 impl Model for Bits {
     ghost use Rattle.std.specs.Prelude.{List, Bool};
-    ghost use Rattle.sit.specs.Bits.{bits_of, IsBits};
+    ghost use Rattle.geometry.specs.Bits.{bits_of};
+    ghost use Rattle.sit.specs.Bits.{IsBits};
 
     ghost Value = { List Bool };
 
@@ -50,6 +52,13 @@ impl Bits {
     {
         let index = offset as usize / 64;
         self.words[index] &= !(1 << (offset % 64));
+    }
+
+    /// The words that have them.
+    pub(crate) fn words(&self) -> &[u64]
+        ensures { bits_of result.now (length self.now) ≡ self.now }
+    {
+        self.words.as_slice()
     }
 
     /// The least place at or past `from` whose bit is set.

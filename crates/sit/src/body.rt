@@ -5,8 +5,9 @@ ghost use Rattle.geometry.specs.declared.state.State.TheVariants.{Free, Open, Se
 ghost use Rattle.geometry.specs.Shape.{block_bytes, segment_blocks};
 ghost use Rattle.geometry.specs.Address.{address_of, segment_of, offset_of};
 ghost use Rattle.geometry.specs.Owner.{IsOwner};
+ghost use Rattle.geometry.specs.Bits.{bits_of};
 ghost use Rattle.geometry.specs.Summary.{owner_in};
-ghost use Rattle.sit.specs.Summaries.{summary_in, count_of};
+ghost use Rattle.sit.specs.Summaries.{is_set, summary_in, count_of};
 ghost use Rattle.sit.specs.Segment.{IsFitting};
 ghost use Rattle.sit.specs.NextValid.{IsNextValid};
 ghost use Rattle.sit.specs.Released.{IsFate, thread_left};
@@ -95,6 +96,13 @@ impl<B: Block + Drop> Body<B> {
         ensures owners { map owner_in result.now ≡ self.now.summaries }
     {
         self.valid.rows()
+    }
+
+    /// Words that have a bit for each block, which is set where the block is valid.
+    pub(crate) fn valid_words(&self) -> &[u64]
+        ensures { bits_of result.now (length self.now.summaries) ≡ map is_set self.now.summaries }
+    {
+        self.valid.bits().words()
     }
 
     /// The least valid place at or past one.

@@ -31,6 +31,7 @@ impl<V: VolumeName, M: Meta, B: Block + Drop> Volume<V, M, B> {
         ensures lawful { IfOk result (λ stored. IsLawful V.Numbers.geometry (taken_view stored.taken.image)) }
         ensures files { IfOk result (λ stored. files_of stored.taken.added.items ≡ reverse (map (λ pass. shown_by pass.now) passes.now)) }
         ensures written { IfOk result (λ stored. IsInPack M.may_leave V.Numbers.geometry (taken_view stored.taken.image) stored.pack.shown.items) }
+        ensures geometry { IfOk result (λ stored. stored.taken.image.geometry ≡ V.Numbers.geometry) }
         ensures later { IfOk result (λ stored. self.now.base.version < stored.taken.image.tables.version) }
         ensures error { IfErr result (λ error. (error ≡ Wounded) ⊎ ((error ≡ Exhausted) ⊎ ((error ≡ NoMemory) ⊎ ((error ≡ NoSpace) ⊎ (error ≡ Device))))) }
     {
@@ -68,13 +69,14 @@ impl<V: VolumeName, M: Meta, B: Block + Drop> Volume<V, M, B> {
         taken: Taken<B>,
     ) -> Result<Stored<M, B>, Error>
         requires sound { packs.old.wounded ≡ false }
+        requires spelled { taken.image.geometry ≡ V.Numbers.geometry }
         requires range { IsInRange V.Numbers.geometry (taken_view taken.image) }
         requires next { taken.image.tables.version ≡ packs.old.packs.area.version + 1 }
         ensures taken { IfOk result (λ stored. stored.taken ≡ taken) }
         ensures written { IfOk result (λ stored. IsInPack M.may_leave V.Numbers.geometry (taken_view stored.taken.image) stored.pack.shown.items) }
-        ensures error { IfErr result (λ error. (error ≡ NoMemory) ⊎ (error ≡ Device)) }
+        ensures error { IfErr result (λ error. error ≡ Device) }
     {
-        match packs.store(self.alloc, self.area.words(), taken) {
+        match packs.store(self.area.words(), taken) {
             Ok(stored) => {
                 self.area.keep_marks(rt);
                 free_retired(rt, &self.area, &mut packs.pass, &mut packs.kept);

@@ -1,10 +1,13 @@
-use Rattle.std.proofs.Common.{◌≡◌, IfOk, List, inl, inr, ⊎_elim, ap, sym, subst, ◌∙◌, arith}
+use Rattle.std.proofs.Common.{◌≡◌, IfOk, List, true, inr, ⊎_elim, ap, sym, subst, ◌∙◌, arith}
+use Rattle.geometry.specs.declared.error.Error.TheVariants.{Device}
+use Rattle.geometry.specs.declared.geometry.Geometry.{Geometry}
 use Rattle.packs_format.specs.Holding.{HoldsTables}
 use Rattle.device.specs.Disk.{Leaves}
 use Rattle.rights_books.specs.Accounts.{AreFiles}
 use Rattle.image.specs.Rules.{IsLawful, IsInRange}
 use Rattle.checkpoint_image.specs.View.{taken_view}
 use Rattle.checkpoint_sync.proofs.Laws.{accounts_are, held_are}
+use Rattle.close_area.proofs.last.store_image.Given as given
 use Rattle.close_area.proofs.last.store_image.Goals as goal
 
 pub take_image-all-requires-clause-accounts : goal.take_image-all-requires-clause-accounts
@@ -28,7 +31,16 @@ returns-in-Ok-store-clause-tables g c =
     let written = c.into_image.ensures ∙ ap (λ t. t.image) c.in-Ok-store.ensures.taken in
     subst (λ image. Leaves g.M.Meta.may_leave c.store.new.self.packs.area.meta (HoldsTables g.V.Numbers.GeometryName.geometry (taken_view image))) (sym written) c.in-Ok-store.ensures.held
 
+-- the image has the volume's numbers, so what is left of the refusals is that the device failed
+failed : (g : given.Over) (c : goal.In-Err-store g) → (c.in-Err-store.error ≡ Device) × (c.store.new.self.wounded ≡ true)
+failed g c =
+    let geometry = g.V.Numbers.GeometryName.geometry in
+    let known = subst (λ r. IfOk r (λ image. image.geometry ≡ geometry)) c.in-Ok.is c.take_image-all.ensures.geometry in
+    let own = ap (λ t. t.geometry.shape) c.of.ensures.image ∙ ap (λ (x : Geometry). x.shape) known in
+    ⊎_elim (λ bad. absurd (c.in-Err-store.ensures.other bad.0 own)) (λ device. device) c.in-Err-store.ensures.error
+
 pub returns-in-Err-store-clause-packs : goal.returns-in-Err-store-clause-packs
-returns-in-Err-store-clause-packs g c =
-    let refused = c.in-Err-store.ensures in
-    ⊎_elim (λ none. inl (refused.memory none.0, none.1 ∙ sym c.requires.sound)) (λ failed. inr failed) refused.error
+returns-in-Err-store-clause-packs g c = inr (failed g c)
+
+pub returns-in-Err-store-clause-error : goal.returns-in-Err-store-clause-error
+returns-in-Err-store-clause-error g c = inr (inr (inr (inr (inr (failed g c).0))))

@@ -12,15 +12,16 @@ use Rattle.packs_format.proofs.encoding.encode.Goals as goal
 abbrev IsSmall : SegmentInfo → Type 0
 IsSmall info = (info.count < 2 ^ 32) × (info.mtime < 2 ^ 64)
 
+pub returns-clause-small : goal.returns-clause-small
+returns-clause-small c =
+    let segments : List SegmentValue → Type 0 = λ xs. All (λ (info : SegmentValue). (info.count < 2 ^ 32) × (info.mtime < 2 ^ 64)) xs in
+    record {
+      version = c.in_ok-body.ensures.small.0;
+      total = c.in_ok-body.ensures.small.1;
+      infos = All-map IsSmall info_view c.args.image.now.sit.items (subst segments c.deref-3.ensures.value c.in_ok-push_segments.ensures.small);
+      owners = subst (λ (xs : List Summary). All IsSummaryRow xs) c.deref-4.ensures.value c.in_ok-push_rows.ensures.small;
+    }
+
 pub returns-clause-spelled : goal.returns-clause-spelled
 returns-clause-spelled c =
-    let segments : List SegmentValue → Type 0 = λ xs. All (λ (info : SegmentValue). (info.count < 2 ^ 32) × (info.mtime < 2 ^ 64)) xs in
-    λ nodes range. (
-      has_spelling c.args.geometry.now (image_view c.args.image.now) nodes (record {
-        version = c.in_ok-push_pair.ensures.small.0;
-        total = c.in_ok-push_pair.ensures.small.1;
-        infos = All-map IsSmall info_view c.args.image.now.sit.items (subst segments c.deref-3.ensures.value c.in_ok-push_segments.ensures.small);
-        owners = subst (λ (xs : List Summary). All IsSummaryRow xs) c.deref-4.ensures.value c.in_ok-push_rows-2.ensures.small;
-      }) range,
-      search rules,
-    )
+    λ nodes range. (has_spelling c.args.geometry.now (image_view c.args.image.now) nodes (returns-clause-small c) range, search rules)

@@ -12,7 +12,7 @@ returns-in-Ok-clause-left g c =
     let taken = c.in-Ok.closed.image in
     inl (
       record {
-        image = record (image_view taken.tables) { nodes = taken.nodes.items };
+        image = record (image_view taken.tables) { segments = taken.rows.rows.segments; summaries = taken.rows.rows.summaries; nodes = taken.rows.rows.nodes };
         size = stands.size;
         held = record { front = stands.front area left; tables = stands.tables area left; nodes = stands.nodes };
         lawful = stands.lawful;

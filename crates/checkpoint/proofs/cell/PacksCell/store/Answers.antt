@@ -33,11 +33,11 @@ invariant_of-self g c =
       room = old.room;
     }
 
-pub invariant_of-self-in-Err-NoMemory : goal.invariant_of-self-in-Err-NoMemory
-invariant_of-self-in-Err-NoMemory g c =
+pub invariant_of-self-in-Err-BadGeometry : goal.invariant_of-self-in-Err-BadGeometry
+invariant_of-self-in-Err-BadGeometry g c =
     let old = c.args.self.now in
-    let done = c.in-Err-NoMemory.ensures in
-    let same : c.write.new.self ≡ old.packs = done.memory c.in-Err-NoMemory.field-0-is in
+    let done = c.in-Err-BadGeometry.ensures in
+    let same : c.write.new.self ≡ old.packs = done.unchanged c.in-Err-BadGeometry.field-0-is in
     record {
       size = done.same.long ∙ old.size;
       numbers = done.geometry ∙ old.numbers;

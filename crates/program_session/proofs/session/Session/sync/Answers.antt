@@ -8,13 +8,13 @@ use Rattle.program_session.proofs.session.Session.sync.Goals as goal
 
 pub returns : goal.returns
 returns g c =
-    let geometry = g.V.Numbers.GeometryName.geometry in
     let written = c.in_ok-stored.stored.taken.image in
-    let told = c.of.result in
-    subst (λ (f : Files). (x : Image) × IsLawful f.geometry x × (told.version ≡ x.version) × (told.total ≡ x.total) × (told.free ≡ free_count f.geometry x)) c.self.view_is (
-      record (image_view written.tables) { nodes = written.nodes.items },
+    let image : Image = record (image_view written.tables) { segments = written.rows.rows.segments; summaries = written.rows.rows.summaries; nodes = written.rows.rows.nodes } in
+    let tables = c.tables-tables.result.now in
+    subst (λ (f : Files). (x : Image) × IsLawful f.geometry x × (tables.version ≡ x.version) × (tables.total ≡ x.total) × (c.free.result ≡ free_count f.geometry x)) c.self.view_is (
+      image,
       c.in_ok-stored.ensures.lawful,
-      c.of.ensures.version ∙ ap (λ i. (image_view i).version) c.tables.ensures,
-      c.of.ensures.total ∙ ap (λ i. (image_view i).total) c.tables.ensures,
-      c.of.ensures.free ∙ ap (λ n. free_count n (image_view c.tables.result.now)) c.geometry.ensures ∙ ap (λ i. free_count geometry (image_view i)) c.tables.ensures,
+      ap (λ i. i.version) c.tables-tables.ensures,
+      ap (λ i. i.total) c.tables-tables.ensures,
+      c.free.ensures ∙ ap (λ n. free_count n image) c.in_ok-stored.ensures.geometry,
     )

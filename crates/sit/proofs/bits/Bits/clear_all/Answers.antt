@@ -1,6 +1,6 @@
 use Rattle.std.proofs.Common.{List, Bool, false, length, replicate, refl, sym, ap, ◌∙◌, arith}
 use Rattle.std.proofs.lemmas.List.{length-replicate}
-use Rattle.sit.specs.Bits.{bits_of}
+use Rattle.geometry.specs.Bits.{bits_of}
 use Rattle.sit.proofs.BitLemmas.{bits_of-written, length-bits_of, get_or-false}
 use Rattle.sit.proofs.bits.Bits.clear_all.Goals as goal
 

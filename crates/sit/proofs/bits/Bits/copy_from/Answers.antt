@@ -2,7 +2,8 @@
 -- are the other's.
 use Rattle.std.proofs.Common.{length, refl, sym, ap, subst, ◌∙◌, arith}
 use Rattle.std.proofs.lemmas.List.{get_or_read_under}
-use Rattle.sit.specs.Bits.{is_bit, bits_of, IsBits}
+use Rattle.geometry.specs.Bits.{is_bit, bits_of}
+use Rattle.sit.specs.Bits.{IsBits}
 use Rattle.sit.proofs.BitLemmas.{one_written, written-IsBits, bits_of-written, bit_of_word, bit_listed, length-bits_of, same_len}
 use Rattle.sit.proofs.bits.Bits.copy_from.Goals as goal
 

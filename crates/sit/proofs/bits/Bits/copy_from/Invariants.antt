@@ -1,5 +1,5 @@
 use Rattle.std.proofs.Common.{◌≡◌, length}
-use Rattle.sit.specs.Bits.{is_bit}
+use Rattle.geometry.specs.Bits.{is_bit}
 use Rattle.sit.proofs.BitLemmas.{AreWritten}
 use Rattle.sit.proofs.bits.Bits.copy_from.Given as goal
 

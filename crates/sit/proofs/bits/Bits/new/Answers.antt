@@ -1,5 +1,5 @@
 use Rattle.std.proofs.Common.{rules, ◌≡◌, replicate, ap, ◌∙◌}
-use Rattle.sit.specs.Bits.{bits_of}
+use Rattle.geometry.specs.Bits.{bits_of}
 use Rattle.sit.proofs.BitLemmas.{bits_of-clear}
 use Rattle.sit.proofs.bits.Bits.new.Goals as goal
 

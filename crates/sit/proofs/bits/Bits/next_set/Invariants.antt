@@ -1,5 +1,5 @@
 use Rattle.std.proofs.Common.{◌≡◌, ◌*◌, ◌<◌, ◌≤◌, ℕ, false}
-use Rattle.sit.specs.Bits.{is_bit}
+use Rattle.geometry.specs.Bits.{is_bit}
 use Rattle.sit.proofs.bits.Bits.next_set.Given as goal
 
 abbrev pub invariant-loop-index : goal.invariant-loop-index

@@ -2,7 +2,8 @@
 -- the list of places that are clear in both.
 use Rattle.std.proofs.Common.{List, Bool, length, refl, sym, ap, subst, ◌∙◌, arith}
 use Rattle.std.proofs.lemmas.List.{get_or_read_under}
-use Rattle.sit.specs.Bits.{bits_of, neither_of, IsBits}
+use Rattle.geometry.specs.Bits.{bits_of}
+use Rattle.sit.specs.Bits.{neither_of, IsBits}
 use Rattle.sit.proofs.BitLemmas.{clear_in, clear_past_end, one_written, written-IsBits, bits_of-written, clear_word, neither_written, length-neither_of, length-bits_of, same_len}
 use Rattle.sit.proofs.bits.Bits.set_neither.Goals as goal
 

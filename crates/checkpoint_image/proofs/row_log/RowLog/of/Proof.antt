@@ -1,4 +1,4 @@
--- A log has no bytes: `of` makes one from nothing, whose ghost nodes are those that are shown. Assumes `Logic`.
+-- A log has no bytes: `of` makes one from nothing, whose ghost rows are those that are shown. Assumes `Logic`.
 use Rattle.std.proofs.Common.{List, [], ◌∷◌, ◌++◌, refl}
 use seplogic.Ra.Ura.{Ura}
 use mir.Syntax.{Fn, Dict, Args, a_type, dcons, dnil}
@@ -28,12 +28,12 @@ use denote.Triple.Entry.{alive}
 use denote.Triple.Spec.{Meets, triple_of}
 use denote.Triple.Table.{entered}
 use denote.Triple.Walked.{says, Stays, stay_dropped, walk_of, ends_at, walk_Meets, Goes-dropped}
-use Rattle.checkpoint_image.specs.declared.node_log.ShowsNodes.{Ghosts}
-use Rattle.checkpoint_image.specs.contracts.node_log.NodeLog as Log
-use Rattle.checkpoint_image.specs.contracts.node_log.NodeLog.of as F
-use Rattle.checkpoint_image.specs.contracts.node_log.NodeLog.of.Key.{name as #self}
-use Rattle.checkpoint_image.proofs.node_log.NodeLog.of.Statement as stated
-use Rattle.checkpoint_image.proofs.node_log.NodeLog.of.Code as code
+use Rattle.checkpoint_image.specs.declared.row_log.ShowsRows.{Ghosts}
+use Rattle.checkpoint_image.specs.contracts.row_log.RowLog as Log
+use Rattle.checkpoint_image.specs.contracts.row_log.RowLog.of as F
+use Rattle.checkpoint_image.specs.contracts.row_log.RowLog.of.Key.{name as #self}
+use Rattle.checkpoint_image.proofs.row_log.RowLog.of.Statement as stated
+use Rattle.checkpoint_image.proofs.row_log.RowLog.of.Code as code
 
 module _ (A : RattleType) (N : Ghosts A.Denot) (D : Dict) where
   abbrev args : Args
@@ -65,7 +65,7 @@ module _ (A : RattleType) (N : Ghosts A.Denot) (D : Dict) where
       walks =
           let a = z.0.3 in
           let vss = z.0.4 in
-          let made : Log.the_row.Denot = record { items = N.nodes a.0.now } in
+          let made : Log.the_row.Denot = record { rows = N.rows a.0.now } in
           qed 𝓛 ((raw (alive 𝓛 ended.signature z.0.0 z.0.1) ⊛ ‵ (owns (types_at ended.signature.params z.0.0) a vss)) ∷ raw ((held z.0.0 a).requires z.1) ∷ []) ∵
           keep ! (0 ∷ []) $ split ! $ move ! (1 ∷ []) $
           fsplit ! $ fsplit ! $ feq_l ! (λ is₀. drop ! $ drop ! $
