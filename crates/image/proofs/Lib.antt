@@ -9,3 +9,4 @@ pub mod Testing
 pub mod Examples
 pub mod FaultExamples
 pub mod Emptiness
+pub mod FileBlocks

@@ -1,8 +1,9 @@
 -- An inode that is taken has a file, whose pass shows it as the image does, and one that isn't has none: so the passes
 -- so far show the image's files up to that number.
-use Rattle.std.proofs.Common.{◌≡◌, ℕ, suc, ◌+◌, ◌-◌, ◌<◌, ◌≤◌, Bool, true, false, if◌then◌else◌, List, [], ◌∷◌, ◌++◌, length, get_or, map, Option, Some, None, inl, inr, refl, sym, ap, subst, ◌∙◌, arith}
+use Rattle.std.proofs.Common.{append-nil, ◌≡◌, ℕ, suc, ◌+◌, ◌-◌, ◌<◌, ◌≤◌, Bool, true, false, if◌then◌else◌, List, [], ◌∷◌, ◌++◌, length, get_or, map, Option, Some, None, inl, inr, refl, sym, ap, subst, ◌∙◌, arith}
 use Rattle.std.specs.Prelude.{is_some, filter, MatchOption}
 use Rattle.std.proofs.lemmas.List.{map-append, get_or-map}
+use Rattle.std.specs.Option.{option_to_list}
 use Rattle.geometry.specs.Weights.{weigh}
 use Rattle.atomic_table.specs.Seated.{TableId}
 use Rattle.geometry.specs.declared.geometry.Geometry.{Geometry}
@@ -84,6 +85,12 @@ module _ (geometry : Geometry) (image : Image) (bytes : ℕ → Block) where
       ∙ sym (map-append named_file (filter (is_taken image) (up_to n)) (suc n ∷ []))
       ∙ sym (ap (map named_file) (kept_last (is_taken image) (up_to n) (suc n) (subst (λ k. is_taken image k ≡ true) next taken)))
       ∙ ap files_to (sym next)
+
+  pub passes_kept : (n m : ℕ) (passes : List Pass) (pass : Option Pass) → map shown passes ≡ files_to n → m ≡ suc n
+      → MatchOption pass (is_taken image m ≡ false) (λ (p : Pass). (is_taken image m ≡ true) × (p ≡ record { number = m; file = image_file geometry.shape image bytes m }))
+      → map shown (passes ++ option_to_list pass) ≡ files_to m
+  passes_kept n m passes None are next free = ap (map shown) (append-nil passes) ∙ passes_none n m passes are next free
+  passes_kept n m passes (Some pass) are next found = passes_some n m passes pass are next found.0 found.1
 
 -- ---- one file
 

@@ -1,5 +1,6 @@
 //! What was loaded of the files comes into their locks.
-ghost use Rattle.std.specs.Prelude.{◌≡◌, ◌+◌, ◌<◌, ◌≤◌, ℕ, List, None, Some, true, false, map, vec_len, MatchOption};
+ghost use Rattle.std.specs.Prelude.{◌≡◌, ◌+◌, ◌<◌, ◌≤◌, ◌++◌, ℕ, List, None, Some, true, false, map, vec_capacity, vec_len, MatchOption};
+ghost use Rattle.std.specs.Option.{option_to_list};
 ghost use Rattle.rights_books.specs.Accounts.{FileView};
 ghost use Rattle.mount_files.specs.Files.{AreFiles, StandsFor};
 ghost use Rattle.mount_trees.specs.FileLoaded.{IsLoadedFile};
@@ -66,13 +67,23 @@ pub(crate) fn lock_loaded_files<V: VolumeName, B: Block + Drop>(
         let found = rest[number as usize].take();
         let (cell, pass) = own_file(books, geometry, image, stock, number, account, found);
         cells.push_reserved(Mutex::new(cell));
-        match pass {
-            Some(pass) => passes.push_reserved(pass),
-            None => {}
-        }
+        keep_pass(&mut passes, pass);
     }
     free_table(rest);
     (cells, passes)
+}
+
+// Adds a pass where there is one, in room that was made for it.
+fn keep_pass<V: VolumeName>(passes: &mut Vec<FilePass<V>>, pass: Option<FilePass<V>>)
+    requires { vec_len passes.old < vec_capacity passes.old }
+    ensures items { passes.new.items ≡ passes.old.items ++ option_to_list pass }
+    ensures length { vec_len passes.new ≤ vec_len passes.old + 1 }
+    ensures capacity { vec_capacity passes.new ≡ vec_capacity passes.old }
+{
+    match pass {
+        Some(pass) => passes.push_reserved(pass),
+        None => {}
+    }
 }
 
 // What lies in the lock of an inode's file, and its pass, where there is a file.

@@ -28,10 +28,9 @@ fn digit(byte: u8) -> Option<u64>
     ensures some { IfSome result (λ n. IsAsciiDigit byte × (n ≡ byte - 48)) }
     ensures none { IfNone result (¬ IsAsciiDigit byte) }
 {
-    if byte.is_ascii_digit() {
-        Some(u64::from(byte - b'0'))
-    } else {
-        None
+    match byte {
+        b'0'..=b'9' => Some(u64::from(byte - b'0')),
+        _ => None,
     }
 }
 
@@ -61,11 +60,9 @@ fn hex_digit(byte: u8) -> Option<u8>
     ensures some { IfSome result (λ n. (n < 16) × (byte ≡ hex_digit n)) }
     ensures none { IfNone result ((n : ℕ) → n < 16 → byte ≢ hex_digit n) }
 {
-    if byte.is_ascii_digit() {
-        Some(byte - b'0')
-    } else if byte.is_ascii_lowercase() && byte <= b'f' {
-        Some(byte - b'a' + 10)
-    } else {
-        None
+    match byte {
+        b'0'..=b'9' => Some(byte - b'0'),
+        b'a'..=b'f' => Some(byte - b'a' + 10),
+        _ => None,
     }
 }

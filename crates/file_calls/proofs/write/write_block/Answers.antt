@@ -1,3 +1,4 @@
+-- The write begins with no spares, so what it serves is the file alone, and all spares that it leaves go back.
 use Rattle.std.proofs.Common.{ap, sym, ◌∙◌}
 use Rattle.geometry.specs.Path.{node_entries}
 use Rattle.geometry.specs.Shape.{block_bytes}

@@ -1,7 +1,6 @@
 -- The account, the place in the table and the number of locks made go up together, so each file meets its own account;
 -- taken files leave an empty table, and passes show the image's files.
 use Rattle.std.proofs.Common.{◌≡◌, ℕ, suc, ◌+◌, ◌<◌, ◌≤◌, List, [], ◌∷◌, Some, None, length, get_or, map, vec_len, refl, sym, ap, subst, ◌∙◌, arith, rules}
-use Rattle.std.specs.Prelude.{MatchOption, false, true}
 use Rattle.std.proofs.lemmas.List.{get_or_default, length-set}
 use Rattle.std.specs.Vec.Iter.{into_iter_items}
 use Rattle.rights_claims.specs.Rules.{Ruled}
@@ -9,14 +8,11 @@ use Rattle.rights_books.specs.declared.claim.Layout.{Layout}
 use Rattle.rights_books.specs.Accounts.{FileView}
 use Rattle.geometry.specs.declared.geometry.Geometry.{Geometry}
 use Rattle.image.specs.View.{image_view}
-use Rattle.image.specs.Walk.{is_taken}
-use Rattle.image.specs.Files.{file_of as image_file}
 use Rattle.mount_files.specs.Files.{StandsFor, HasFile}
 use Rattle.mount_trees.specs.FileLoaded.{IsLoadedFile}
-use Rattle.file_cells.specs.Pass.{Pass}
 use Rattle.mount.specs.Lodged.{HasLodged}
 use Rattle.mount.proofs.Rest.{EachFrom, begin_from, first_of, rest_of, later_kept, gone_kept, all_gone, first_none}
-use Rattle.mount.proofs.Passes.{shown, files_to, passes_none, passes_some, lodged_by}
+use Rattle.mount.proofs.Passes.{shown, files_to, passes_kept, lodged_by}
 use Rattle.mount.proofs.files.lock_loaded_files.Goals as goal
 
 pub own_file-cell-requires-clause-account : goal.own_file-cell-requires-clause-account
@@ -78,44 +74,6 @@ accounts-init g c =
       λ bytes goods. (ap (map shown) passes ∙ sym (ap (files_to c.args.geometry.now (image_view c.args.image.now) bytes) none)),
     )
 
-pub accounts-preserved-in-Some-pass : goal.accounts-preserved-in-Some-pass
-accounts-preserved-in-Some-pass g c =
-    let at = c.accounts in
-    let i = at.invariant in
-    let geometry = c.args.geometry.now in
-    let image = image_view c.args.image.now in
-    let all = c.args.stock.now.all in
-    let book = c.args.books.now.book in
-    let P : ℕ → FileView → Type 0 = λ k account. HasLodged book image all (k + 1) account in
-    let steps = c.in-Some.ensures.steps in
-    let short = ap (λ l. length l) steps.0 in
-    let gone = steps.1 in
-    let count = c.len.ensures in
-    let more = c.push_reserved.ensures.len in
-    let room = c.push_reserved.ensures.capacity in
-    let pass_more = c.push_reserved-in-Some-pass.ensures.len in
-    let pass_room = c.push_reserved-in-Some-pass.ensures.capacity in
-    let sum = i.0 in
-    let places = i.3 in
-    let next : vec_len c.push_reserved.new.self ≡ c.len.result + 1 = omega arith in
-    let later = later_kept at.rest.items c.args.files.items c.len.result c.take-found.new.self c.take-found.ensures.after (omega arith) (λ k high. i.4 k (omega arith)) (λ k low. i.5 k (omega arith)) in
-    let nothing = gone_kept at.rest.items c.args.files.items c.len.result c.take-found.new.self c.take-found.ensures.after (omega arith) (λ k high. i.4 k (omega arith)) (λ k low. i.5 k (omega arith)) in (
-      omega arith,
-      omega arith,
-      subst (λ m. EachFrom P m (into_iter_items c.next.new.self)) (sym more) (rest_of P (vec_len at.cells) (into_iter_items at.account-iterator) (into_iter_items c.next.new.self) c.in-Some.account steps.0 i.2),
-      length-set at.rest.items (c.len.result + 1) c.take-found.new.self ∙ places,
-      λ k high. later k (omega arith),
-      λ k low. nothing k (omega arith),
-      omega (arith, i.6),
-      omega (arith, i.7),
-      omega (arith, i.8),
-      λ bytes goods.
-          (let found = subst (λ o. MatchOption o (is_taken image (c.len.result + 1) ≡ false) (λ (pass : Pass). (is_taken image (c.len.result + 1) ≡ true) × (pass ≡ record { number = c.len.result + 1; file = image_file geometry.shape image bytes (c.len.result + 1) }))) c.in-Some-pass.is (c.own_file-cell.ensures.pass bytes goods) in
-          let so_far = i.9 bytes goods in
-          let one : c.len.result + 1 ≡ suc (vec_len at.cells) = omega arith in
-          rw (c.push_reserved-in-Some-pass.ensures.items, next) (passes_some geometry image bytes (vec_len at.cells) (c.len.result + 1) at.passes.items c.in-Some-pass.pass so_far one found.0 found.1)),
-    )
-
 pub accounts-preserved : goal.accounts-preserved
 accounts-preserved g c =
     let at = c.accounts in
@@ -143,13 +101,11 @@ accounts-preserved g c =
       λ k high. later k (omega arith),
       λ k low. nothing k (omega arith),
       omega (arith, i.6),
-      i.7,
-      omega (arith, i.8),
+      omega (arith, i.7, c.keep_pass.ensures.capacity),
+      omega (arith, i.8, c.keep_pass.ensures.length),
       λ bytes goods.
-          (let free = subst (λ o. MatchOption o (is_taken image (c.len.result + 1) ≡ false) (λ (pass : Pass). (is_taken image (c.len.result + 1) ≡ true) × (pass ≡ record { number = c.len.result + 1; file = image_file geometry.shape image bytes (c.len.result + 1) }))) c.in-None-pass.is (c.own_file-cell.ensures.pass bytes goods) in
-          let so_far = i.9 bytes goods in
-          let one : c.len.result + 1 ≡ suc (vec_len at.cells) = omega arith in
-          rw next (passes_none geometry image bytes (vec_len at.cells) (c.len.result + 1) at.passes.items so_far one free)),
+          (let one : c.len.result + 1 ≡ suc (vec_len at.cells) = omega arith in
+          rw (c.keep_pass.ensures.items, next) (passes_kept geometry image bytes (vec_len at.cells) (c.len.result + 1) at.passes.items c.own_file-cell.result.1 (i.9 bytes goods) one (c.own_file-cell.ensures.pass bytes goods))),
     )
 
 pub free_table-requires : goal.free_table-requires

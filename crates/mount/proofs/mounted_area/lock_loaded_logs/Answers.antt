@@ -1,3 +1,4 @@
+-- Each log gets the slip that stands at its place, and takes one part of the account with it; the slips that are left stand as before.
 use Rattle.std.proofs.Common.{suc, length, refl, ap, subst, ◌∙◌, arith, rules}
 use Rattle.pool.specs.declared.law.Account.{Account}
 use Rattle.mount.specs.Logs.{EachStands}
