@@ -1,6 +1,8 @@
 -- Items are gone through one after the other: what is to come stands behind what came, and when nothing is left that is all. So a list
 -- is filtered, works are given passes, and the passes of works that have ended are put together.
-use Rattle.std.proofs.Common.{◌≡◌, ◌∙◌, ℕ, Bool, true, false, List, [], ◌∷◌, ◌++◌, append-nil, append_assoc, ap, cond, filter, refl, subst, sym}
+use Rattle.std.proofs.Common.{◌≡◌, ◌∙◌, ◌<◌, ℕ, All, Bool, true, false, List, [], ◌∷◌, ◌++◌, append-nil, append_assoc, ap, cond, filter, map, refl, subst, sym, Result, Ok}
+use Rattle.std.proofs.Math.ListN.{get_or-map}
+use Rattle.std.proofs.lemmas.List.{length-map}
 use Rattle.std.specs.List.{AllZip, flat_map}
 use Rattle.file_cells.specs.Pass.{Pass}
 use Rattle.flash_volume.specs.Beside.{AreDealt, passes_named, passes_unnamed}
@@ -51,3 +53,51 @@ module _ {X Y : Type 0} (f : X → List Y) where
       → whole ≡ now ++ flat_map f new
   flat_more whole front now others new x next is so_far =
       so_far ∙ ap (λ (xs : List X). front ++ flat_map f xs) next ∙ sym (append_assoc front (f x) (flat_map f new)) ∙ ap (λ (ys : List Y). ys ++ flat_map f new) (sym is)
+
+module _ {J D A P E : Type 0} (R : J → A → Type 0) (S : P → E → Type 0) (duty_of : J → D) (lot_of : D → P) (end_of : A → E)
+    (same : (job : J) (answer : A) → R job answer → S (lot_of (duty_of job)) (end_of answer)) where
+  ended : (jobs : List J) (answers : List A) → AllZip R jobs answers → AllZip S (map lot_of (map duty_of jobs)) (map end_of answers)
+  ended [] [] zip = tt
+  ended [] (answer ∷ answers) zip = absurd zip
+  ended (job ∷ jobs) [] zip = absurd zip
+  ended (job ∷ jobs) (answer ∷ answers) zip = (same job answer zip.0, ended jobs answers zip.1)
+
+  -- the duties ended so, where each was sent on an errand
+  pub duties_ended : (duties : List D) (jobs : List J) (answers : List A) → map duty_of jobs ≡ duties → AllZip R jobs answers → AllZip S (map lot_of duties) (map end_of answers)
+  duties_ended duties jobs answers sent zip = subst (λ (ds : List D). AllZip S (map lot_of ds) (map end_of answers)) sent (ended jobs answers zip)
+
+module _ {X Y : Type 0} (P : Y → Type 0) (f : X → Y) where
+  -- what holds of all images holds of what they are images of
+  pub all_mapped : (xs : List X) → All P (map f xs) → All (λ x. P (f x)) xs
+  all_mapped xs all k other within = subst P (get_or-map f xs k other) (all k (f other) (subst (λ n. k < n) (sym (length-map xs f)) within))
+
+module _ {X Y : Type 0} (f : Y → X) where
+  -- all were sent, since none is left
+  pub sent_all : (all others : List X) (sent : List Y) → others ≡ [] → all ≡ map f sent ++ others → map f sent ≡ all
+  sent_all all others sent none so_far = sym (so_far ∙ ap (λ (xs : List X). map f sent ++ xs) none ∙ append-nil (map f sent))
+
+module _ {X Y Z : Type 0} (R : X → Z → Type 0) (f : Y → X) where
+  -- the same of what is zipped
+  pub zip_unmapped : (ys : List Y) (zs : List Z) → AllZip R (map f ys) zs → AllZip (λ y z. R (f y) z) ys zs
+  zip_unmapped [] [] zip = tt
+  zip_unmapped [] (z ∷ zs) zip = absurd zip
+  zip_unmapped (y ∷ ys) [] zip = absurd zip
+  zip_unmapped (y ∷ ys) (z ∷ zs) zip = (zip.0, zip_unmapped ys zs zip.1)
+
+  pub zip_mapped : (ys : List Y) (zs : List Z) → AllZip (λ y z. R (f y) z) ys zs → AllZip R (map f ys) zs
+  zip_mapped [] [] zip = tt
+  zip_mapped [] (z ∷ zs) zip = absurd zip
+  zip_mapped (y ∷ ys) [] zip = absurd zip
+  zip_mapped (y ∷ ys) (z ∷ zs) zip = (zip.0, zip_mapped ys zs zip.1)
+
+pub flat_mapped : {X Y Z : Type 0} (f : X → Y) (g : Y → List Z) (xs : List X) → flat_map g (map f xs) ≡ flat_map (λ x. g (f x)) xs
+flat_mapped f g [] = refl
+flat_mapped f g (x ∷ xs) = ap (λ zs. g (f x) ++ zs) (flat_mapped f g xs)
+
+module _ {E L O F : Type 0} (end_of : E → L) (what_of : L → Result O F) (back_of : L → List Pass) where
+  -- what was taken back of all that ended
+  pub taken_back : (ended : List E) (outputs : List O) (held after : List Pass) → AllZip (λ end output. what_of (end_of end) ≡ Ok output) ended outputs
+      → after ≡ held ++ flat_map (λ end. back_of (end_of end)) ended
+      → AllZip (λ end output. what_of end ≡ Ok output) (map end_of ended) outputs × (after ≡ held ++ flat_map back_of (map end_of ended))
+  taken_back ended outputs held after told joined =
+      (zip_mapped (λ end output. what_of end ≡ Ok output) end_of ended outputs told, joined ∙ ap (λ (ps : List Pass). held ++ ps) (sym (flat_mapped end_of back_of ended)))

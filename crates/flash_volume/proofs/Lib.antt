@@ -1,3 +1,4 @@
+pub mod Crewed
 pub mod Dealing
 pub mod Following
 pub mod Results

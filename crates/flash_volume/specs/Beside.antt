@@ -1,8 +1,13 @@
 -- Works that were done side by side, each with the passes of files of its own.
-use Rattle.std.specs.Prelude.{◌≡◌, ℕ, ◌==◌, not, Bool, List, [], ◌∷◌, ◌++◌, map, filter}
+use Rattle.std.specs.Prelude.{◌≡◌, ℕ, ◌==◌, not, Bool, List, [], ◌∷◌, ◌++◌, map, filter, Result, Ok}
 use Rattle.std.specs.List.{AllZip, flat_map, list_any}
 use Rattle.file_cells.specs.Pass.{Pass}
+use Rattle.flash_volume.specs.Turns.{Held, Lot}
 use Rattle.flash_volume.specs.declared.beside.Beside.{Beside}
+use Rattle.flash_volume.specs.declared.leave.Leave.{Leave}
+use Rattle.flash_volume.specs.declared.works.Works.{Works}
+use Rattle.flash_volume.specs.declared.works.Works.TheVariants.{Fresh, Dealt}
+use Rattle.geometry.specs.declared.error.Error.{Error}
 use Rattle.geometry.specs.declared.geometry.Geometry.{Geometry}
 
 -- whether the number is one of these
@@ -40,3 +45,10 @@ module _ {W O : Type 0} (post : W → Geometry → List Pass → O → List Pass
     pub kept : AllZip (λ beside share. post beside.work geometry share.given share.output share.back) works shares
     pub answered : outputs ≡ map (λ share. share.output) shares
     pub joined : after ≡ rest ++ flat_map (λ share. share.back) shares
+
+module _ {W O : Type 0} (post : W → Geometry → List Pass → O → List Pass → Type 0) where
+  -- what works do that were not begun, and what is left to do for those that were done
+  abbrev pub WorksDid : Works W → Geometry → Held → List (Lot (Result O Error)) → List O → Leave → List Pass → Type 0
+  WorksDid (Fresh works leave) geometry held ended outputs left after = (left ≡ leave) × AreDoneBeside post geometry works.items held.passes outputs after
+  WorksDid (Dealt leave) geometry held ended outputs left after =
+      (left ≡ leave) × AllZip (λ end output. end.what ≡ Ok output) ended outputs × (after ≡ held.passes ++ flat_map (λ end. end.held.passes) ended)

@@ -1,3 +1,4 @@
 pub mod Beside
+pub mod Turns
 pub mod Visited
 pub mod Worked

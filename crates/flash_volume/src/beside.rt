@@ -3,7 +3,11 @@ ghost use Rattle.std.specs.Prelude.{◌≡◌, [], map, IfOk, OnOk};
 ghost use Rattle.file_cells.specs.Pass.{Pass};
 ghost use Rattle.flash_volume.specs.Beside.{AreDealt, is_named, passes_named, passes_unnamed};
 
+use crate::crew::Duty;
+use crate::lent::Lent;
 use crate::rights::Rights;
+use crate::works::OneBeside;
+use device::Block;
 use file_cells::FilePass;
 use file_readers::Seat;
 use geometry::Error;
@@ -32,21 +36,14 @@ impl<W> Beside<W> {
     }
 }
 
-// A work, and the rights that it is given.
-#[derive(Drop)]
-pub(crate) struct Duty<V: VolumeName, W> {
-    pub(crate) work: W,
-    pub(crate) rights: Rights<V>,
-}
-
 // Gives each work its share of the rights, one after the other: the passes of its files, and as many seats as any other.
-pub(crate) fn deal<V: VolumeName, W: Drop>(
+pub(crate) fn deal<'v, V: VolumeName, B: Block + Drop, W: Drop>(
     alloc: Global,
     rights: &mut Rights<V>,
     works: Vec<Beside<W>>,
-) -> Result<Vec<Duty<V, W>>, Error>
-    ensures works { IfOk result (λ duties. map (λ duty. duty.work) duties.items ≡ map (λ beside. beside.work) works.items) }
-    ensures passes { IfOk result (λ duties. AreDealt (map (λ beside. beside.files.items) works.items) rights.old.passes.items (map (λ duty. duty.rights.passes.items) duties.items) rights.new.passes.items) }
+) -> Result<Vec<Duty<'v, V, B, OneBeside<W>>>, Error>
+    ensures works { IfOk result (λ duties. map (λ duty. duty.part.work) duties.items ≡ map (λ beside. beside.work) works.items) }
+    ensures passes { IfOk result (λ duties. AreDealt (map (λ beside. beside.files.items) works.items) rights.old.passes.items (map (λ duty. duty.lent.passes) duties.items) rights.new.passes.items) }
 {
     let each = match works.len() {
         0 => 0,
@@ -57,8 +54,9 @@ pub(crate) fn deal<V: VolumeName, W: Drop>(
         let Beside { work, files } = beside;
         let passes = take_passes(alloc, &mut rights.passes, files.as_slice())?;
         let seats = take_seats(alloc, &mut rights.seats, each)?;
-        let rights = Rights { seats, passes };
-        duties.push(Duty { work, rights })?;
+        let part = OneBeside { work };
+        let lent = Lent::new(Rights { seats, passes }, Vec::new(alloc));
+        duties.push(Duty { part, lent })?;
     }
     Ok(duties)
 }

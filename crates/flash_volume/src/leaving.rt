@@ -1,16 +1,15 @@
 //! A volume is worked on, and left.
-ghost use Rattle.std.specs.Prelude.{◌≡◌, IfOk, IfErr};
-ghost use Rattle.flash_volume.specs.Beside.{AreDoneBeside};
+ghost use Rattle.std.specs.Prelude.{◌≡◌, [], IfOk, IfErr};
+ghost use Rattle.flash_volume.specs.Turns.{WasCrewed};
 ghost use Rattle.flash_volume.specs.Worked.{AreClosed, AreGivenUp, AreLeft, IsNotClosed, WasWorked};
 ghost use Rattle.flash_volume.specs.declared.leave.Stage.TheVariants.{Close as AtClose};
 
-use crate::beside::Beside;
 use crate::block::SharedBlock;
+use crate::crew::{Crew, Part};
 use crate::leave::{Done, Fault, Leave, Stage};
 use crate::rights::Rights;
-use crate::threads::work_on_threads;
+use crate::turns::take_turns;
 use crate::visit::Visit;
-use crate::work::Work;
 use device::{Block, Meta, Parts};
 use rights_names::VolumeName;
 use std::alloc::Global;
@@ -43,28 +42,28 @@ pub(crate) fn visit_and_leave<V: VolumeName, M: Meta, B: Block + Drop, R: Wait, 
     }
 }
 
-// Does works on a volume side by side, and leaves it. Where one is refused, nothing more is written.
-pub(crate) fn work_side_by_side_and_leave<
+// Has the turns of a crew on a volume, and leaves it. Where one is refused, nothing more is written.
+pub(crate) fn take_turns_and_leave<
     V: SharedName,
     M: Meta + Send,
     B: SharedBlock,
     R: Threads + Wait + Sync,
-    W: Work<M, B> + Drop + Send,
+    X: Crew<M, B> + Drop,
 >(
     rt: &R,
     alloc: Global,
     volume: Volume<V, M, B>,
     rights: Rights<V>,
-    leave: Leave,
-    works: Vec<Beside<W>>,
-) -> Result<Done<M, B, Vec<W::Output>>, Fault<M, B>>
+    crew: X,
+) -> Result<Done<M, B, X::Output>, Fault<M, B>>
 where
-    W::Output: Send,
-    ensures { WasWorked M.seen M.may_leave B.address_of B.content_of (λ outputs after. AreDoneBeside W.post V.Numbers.geometry works.items rights.passes.items outputs.items after) leave V.Numbers.geometry result }
+    X::Part: Send + Drop,
+    <X::Part as Part<M, B>>::Done: Send,
+    requires { X.fits crew V.Numbers.geometry (record { passes = rights.passes.items; readers = [] }) [] }
+    ensures { WasCrewed M.seen M.may_leave B.address_of B.content_of (X.did crew V.Numbers.geometry volume.base (record { passes = rights.passes.items; readers = [] }) []) V.Numbers.geometry result }
 {
-    let mut rights = rights;
-    match work_on_threads(rt, alloc, &volume, &mut rights, works) {
-        Ok(output) => match leave_volume(rt, volume, rights, leave) {
+    match take_turns(rt, alloc, &volume, rights, crew) {
+        Ok((rights, output, leave)) => match leave_volume(rt, volume, rights, leave) {
             Ok(parts) => Ok(Done { parts, output }),
             Err(fault) => Err(fault),
         },

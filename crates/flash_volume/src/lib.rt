@@ -7,23 +7,29 @@
 
 mod beside;
 mod block;
+mod crew;
+mod crew_ladder;
 mod fault;
 mod ladder;
 mod law;
 mod leave;
 mod leaving;
+mod lent;
 mod new;
 mod one_work;
 mod rights;
 mod side_by_side;
-mod threads;
+mod turns;
 mod visit;
 mod work;
+mod works;
 
 pub use beside::Beside;
 pub use block::SharedBlock;
 pub use checkpoint::Stored;
 pub use cleaning::{Cleaned, Policy};
+pub use crew::{Crew, Duty, Ended, Part, Turn};
+pub use crew_ladder::visit_by_turns;
 pub use device::{Block, DeviceError, MemBlock, MemDevice, MemMeta, Meta, Parts};
 pub use file_cells::FilePass;
 pub use file_readers::{Reader, Seat, Status};
@@ -31,6 +37,7 @@ pub use geometry::{Error, Geometry, Kind, Shape};
 pub use ladder::visit_volume;
 pub use law::work_law;
 pub use leave::{Done, Fault, Leave, Stage};
+pub use lent::Lent;
 pub use mount_reading::OpenFault;
 pub use new::{work_on_new, work_side_by_side_on_new};
 pub use one_work::work_on;

@@ -27,7 +27,7 @@ use Rattle.program_run.specs.Run.{IsHalted, IsRemounted, StepWrites, StepsWrite,
 use Rattle.mount_reading.specs.Held.{HoldsImage}
 use Rattle.image_codec.specs.Blocks.{bytes_at}
 use Rattle.device.specs.declared.parts.Parts.{Parts}
-use Rattle.program_run.specs.declared.leaving.Left.{Left}
+use Rattle.program_run.specs.declared.remounting.Left.{Left}
 use Rattle.program_run.specs.declared.steps.Carried.{Carried}
 use Rattle.program_run.specs.declared.steps.Opening.{Opening}
 use Rattle.program_run.proofs.Runs.{more, one_more}
@@ -68,7 +68,7 @@ split_at [] k x is = absurd (let no = is in cc)
 split_at (y ∷ ys) zero x is = ap (λ z. z ∷ ys) (sym (let same = is in cc))
 split_at (y ∷ ys) (suc k) x is = ap (λ zs. y ∷ zs) (split_at ys k x is)
 
-get_low : {A : Type 0} (xs : List A) (k : ℕ) (x : A) → slice_get xs k ≡ Some x → k < length xs
+pub get_low : {A : Type 0} (xs : List A) (k : ℕ) (x : A) → slice_get xs k ≡ Some x → k < length xs
 get_low [] k x is = absurd (let no = is in cc)
 get_low (y ∷ ys) zero x is = omega arith
 get_low (y ∷ ys) (suc k) x is = omega (arith, get_low ys k x is)

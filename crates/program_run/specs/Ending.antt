@@ -19,7 +19,7 @@ use Rattle.program_session.specs.Lines.{image_lines, unsynced_line}
 use Rattle.program_run.specs.Run.{RanSome, WroteSteps, format_line, mounted_of}
 use Rattle.mount_reading.specs.Held.{HoldsImage}
 use Rattle.packs_format.specs.Grammar.{HasSuper}
-use Rattle.program_run.specs.declared.leaving.Left.{Left}
+use Rattle.program_run.specs.declared.remounting.Left.{Left}
 use Rattle.program_run.specs.declared.steps.Carried.{Carried}
 use Rattle.program_run.specs.declared.steps.Opening.{Opening}
 

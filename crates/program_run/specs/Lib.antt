@@ -2,3 +2,4 @@ pub mod Checking
 pub mod Run
 pub mod Ending
 pub mod Reading
+pub mod Crew

@@ -107,6 +107,16 @@ IsHalted steps run readers =
     (run ≡ length steps)
     ⊎ ((step : Step) × (slice_get steps run ≡ Some step) × (is_remount step ≡ true) × (open_count readers ≡ 0))
 
+-- whether a step is a part of workers
+abbrev pub is_part : Step → Bool
+is_part (CommandStep line command) = false
+is_part (Part line workers) = true
+
+-- so many of the steps were run: all, or the next one is a part, or it mounts the volume again, and no reader is open
+abbrev pub IsPaused : List Step → ℕ → List (Option SnapshotOf) → Type 0
+IsPaused steps run readers =
+    IsHalted steps run readers ⊎ ((step : Step) × (slice_get steps run ≡ Some step) × (is_part step ≡ true))
+
 -- how the first volume of a script comes to be
 abbrev pub first_opening : Opening
 first_opening = record { mounted = None; carried = record { formatted = true; time = 0; readers = 0 } }

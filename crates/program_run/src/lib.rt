@@ -2,9 +2,9 @@
 #![tactic(auto)]
 
 mod check;
+mod crew;
 mod disk;
 mod files;
-mod leaving;
 mod reading;
 mod remounting;
 mod run;

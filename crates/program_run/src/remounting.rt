@@ -1,31 +1,29 @@
-//! How a script comes to its volume again: the device is mounted, by a function for each step, so that names are picked between
-//! them.
-ghost use Rattle.std.specs.Prelude.{◌≡◌, ℕ, false, map, IfErr, IfOk};
+//! How a script comes to its volume again: the device is mounted, the steps are run, and the volume is left.
+ghost use Rattle.std.specs.Prelude.{◌≡◌, ℕ, false, IfErr, IfOk};
 ghost use Rattle.device.specs.Parts.{IsBlockRun};
-ghost use Rattle.geometry.specs.File.{Block};
-ghost use Rattle.image.specs.Files.{files as files_of};
-ghost use Rattle.image.specs.Image.{Image};
-ghost use Rattle.image_codec.specs.Blocks.{bytes_at};
-ghost use Rattle.program_session.specs.Files.{AreInOrder};
-ghost use Rattle.program_run.specs.Ending.{WentOn, WentOnWith};
+ghost use Rattle.program_run.specs.Ending.{WentOn};
 ghost use Rattle.program_run.specs.Run.{names_line};
-ghost use Rattle.volume.specs.Picked.{HaveNames};
 
-use crate::leaving::{Left, run_volume};
+use crate::crew::{Halt, Ran, Script};
 use crate::setting::Setting;
 use crate::steps::Carried;
 use crate::stop::Stop;
-use device::{Meta, Parts};
-use file_cells::FilePass;
-use mount::{Mounted, MountedQueues, mount};
+use device::{Block, Meta, Parts};
+use flash_volume::{Done, SharedBlock, visit_by_turns};
 use program_script::Step;
-use program_workers::{Gate, SharedBlock};
-use rights_names::{BooksOf, NumbersOf, PoolName, TablesName, TurnName, VolumeName, WordsOf};
+use program_workers::Gate;
 use std::alloc::Global;
 use std::io::Write;
-use std::marker::Brand;
 use std::sync::Wait;
 use std::thread::Threads;
+
+/// A device whose volume was left: how many steps were run, and what the script carries on. All were run, or the next one
+/// mounts the device again.
+pub struct Left<M: Meta, B: Block> {
+    pub parts: Parts<M, B>,
+    pub run: usize,
+    pub carried: Carried,
+}
 
 /// Mounts the parts of a device, runs the steps on its volume, and leaves it.
 pub fn run_mounted<
@@ -47,82 +45,35 @@ pub fn run_mounted<
     ensures done { IfOk result (λ left. WentOn M.seen B.address_of B.content_of parts steps.now carried left (O.contents out.old) (O.contents out.new)) }
     ensures err { IfErr result (λ stop. names_line stop ≡ false) }
 {
-    match mount(alloc, parts) {
-        Ok(mounted) => on_mounted::<Brand, M, B, R, G, O>(
-            rt, alloc, mounted, carried, steps, setting, out,
-        ),
+    let script = Script {
+        steps,
+        begun: None,
+        carried,
+        setting,
+        out: &mut *out,
+    };
+    seen_law::<M>();
+    match visit_by_turns(rt, alloc, parts, script) {
+        Ok(left) => match left {
+            Ok(done) => {
+                let Done { parts, output } = done;
+                let Ran { out: writer, halt } = output;
+                // No effect at run time. The proof reads what `out` holds from this use of `writer`.
+                let _ = &*writer;
+                let Halt { run, carried } = halt?;
+                Ok(Left {
+                    parts,
+                    run,
+                    carried,
+                })
+            }
+            Err(fault) => Err(Stop::Refused(fault.error)),
+        },
         Err(fault) => Err(Stop::Refused(fault.error)),
     }
 }
 
-fn on_mounted<
-    K: TablesName + Send + Sync,
-    M: Meta + Drop + Send,
-    B: SharedBlock,
-    R: Threads + Wait + Sync,
-    G: Gate + Sync,
-    O: Write,
->(
-    rt: &R,
-    alloc: Global,
-    mounted: Mounted<M, B>,
-    carried: Carried,
-    steps: &[Step],
-    setting: &Setting<'_, G>,
-    out: &mut O,
-) -> Result<Left<M, B>, Stop>
-    requires books { mounted.books ≡ K.books }
-    requires words { mounted.words ≡ K.words }
-    requires geometry { mounted.geometry ≡ K.geometry }
-    ensures done { IfOk result (λ left. WentOnWith M.seen B.address_of B.content_of mounted.geometry mounted.image (bytes_at B.content_of mounted.parts.blocks.items) steps.now carried left (O.contents out.old) (O.contents out.new)) }
-    ensures err { IfErr result (λ stop. names_line stop ≡ false) }
-{
-    match mounted.name::<BooksOf<K>, WordsOf<K>, NumbersOf<K>>() {
-        Ok(opened) => on_opened::<K, Brand, Brand, M, B, R, G, O>(
-            rt, alloc, opened, carried, steps, setting, out,
-        ),
-        Err(fault) => Err(Stop::Refused(fault.error)),
-    }
-}
-
-fn on_opened<
-    K: TablesName + Send + Sync,
-    P: PoolName + Send + Sync,
-    T: TurnName + Send + Sync,
-    M: Meta + Drop + Send,
-    B: SharedBlock,
-    R: Threads + Wait + Sync,
-    G: Gate + Sync,
-    O: Write,
->(
-    rt: &R,
-    alloc: Global,
-    opened: MountedQueues<BooksOf<K>, WordsOf<K>, NumbersOf<K>, M, B>,
-    carried: Carried,
-    steps: &[Step],
-    setting: &Setting<'_, G>,
-    out: &mut O,
-) -> Result<Left<M, B>, Stop>
-    requires named { HaveNames opened.queues opened.channel P.ordinary P.reserve T.turns T.key }
-    ensures done { IfOk result (λ left. WentOnWith M.seen B.address_of B.content_of opened.named.mounted.geometry opened.named.mounted.image (bytes_at B.content_of opened.named.mounted.parts.blocks.items) steps.now carried left (O.contents out.old) (O.contents out.new)) }
-    ensures err { IfErr result (λ stop. names_line stop ≡ false) }
-{
-    match opened.name::<P, T, R>(rt) {
-        Ok((volume, seats, passes)) => {
-            tell_order(&passes);
-            let opening = carried.opening(volume.base().version);
-            run_volume(
-                rt, alloc, volume, seats, passes, opening, steps, setting, out,
-            )
-        }
-        Err(fault) => Err(Stop::Refused(fault.error)),
-    }
-}
-
-// Says that the passes of an image's files are in the order of their numbers.
-fn tell_order<V: VolumeName>(passes: &Vec<FilePass<V>>)
-    requires shown { (image : Image) × ((blocks : ℕ → Block) × (map (λ pass. (pass.number, pass.file)) passes.now.items ≡ files_of V.Numbers.geometry image blocks)) }
-    ensures { AreInOrder V.Numbers.geometry.files passes.now.items }
-{
-    let _passes = passes;
-}
+// What a meta area shows is among what a crash may leave of it. It runs nothing: its contract is the law.
+fn seen_law<M: Meta>()
+    ensures { (meta : M) → M.may_leave meta (M.seen meta) }
+{}

@@ -1,29 +1,22 @@
-//! Runs the steps of a script on one volume, up to the one where it is mounted again.
+//! Runs the commands of a script.
 ghost use Rattle.std.specs.Prelude.{◌≡◌, ◌<◌, [], true, false, take, IfErr, IfOk, OnOk};
 ghost use Rattle.std.specs.Io.KnownBytes.{Appends};
 ghost use Rattle.program_script.specs.declared.command.Command.TheVariants.{Remount};
-ghost use Rattle.program_session.specs.Files.{AreInOrder, open_count};
+ghost use Rattle.program_session.specs.Files.{open_count};
 ghost use Rattle.program_session.specs.Work.{Wrote};
-ghost use Rattle.program_run.specs.Run.{CommandWrites, IsHalted, RanSome, StepWrites, WroteSteps, is_remount, mounted_of, names_line, opening_line};
+ghost use Rattle.program_run.specs.Run.{CommandWrites, IsPaused, WroteSteps, is_remount, mounted_of, names_line, opening_line};
 
 use crate::disk::Faults;
-use crate::setting::Setting;
 use crate::stop::Stop;
 use device::{Block, Meta};
-use file_cells::FilePass;
-use file_readers::Seat;
 use geometry::Error;
 use program_script::{Command, Step};
 use program_session::lines::{tell_created, tell_done, tell_refusal, tell_status, tell_taken};
-use program_session::{Ended, Session, run_work};
-use program_workers::{Gate, SharedBlock, run_part};
+use program_session::{Session, run_work};
 use rights_names::VolumeName;
-use std::alloc::Global;
 use std::io;
 use std::io::Write;
 use std::sync::Wait;
-use std::thread::Threads;
-use volume::{SharedName, Volume};
 
 /// What a script carries from one volume to the next: whether the device was just formatted, the time that was set, and how many
 /// readers were taken.
@@ -38,16 +31,6 @@ pub struct Carried {
 #[derive(Clone, Copy, Debug, PartialEq, Eq)]
 pub struct Opening {
     pub mounted: Option<u32>,
-    pub carried: Carried,
-}
-
-/// Where the steps of a script halted: the seats and the passes of the volume, how many steps were run, and what the script
-/// carries on. All were run, or the next one mounts the volume again.
-#[derive(Drop)]
-pub struct Halt<V: VolumeName> {
-    pub seats: Vec<Seat<V>>,
-    pub passes: Vec<FilePass<V>>,
-    pub run: usize,
     pub carried: Carried,
 }
 
@@ -70,8 +53,8 @@ impl Carried {
 }
 
 impl Opening {
-    // Writes that the volume is there.
-    fn tell<W: Write>(self, out: &mut W) -> io::Result<()>
+    /// Writes that the volume is there.
+    pub fn tell<W: Write>(self, out: &mut W) -> io::Result<()>
         ensures { OnOk result (Appends (W.contents out.old) (W.contents out.new) (opening_line self.mounted)) }
     {
         match self.mounted {
@@ -81,73 +64,16 @@ impl Opening {
     }
 }
 
-/// Tells that a volume is there, and runs the steps on it, up to one that mounts it again.
-pub fn run_session<
-    V: SharedName,
-    M: Meta + Send,
-    B: SharedBlock,
-    R: Threads + Wait + Sync,
-    G: Gate + Sync,
-    O: Write,
->(
+/// Runs commands in order, up to one that mounts the volume again, or a part of workers. Answers how many were run.
+pub fn run_commands<V: VolumeName, M: Meta, B: Block + Drop, R: Wait, O: Write>(
     rt: &R,
-    alloc: Global,
-    volume: &Volume<V, M, B>,
-    seats: Vec<Seat<V>>,
-    passes: Vec<FilePass<V>>,
-    opening: Opening,
-    steps: &[Step],
-    setting: &Setting<'_, G>,
-    out: &mut O,
-) -> Result<Halt<V>, Stop>
-    requires in_order { AreInOrder V.Numbers.geometry.files passes.items }
-    ensures done { IfOk result (λ halt. RanSome steps.now V.Numbers.geometry passes.items opening halt.passes.items halt.run halt.carried (O.contents out.old) (O.contents out.new)) }
-    ensures err { IfErr result (λ stop. names_line stop ≡ false) }
-{
-    let Carried {
-        formatted: _,
-        time,
-        readers,
-    } = opening.carried;
-    let mut session = Session::of(alloc, volume, seats, passes, time, readers)?;
-    opening.tell(out)?;
-    let run = run_steps(rt, alloc, &mut session, steps, setting, out)?;
-    let Ended {
-        seats,
-        passes,
-        time,
-        readers,
-    } = session.end()?;
-    Ok(Halt {
-        seats,
-        passes,
-        run,
-        carried: Carried {
-            formatted: false,
-            time,
-            readers,
-        },
-    })
-}
-
-// Runs the steps in order, up to one that mounts the volume again, and answers how many were run.
-fn run_steps<
-    V: SharedName,
-    M: Meta + Send,
-    B: SharedBlock,
-    R: Threads + Wait + Sync,
-    G: Gate + Sync,
-    O: Write,
->(
-    rt: &R,
-    alloc: Global,
     session: &mut Session<'_, V, M, B>,
     steps: &[Step],
-    setting: &Setting<'_, G>,
+    faults: &Faults,
     out: &mut O,
 ) -> Result<usize, Stop>
     ensures done { IfOk result (λ run. WroteSteps (take run steps.now) session.old session.new [] (O.contents out.old) (O.contents out.new)) }
-    ensures halted { IfOk result (λ run. IsHalted steps.now run session.new.readers) }
+    ensures paused { IfOk result (λ run. IsPaused steps.now run session.new.readers) }
     ensures err { IfErr result (λ stop. names_line stop ≡ false) }
 {
     let mut run = 0;
@@ -155,7 +81,10 @@ fn run_steps<
         if is_remount(step) && session.open_readers() == 0 {
             return Ok(run);
         }
-        run_step(rt, alloc, session, step, setting, out)?;
+        let Step::Command { line: _, command } = step else {
+            return Ok(run);
+        };
+        run_command(rt, session, *command, faults, out)?;
         run += 1;
     }
     Ok(run)
@@ -172,38 +101,6 @@ fn is_remount(step: &Step) -> bool
             command: Command::Remount,
         }
     )
-}
-
-// Runs a step that leaves the volume mounted.
-fn run_step<
-    V: SharedName,
-    M: Meta + Send,
-    B: SharedBlock,
-    R: Threads + Wait + Sync,
-    G: Gate + Sync,
-    O: Write,
->(
-    rt: &R,
-    alloc: Global,
-    session: &mut Session<'_, V, M, B>,
-    step: &Step,
-    setting: &Setting<'_, G>,
-    out: &mut O,
-) -> Result<(), Stop>
-    requires stays { is_remount step.now ≡ true → 0 < open_count session.old.readers }
-    ensures done { OnOk result (Wrote (StepWrites step.now session.old session.new) (O.contents out.old) (O.contents out.new)) }
-    ensures err { IfErr result (λ stop. names_line stop ≡ false) }
-{
-    match step {
-        Step::Command { line: _, command } => {
-            run_command(rt, session, *command, &setting.faults, out)?;
-            Ok(())
-        }
-        Step::Part { line: _, workers } => {
-            run_part(rt, alloc, session, workers.as_slice(), setting.gate, out)?;
-            Ok(())
-        }
-    }
 }
 
 // Runs a command, and writes its line.

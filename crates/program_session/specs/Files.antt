@@ -5,6 +5,7 @@ use Rattle.geometry.specs.File.{File, new_file}
 use Rattle.geometry.specs.declared.geometry.Geometry.{Geometry}
 use Rattle.geometry.specs.declared.kind.Kind.TheVariants.{File as OrdinaryFile}
 use Rattle.file_cells.specs.Pass.{Pass}
+use Rattle.flash_volume.specs.Turns.{Held}
 use Rattle.file_readers.specs.Reader.{SnapshotOf}
 
 -- its numbers, the time that was set, for each inode number from 1 on, in order, the pass of the file of that number, if there
@@ -112,3 +113,11 @@ pub record IsOpened (geometry : Geometry) (passes : List Pass) (time readers : �
   pub passes_are : passes_among files.passes ≡ passes
   pub time_is : files.time ≡ time
   pub closed : files.readers ≡ replicate readers None
+
+-- these numbers and time, and the files of these passes and these readers, which are what is lent
+pub record Lends (geometry : Geometry) (time : ℕ) (files : Files) (held : Held) : Type 0 where
+  pub numbers : files.geometry ≡ geometry
+  pub placed : ArePlaced files
+  pub time_is : files.time ≡ time
+  pub passes_are : passes_among files.passes ≡ held.passes
+  pub readers_are : files.readers ≡ held.readers

@@ -5,7 +5,9 @@ use Rattle.std.specs.Option.{option_or}
 use Rattle.program_script.specs.declared.command.Work.{Work}
 use Rattle.program_script.specs.declared.command.Work.TheVariants.{Write, Fill, Read, Cut, Clean, Sync, Look}
 use Rattle.program_script.specs.declared.script.Task.{Task}
-use Rattle.program_session.specs.Files.{Files}
+use Rattle.flash_volume.specs.Turns.{Held}
+use Rattle.geometry.specs.declared.geometry.Geometry.{Geometry}
+use Rattle.program_session.specs.Files.{Files, Lends}
 
 -- the file that work names
 abbrev pub file_named : Work → Option ℕ
@@ -70,3 +72,9 @@ pub record IsJoined (rest share new : Files) : Type 0 where
   pub readers : AreJoined rest.readers share.readers new.readers
   pub numbers : new.geometry ≡ rest.geometry
   pub time : new.time ≡ rest.time
+
+-- the share that was lent so is back
+pub record IsPutBack (geometry : Geometry) (rest : Files) (held : Held) (new : Files) : Type 0 where
+  pub share : Files
+  pub lends : Lends geometry rest.time share held
+  pub joined : IsJoined rest share new

@@ -11,6 +11,7 @@ pub mod synced;
 pub mod work;
 
 pub use content::Content;
-pub use session::{Ended, Session};
+pub use places::{close_readers, no_items};
+pub use session::Session;
 pub use synced::Synced;
 pub use work::{policy_of, run_work};

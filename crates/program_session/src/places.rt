@@ -12,7 +12,7 @@ use rights_names::VolumeName;
 use std::alloc::Global;
 
 /// Closes the readers that are open, and adds their seats to these. The only error is NoMemory.
-pub(crate) fn close_readers<V: VolumeName, B: Block + Drop>(
+pub fn close_readers<V: VolumeName, B: Block + Drop>(
     readers: Vec<Option<Reader<'_, V, B>>>,
     seats: &mut Vec<Seat<V>>,
 ) -> Result<(), Error>
@@ -68,7 +68,7 @@ pub(crate) fn count_there<T>(places: &[Option<T>]) -> u32
 }
 
 /// So many places with nothing. The only error is NoMemory.
-pub(crate) fn no_items<T: Drop>(alloc: Global, count: usize) -> Result<Vec<Option<T>>, Error>
+pub fn no_items<T: Drop>(alloc: Global, count: usize) -> Result<Vec<Option<T>>, Error>
     ensures none { IfOk result (λ places. places.items ≡ replicate count None) }
     ensures error { IfErr result (λ error. error ≡ NoMemory) }
 {

@@ -6,21 +6,22 @@ ghost use Rattle.geometry.specs.Shape.{block_bytes};
 ghost use Rattle.cleaning.specs.Cleaning.{IsCleaned};
 ghost use Rattle.file_readers.specs.Status.{all};
 ghost use Rattle.program_session.specs.Contents.{content_of};
-ghost use Rattle.program_session.specs.Files.{AreInOrder, ArePlaced, HasFile, HasReader, IsOpened, file_at, open_count, passes_among, reader_at, shown_by};
+ghost use Rattle.program_session.specs.Files.{AreInOrder, ArePlaced, HasFile, HasReader, Lends, file_at, open_count, reader_at, shown_by};
 ghost use Rattle.program_session.specs.Work.{IsClosed, IsCreated, IsCut, IsDeleted, IsFilled, IsFound, IsSynced, IsTaken, IsWritten};
 
 mod share;
 
 use crate::content::Content;
 use crate::places::{
-    close_readers, count_there, fill_block, first_free, keep_passes, lend_all, no_items, place_of,
-    place_passes, reader_place,
+    count_there, fill_block, first_free, keep_passes, lend_all, place_of, place_passes,
+    reader_place,
 };
 use crate::synced::Synced;
 use cleaning::{Cleaned, Policy};
 use device::{Block, Meta};
 use file_cells::FilePass;
 use file_readers::{Reader, Seat, Status};
+use flash_volume::{Lent, Rights};
 use geometry::{Error, Kind};
 use rights_names::VolumeName;
 use std::alloc::Global;
@@ -30,19 +31,6 @@ use volume::Volume;
 
 // How many seats a volume has.
 const SEATS: u32 = 64;
-
-/// What a session hands back at its end.
-#[derive(Drop)]
-pub struct Ended<V: VolumeName> {
-    /// Those of all readers.
-    pub seats: Vec<Seat<V>>,
-    /// Those of the files, in the order of their numbers.
-    pub passes: Vec<FilePass<V>>,
-    /// The time that was set last.
-    pub time: u64,
-    /// How many readers were taken.
-    pub readers: usize,
-}
 
 /// A volume with the passes of its files, the readers that were taken, and the time that a script has set. A caller
 /// sees the volume's numbers, the time, the files and the readers.
@@ -80,23 +68,20 @@ impl<'a, V: VolumeName, M: Meta, B: Block + Drop> Model for Session<'a, V, M, B>
 }
 
 impl<'a, V: VolumeName, M: Meta, B: Block + Drop> Session<'a, V, M, B> {
-    /// A session over a volume with the files of these passes, at a time, and behind so many readers that are closed. The only
-    /// error is NoMemory.
+    /// A session over a volume with the files and the readers that are lent, at a time. The only error is NoMemory.
     pub fn of(
         alloc: Global,
         volume: &'a Volume<V, M, B>,
-        seats: Vec<Seat<V>>,
-        passes: Vec<FilePass<V>>,
+        lent: Lent<'a, V, B>,
         time: u64,
-        readers: usize,
     ) -> Result<Session<'a, V, M, B>, Error>
-        requires in_order { AreInOrder V.Numbers.geometry.files passes.items }
-        ensures opened { IfOk result (IsOpened V.Numbers.geometry passes.items time readers) }
+        requires in_order { AreInOrder V.Numbers.geometry.files lent.passes }
+        ensures lends { IfOk result (λ session. Lends V.Numbers.geometry time session lent.entry) }
         ensures error { IfErr result (λ error. error ≡ NoMemory) }
     {
         let geometry = volume.geometry();
+        let (Rights { seats, passes }, readers) = lent.split();
         let block = vec![in alloc; 0; geometry.shape.block_bytes() as usize]?;
-        let readers = no_items(alloc, readers)?;
         let passes = place_passes(alloc, geometry.files, passes)?;
         Ok(Session {
             volume,
@@ -107,6 +92,13 @@ impl<'a, V: VolumeName, M: Meta, B: Block + Drop> Session<'a, V, M, B> {
             alloc,
             block,
         })
+    }
+
+    /// The time that was set last.
+    pub fn time(&self) -> u64
+        ensures { result ≡ self.now.time }
+    {
+        self.time
     }
 
     /// Sets the time that later writes carry, and by which a section is chosen.
@@ -326,33 +318,21 @@ impl<'a, V: VolumeName, M: Meta, B: Block + Drop> Session<'a, V, M, B> {
         count_there(self.readers.as_slice())
     }
 
-    /// Closes the readers that are open, and hands back what the session had. The passes stand in the order of their numbers. The
-    /// only error is NoMemory.
-    pub fn end(self) -> Result<Ended<V>, Error>
-        ensures passes { IfOk result (λ ended. ended.passes.items ≡ passes_among self.entry.passes) }
-        ensures time { IfOk result (λ ended. ended.time ≡ self.entry.time) }
-        ensures readers { IfOk result (λ ended. ended.readers ≡ length self.entry.readers) }
-        ensures placed { ArePlaced self.entry }
-        ensures numbers { self.entry.geometry ≡ V.Numbers.geometry }
+    /// Hands on what the session has: the passes in the order of their numbers, and the readers. The only error is NoMemory.
+    pub fn end(self) -> Result<Lent<'a, V, B>, Error>
+        ensures lends { IfOk result (Lends V.Numbers.geometry self.entry.time self.entry) }
         ensures error { IfErr result (λ error. error ≡ NoMemory) }
     {
         let Session {
             volume: _,
-            mut seats,
+            seats,
             passes,
             readers,
-            time,
+            time: _,
             alloc,
             block: _,
         } = self;
-        let taken = readers.len();
-        close_readers(readers, &mut seats)?;
         let passes = keep_passes(alloc, passes)?;
-        Ok(Ended {
-            seats,
-            passes,
-            time,
-            readers: taken,
-        })
+        Ok(Lent::new(Rights { seats, passes }, readers))
     }
 }

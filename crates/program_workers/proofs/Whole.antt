@@ -1,32 +1,54 @@
 -- A whole part: shares are given, the tasks are done, and the shares come back.
-use Rattle.std.proofs.Common.{◌∙◌, ℕ, List, [], ◌∷◌, ◌++◌, ◌+◌, ap, subst, refl}
+use Rattle.std.proofs.Common.{◌≡◌, ◌∙◌, ℕ, List, [], ◌∷◌, ◌++◌, ◌+◌, ap, subst, sym, refl, Result, IfOk}
 use Rattle.std.specs.List.{AllZip}
+use Rattle.flash_volume.specs.Turns.{Lot}
+use Rattle.geometry.specs.declared.geometry.Geometry.{Geometry}
 use Rattle.program_script.specs.declared.script.Worker.{Worker}
-use Rattle.program_session.specs.Files.{Files}
-use Rattle.program_workers.specs.Duties.{AreBack, AreGiven, Duty, IsDone, Made, told_text}
+use Rattle.program_session.specs.Files.{Files, Lends}
+use Rattle.program_session.specs.Share.{AreJoined, IsShare}
+use Rattle.program_workers.proofs.Keeping.{DidTasks}
+use Rattle.program_workers.proofs.Lending.{same_files, same_passes}
+use Rattle.program_workers.specs.Duties.{AreBack, AreGiven, Hand, IsDone, IsGiven, IsMade, told_text}
 use Rattle.program_workers.specs.Lines.{end_line}
 use Rattle.program_workers.specs.Part.{PartWrites}
 use Rattle.program_workers.specs.Tasks.{TasksWrite}
 
-pub whole : (number : ℕ) (workers : List Worker) (old : Files) (duties : List Duty) (rest : Files) (all : List Made) (new : Files)
-    → AreGiven number workers old duties rest → AllZip IsDone duties all → AreBack rest all new → PartWrites number workers old new (told_text all)
-whole number [] old [] rest [] new given done back = (back ∙ given, refl)
-whole number [] old [] rest (made ∷ all) new given done back = absurd done
-whole number [] old (duty ∷ duties) rest all new given done back = absurd given
-whole number (worker ∷ workers) old [] rest all new given done back = absurd given
-whole number (worker ∷ workers) old (duty ∷ duties) rest [] new given done back = absurd done
-whole number (worker ∷ workers) old (duty ∷ duties) rest (made ∷ all) new (middle, one, given) done (left, back, joined) =
-    let number_is = done.0.0 ∙ one.number_is in record {
-      share = duty.share;
-      rest = middle;
-      taken = one.taken;
-      done = made.share;
-      lines = made.text;
-      wrote = subst (λ n. TasksWrite n worker.tasks.items duty.share made.share made.text) one.number_is
-          (subst (λ tasks. TasksWrite duty.number tasks duty.share made.share made.text) one.tasks_are done.0.1);
-      left = left;
-      others = told_text all;
-      others_wrote = whole (number + 1) workers middle duties rest all left given done.1 back;
-      joined = joined;
-      text_is = ap (λ n. made.text ++ end_line n ++ told_text all) number_is;
-    }
+module _ {W E : Type 0} (text_of : W → List ℕ) (geometry : Geometry) where
+  pub whole : (number : ℕ) (workers : List Worker) (old : Files) (duties : List (Lot Hand)) (rest : Files) (ended : List (Lot (Result W E))) (all : List (Lot (List ℕ))) (new : Files)
+      → AreGiven geometry number workers old duties rest → DidTasks text_of geometry duties ended → AllZip (IsMade text_of geometry) ended all → AreBack geometry rest all new
+      → PartWrites number workers old new (told_text number all)
+  whole number [] old [] rest [] [] new given done made back = (back ∙ given, refl)
+  whole number [] old [] rest [] (one ∷ all) new given done made back = absurd made
+  whole number [] old [] rest (end ∷ ended) all new given done made back = absurd done
+  whole number [] old (duty ∷ duties) rest ended all new given done made back = absurd given
+  whole number (worker ∷ workers) old [] rest ended all new given done made back = absurd given
+  whole number (worker ∷ workers) old (duty ∷ duties) rest [] all new given done made back = absurd done
+  whole number (worker ∷ workers) old (duty ∷ duties) rest (end ∷ ended) [] new given done made back = absurd made
+  whole number (worker ∷ workers) old (duty ∷ duties) rest (end ∷ ended) (own ∷ all) new (middle, one, given) done made (left, back, put) =
+      let is_made = made.0 in
+      let text = text_of is_made.text in
+      let did : IsDone geometry duty.what duty.held text end.held =
+      subst (λ (what : Result W E). IfOk what (λ (w : W). IsDone geometry duty.what duty.held (text_of w) end.held)) is_made.ok done.0 in
+      let mine : did.share ≡ one.share = same_files geometry duty.held one.share.time did.share one.share
+      (subst (λ (h : Hand). Lends geometry h.time did.share duty.held) one.hand_is did.lent_is) one.lent_is in
+      let passes : put.share.passes ≡ did.left.passes = same_passes geometry end.held left.time did.left.time put.share did.left
+      (subst (λ held. Lends geometry left.time put.share held) is_made.held_is put.lends) did.back_is in
+      let readers : put.share.readers ≡ did.left.readers = put.lends.readers_are ∙ ap (λ held. held.readers) is_made.held_is ∙ sym did.back_is.readers_are in
+      record {
+        share = did.share;
+        rest = middle;
+        taken = subst (λ (share : Files). IsShare worker.tasks.items old share middle) (sym mine) one.taken;
+        done = did.left;
+        lines = text;
+        wrote = subst (λ (h : Hand). TasksWrite h.number h.tasks did.share did.left text) one.hand_is did.wrote;
+        left = left;
+        others = told_text (number + 1) all;
+        others_wrote = whole (number + 1) workers middle duties rest ended all left given done.1 made.1 back;
+        joined = record {
+          passes = subst (λ ps. AreJoined left.passes ps new.passes) passes put.joined.passes;
+          readers = subst (λ rs. AreJoined left.readers rs new.readers) readers put.joined.readers;
+          numbers = put.joined.numbers;
+          time = put.joined.time;
+        };
+        text_is = ap (λ (lines : List ℕ). lines ++ end_line number ++ told_text (number + 1) all) is_made.text_is;
+      }

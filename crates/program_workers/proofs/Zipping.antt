@@ -1,9 +1,8 @@
 -- Items are added to both lists together, one related pair more each time: so what was gone through is related place by
 -- place, and when nothing is left the whole lists are.
-use Rattle.std.proofs.Common.{◌≡◌, ◌∙◌, ◌<◌, ℕ, suc, List, [], ◌∷◌, ◌++◌, append-nil, append_assoc, ap, arith, get_or, length, refl, subst, sym}
-use Rattle.std.specs.Prelude.{IfOk, Result}
+use Rattle.std.proofs.Common.{◌≡◌, ◌∙◌, ◌<◌, ℕ, suc, List, [], ◌∷◌, ◌++◌, append-nil, append_assoc, ap, arith, get_or, length, map, refl, subst, sym}
 use Rattle.std.specs.List.{AllZip}
-use Rattle.program_workers.specs.Answers.{Holds}
+use Rattle.std.proofs.lemmas.List.{map-append}
 
 module _ {X Y : Type 0} (R : X → Y → Type 0) where
   one_more : (xs : List X) (ys : List Y) (x : X) (y : Y) → AllZip R xs ys → R x y → AllZip R (xs ++ x ∷ []) (ys ++ y ∷ [])
@@ -32,27 +31,17 @@ module _ {X Y : Type 0} (R : X → Y → Type 0) where
   all_zipped xs ys rest none so_far =
       subst (λ zs. AllZip R zs ys) (sym (so_far.are ∙ ap (λ zs. so_far.front ++ zs) none ∙ append-nil so_far.front)) so_far.zipped
 
-module _ {J D E : Type 0} (R : J → D → Type 0) where
-  -- what was done of the job at this place
-  pub record Did (jobs : List J) (place : ℕ) (answer : Result D E) : Type 0 where
-    pub job : J
-    pub is : (other : J) → get_or jobs place other ≡ job
-    pub did : IfOk answer (R job)
+module _ {A B X Y : Type 0} (R : X → Y → Type 0) (one : A → X) (other : B → Y) where
+  -- the same of what two lists are mapped to
+  pub none_mapped : (items : List A) (all : List B) (rest : List A) → all ≡ [] → rest ≡ items → ZippedSo R (map one items) (map other all) (map one rest)
+  none_mapped items all rest none same =
+      subst (λ ys. ZippedSo R (map one items) (map other ys) (map one rest)) (sym none) (subst (λ zs. ZippedSo R (map one items) [] (map one zs)) (sym same) (none_zipped R (map one items)))
 
-  held : (job : J) (answer : Result D E) (done : D) → IfOk answer (R job) → Holds answer done → R job done
-  held job answer done did holds = subst (λ a. IfOk a (R job)) holds did
+  pub next_mapped : (items : List A) (all grown : List B) (rest new : List A) (a : A) (b : B) → grown ≡ all ++ b ∷ [] → rest ≡ a ∷ new
+      → ZippedSo R (map one items) (map other all) (map one rest) → R (one a) (other b) → ZippedSo R (map one items) (map other grown) (map one new)
+  next_mapped items all grown rest new a b is next so_far related =
+      subst (λ ys. ZippedSo R (map one items) ys (map one new)) (sym (ap (map other) is ∙ map-append other all (b ∷ [])))
+      (next_zipped R (map one items) (map other all) (map one rest) (map one new) (one a) (other b) (ap (map one) next) so_far related)
 
-  pub zip_answers : (jobs : List J) (answers : List (Result D E)) (all : List D) → length answers ≡ length jobs
-      → ((place : ℕ) (other : Result D E) → place < length jobs → Did jobs place (get_or answers place other)) → AllZip Holds answers all → AllZip R jobs all
-  zip_answers [] [] [] same each zip = tt
-  zip_answers [] [] (done ∷ all) same each zip = absurd zip
-  zip_answers [] (answer ∷ answers) all same each zip = absurd (omega arith)
-  zip_answers (job ∷ jobs) [] all same each zip = absurd (omega arith)
-  zip_answers (job ∷ jobs) (answer ∷ answers) [] same each zip = absurd zip
-  zip_answers (job ∷ jobs) (answer ∷ answers) (done ∷ all) same each zip =
-      let first = each 0 answer (omega arith) in (
-        subst (λ j. R j done) (sym (first.is job)) (held first.job answer done first.did zip.0),
-        zip_answers jobs answers all (omega arith)
-            (λ place other within. let own = each (suc place) other (omega arith) in record { job = own.job; is = own.is; did = own.did })
-            zip.1,
-      )
+  pub all_mapped : (items : List A) (all : List B) (rest : List A) → rest ≡ [] → ZippedSo R (map one items) (map other all) (map one rest) → AllZip R (map one items) (map other all)
+  all_mapped items all rest none so_far = all_zipped R (map one items) (map other all) (map one rest) (ap (map one) none) so_far

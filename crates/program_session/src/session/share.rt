@@ -1,12 +1,14 @@
 //! A share of a session: what tasks name of it, on its own.
-ghost use Rattle.std.specs.Prelude.{◌≡◌, length, IfOk, IfErr, OnErr};
+ghost use Rattle.std.specs.Prelude.{◌≡◌, length, IfOk, IfErr, OnOk, OnErr};
 ghost use Rattle.geometry.specs.declared.error.Error.TheVariants.{NoMemory};
-ghost use Rattle.program_session.specs.Share.{IsJoined, IsShare};
+ghost use Rattle.program_session.specs.Files.{AreInOrder};
+ghost use Rattle.program_session.specs.Share.{IsPutBack, IsShare};
 
 use super::Session;
 use crate::moves::{files_named, join_items, move_items, readers_named};
-use crate::places::no_items;
+use crate::places::{no_items, place_passes};
 use device::{Block, Meta};
+use flash_volume::Lent;
 use geometry::Error;
 use program_script::Task;
 use rights_names::VolumeName;
@@ -38,21 +40,19 @@ impl<'a, V: VolumeName, M: Meta, B: Block + Drop> Session<'a, V, M, B> {
         })
     }
 
-    /// What a share has comes back to its places.
-    pub fn put_back(&mut self, share: Session<'a, V, M, B>)
+    /// What a share handed on comes back to its places. The only error is NoMemory, and then nothing is back.
+    pub fn put_back(&mut self, share: Lent<'a, V, B>) -> Result<(), Error>
+        requires in_order { AreInOrder V.Numbers.geometry.files share.passes }
         requires readers { length share.readers ≡ length self.old.readers }
-        ensures { IsJoined self.old share.entry self.new }
+        ensures joined { OnOk result (IsPutBack V.Numbers.geometry self.old share.entry self.new) }
+        ensures error { IfErr result (λ error. error ≡ NoMemory) }
+        ensures err { OnErr result (self.new ≡ self.old) }
     {
-        let Session {
-            volume: _,
-            seats: _,
-            passes,
-            readers,
-            time: _,
-            alloc: _,
-            block: _,
-        } = share;
+        let (rights, readers) = share.split();
+        let files = self.volume.geometry().files;
+        let passes = place_passes(self.alloc, files, rights.passes)?;
         join_items(passes, &mut self.passes);
         join_items(readers, &mut self.readers);
+        Ok(())
     }
 }

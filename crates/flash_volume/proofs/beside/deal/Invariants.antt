@@ -5,7 +5,7 @@ use Rattle.flash_volume.proofs.beside.deal.Given as goal
 
 abbrev pub invariant-loop-beside : goal.invariant-loop-beside
 invariant-loop-beside g l = record {
-  works : map (λ beside. beside.work) l.fn.works.items ≡ map (λ duty. duty.work) l.duties.items ++ map (λ beside. beside.work) (into_iter_items l.beside-iterator);
-  dealt : DealtSo (map (λ beside. beside.files.items) l.fn.works.items) l.fn.rights.passes.items (map (λ duty. duty.rights.passes.items) l.duties.items)
+  works : map (λ beside. beside.work) l.fn.works.items ≡ map (λ duty. duty.part.work) l.duties.items ++ map (λ beside. beside.work) (into_iter_items l.beside-iterator);
+  dealt : DealtSo (map (λ beside. beside.files.items) l.fn.works.items) l.fn.rights.passes.items (map (λ duty. duty.lent.passes) l.duties.items)
       (map (λ beside. beside.files.items) (into_iter_items l.beside-iterator)) l.rights.passes.items;
 }

@@ -1,4 +1,4 @@
-use Rattle.std.proofs.Common.{◌≡◌, ap, subst, arith, refl}
+use Rattle.std.proofs.Common.{◌≡◌, ◌∙◌, ap, subst, arith, refl}
 use Rattle.geometry.specs.Shape.{block_bytes}
 use Rattle.geometry.specs.declared.geometry.Geometry.{Geometry}
 use Rattle.program_session.specs.Files.{StandInPlace}
@@ -11,12 +11,12 @@ invariant_of-result g c =
       omega (arith, c.in_ok-block.block.ok.0, c.in_ok-block.ensures.len, c.block_bytes.ensures, ap (λ (x : Geometry). block_bytes x.shape) c.geometry-geometry.ensures),
     )
 
-pub returns-clause-opened : goal.returns-clause-opened
-returns-clause-opened g c =
+pub returns-clause-lends : goal.returns-clause-lends
+returns-clause-lends g c =
     let files = ap (λ (x : Geometry). x.files) c.geometry-geometry.ensures in record {
       numbers = refl;
       placed = subst (λ n. StandInPlace n c.in_ok-passes.passes.items) files c.in_ok-passes.ensures.placed;
-      passes_are = c.in_ok-passes.ensures.passes;
       time_is = refl;
-      closed = c.in_ok-readers.ensures.none;
+      passes_are = c.in_ok-passes.ensures.passes ∙ c.split-seats.ensures.passes;
+      readers_are = c.split-seats.ensures.readers;
     }

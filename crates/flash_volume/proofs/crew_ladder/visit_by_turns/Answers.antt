@@ -1,0 +1,17 @@
+-- A mount leaves the blocks as they were: so the crew has its turns on what the parts held.
+use Rattle.std.proofs.Common.{[]}
+use Rattle.flash_volume.specs.Turns.{Held, WasCrewed}
+use Rattle.flash_volume.proofs.Visiting.{visited_on}
+use Rattle.flash_volume.proofs.Results.{ok_then}
+use Rattle.flash_volume.proofs.crew_ladder.visit_by_turns.Goals as goal
+
+pub returns-in-Ok-clause-done : goal.returns-in-Ok-clause-done
+returns-in-Ok-clause-done g c =
+    let mounted = c.in-Ok.mounted in
+    let found = c.in-Ok.ensures in
+    ok_then c.on_mounted.result _ _
+    (λ left from. visited_on g.M.Meta.seen g.B.Block.address_of g.B.Block.content_of (λ geometry base before left. WasCrewed g.M.Meta.seen g.M.Meta.may_leave g.B.Block.address_of g.B.Block.content_of (g.X.Crew.did c.args.crew geometry base (record { passes = before; readers = [] }) []) geometry left)
+    mounted.geometry mounted.image mounted.parts.blocks.items c.args.parts left
+    (record { size = found.size; held = record { front = found.front; tables = found.image.tables; nodes = found.image.nodes }; lawful = found.lawful })
+    found.parts.contents from)
+    c.on_mounted.ensures.done

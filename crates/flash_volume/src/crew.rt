@@ -1,0 +1,101 @@
+//! What is done on a volume that was mounted, some of it side by side.
+use crate::leave::Leave;
+use crate::lent::Lent;
+use device::{Block, Meta};
+use geometry::Error;
+use rights_names::VolumeName;
+use std::alloc::Global;
+use std::sync::Wait;
+use volume::Volume;
+
+/// A part, and what it is lent.
+#[derive(Drop)]
+pub struct Duty<'v, V: VolumeName, B: Block + Drop, P> {
+    pub part: P,
+    pub lent: Lent<'v, V, B>,
+}
+
+/// What a part answered, and what it hands back.
+#[derive(Drop)]
+pub struct Ended<'v, V: VolumeName, B: Block + Drop, D> {
+    pub done: D,
+    pub lent: Lent<'v, V, B>,
+}
+
+/// How a turn of a crew ends.
+#[derive(Drop)]
+pub enum Turn<C, W, O> {
+    /// These duties are done, each on a thread of its own where one can be made. Then it is the crew's turn again.
+    Beside { crew: C, duties: Vec<W> },
+    /// All is done, and the volume is left so.
+    Over { output: O, leave: Leave },
+}
+
+/// One of the parts of a crew's work that are done side by side, over any device.
+pub trait Part<M: Meta, B: Block + Drop> {
+    ghost use Rattle.flash_volume.specs.Turns.{Held};
+    ghost use Rattle.geometry.specs.declared.geometry.Geometry.{Geometry};
+
+    /// What the part answers.
+    type Done: Drop;
+
+    // With what the part may be done: of itself, the volume's numbers, and what it is lent.
+    ghost fits: { Self → Geometry → Held → Type 0 } = { λ _ _ _. Unit {0} };
+
+    // What it promises: of these, what it answers, and what it hands back.
+    ghost did: { Self → Geometry → Held → Self.Done → Held → Type 0 };
+
+    /// Does the part, in this thread alone.
+    fn run<'v, V: VolumeName, R: Wait>(
+        self,
+        rt: &R,
+        alloc: Global,
+        volume: &'v Volume<V, M, B>,
+        lent: &mut Lent<'v, V, B>,
+    ) -> Self::Done
+        requires { fits self V.Numbers.geometry lent.old }
+        ensures { did self V.Numbers.geometry lent.old result lent.new };
+}
+
+/// What is done with a volume that was mounted, over any device, turn by turn: between the turns parts of it are done side by side.
+pub trait Crew<M: Meta, B: Block + Drop> {
+    ghost use Rattle.std.specs.Prelude.{List, map, IfOk};
+    ghost use Rattle.file_cells.specs.Pass.{Pass};
+    ghost use Rattle.flash_volume.specs.Turns.{Held, Keeps, Lot};
+    ghost use Rattle.flash_volume.specs.declared.leave.Leave.{Leave};
+    ghost use Rattle.geometry.specs.declared.geometry.Geometry.{Geometry};
+    ghost use Rattle.volume.specs.declared.volume.Base.{Base};
+
+    /// What is done side by side.
+    type Part: Part<M, B>;
+
+    /// What the crew answers in the end.
+    type Output: Drop;
+
+    // With what the crew may have a turn: of itself, the volume's numbers, what it has, and how its parts ended.
+    ghost fits: { Self → Geometry → Held → List (Lot Self.Part.Done) → Type 0 } = { λ _ _ _ _. Unit {0} };
+
+    // What it promises from here on to its end: of itself, the volume's numbers, the image that was mounted, what it has, how its
+    // parts ended, and then what it answers, how the volume is to be left, and the passes that it ends with.
+    ghost did: { Self → Geometry → Base → Held → List (Lot Self.Part.Done) → Self.Output → Leave → List Pass → Type 0 };
+
+    /// Has a turn, in this thread alone. It is told how the parts ended that its last turn asked for, and takes out of `ended` what it
+    /// keeps of them. An error ends it all, as that of a work.
+    fn turn<'v, V: VolumeName, R: Wait>(
+        self,
+        rt: &R,
+        alloc: Global,
+        volume: &'v Volume<V, M, B>,
+        lent: &mut Lent<'v, V, B>,
+        ended: &mut Vec<Ended<'v, V, B, <Self::Part as Part<M, B>>::Done>>,
+    ) -> Result<Turn<Self, Duty<'v, V, B, Self::Part>, Self::Output>, Error>
+        requires { fits self V.Numbers.geometry lent.old (map (λ end. record { what = end.done; held = end.lent }) ended.old.items) }
+        ensures { IfOk result (λ turn. Keeps
+            (λ part. Self.Part.fits part V.Numbers.geometry)
+            (λ part. Self.Part.did part V.Numbers.geometry)
+            (λ crew. fits crew V.Numbers.geometry)
+            (λ crew. did crew V.Numbers.geometry volume.now.base)
+            (λ duty. record { what = duty.part; held = duty.lent })
+            (did self V.Numbers.geometry volume.now.base lent.old (map (λ end. record { what = end.done; held = end.lent }) ended.old.items))
+            turn lent.new) };
+}

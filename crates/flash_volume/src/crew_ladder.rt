@@ -1,0 +1,117 @@
+//! A device's volume is mounted, a crew has its turns on it, and it is left: a function for each step of the mount, as for a visit.
+//! They ask for more of a device and of the names, since threads share them.
+ghost use Rattle.std.specs.Prelude.{◌≡◌, ℕ, [], IfOk, IfErr};
+ghost use Rattle.device.specs.Parts.{IsBlockRun};
+ghost use Rattle.flash_volume.specs.Turns.{MayBegin, WasCrewed};
+ghost use Rattle.flash_volume.specs.Visited.{VisitedFrom, VisitedOn};
+ghost use Rattle.geometry.specs.declared.error.Error.TheVariants.{NoMemory};
+ghost use Rattle.image_codec.specs.Blocks.{bytes_at};
+ghost use Rattle.mount_reading.specs.Held.{AreSameParts, IsPartsRefusal};
+ghost use Rattle.volume.specs.Picked.{HaveNames};
+
+use crate::block::SharedBlock;
+use crate::crew::{Crew, Part};
+use crate::leave::{Done, Fault};
+use crate::leaving::take_turns_and_leave;
+use crate::rights::Rights;
+use device::{Meta, Parts};
+use mount::{Mounted, MountedQueues, mount};
+use mount_reading::OpenFault;
+use rights_names::{BooksOf, NumbersOf, PoolName, TablesName, TurnName, WordsOf};
+use std::alloc::Global;
+use std::marker::Brand;
+use std::sync::Wait;
+use std::thread::Threads;
+
+/// Mounts the volume of a device, has the turns of a crew on it, and leaves it as the crew says. What the crew promises holds of the
+/// image that the parts had.
+///
+/// The outer error is a refusal of the parts, as a mount's, and hands them back as they were; the inner one is a fault of the crew or
+/// of the close.
+pub fn visit_by_turns<
+    M: Meta + Send,
+    B: SharedBlock,
+    R: Threads + Wait + Sync,
+    X: Crew<M, B> + Drop,
+>(
+    rt: &R,
+    alloc: Global,
+    parts: Parts<M, B>,
+    crew: X,
+) -> Result<Result<Done<M, B, X::Output>, Fault<M, B>>, OpenFault<M, B>>
+where
+    X::Part: Send + Drop,
+    <X::Part as Part<M, B>>::Done: Send,
+    requires run { (bytes : ℕ) × IsBlockRun B.address_of B.content_of bytes 1 parts.blocks.items }
+    requires fits { MayBegin (X.fits crew) }
+    ensures done { IfOk result (VisitedOn M.seen B.address_of B.content_of (λ geometry base before left. WasCrewed M.seen M.may_leave B.address_of B.content_of (X.did crew geometry base (record { passes = before; readers = [] }) []) geometry left) parts) }
+    ensures refused { IfErr result (λ fault. IsPartsRefusal M.seen B.address_of B.content_of parts fault.error) }
+    ensures same { IfErr result (λ fault. AreSameParts M.seen B.address_of B.content_of parts fault.parts) }
+{
+    match mount(alloc, parts) {
+        Ok(mounted) => on_mounted::<Brand, M, B, R, X>(rt, alloc, mounted, crew),
+        Err(fault) => Err(fault),
+    }
+}
+
+// The names ask for `Send` and `Sync` since threads share the volume that has them in its type.
+fn on_mounted<
+    K: TablesName + Send + Sync,
+    M: Meta + Send,
+    B: SharedBlock,
+    R: Threads + Wait + Sync,
+    X: Crew<M, B> + Drop,
+>(
+    rt: &R,
+    alloc: Global,
+    mounted: Mounted<M, B>,
+    crew: X,
+) -> Result<Result<Done<M, B, X::Output>, Fault<M, B>>, OpenFault<M, B>>
+where
+    X::Part: Send + Drop,
+    <X::Part as Part<M, B>>::Done: Send,
+    requires books { mounted.books ≡ K.books }
+    requires words { mounted.words ≡ K.words }
+    requires geometry { mounted.geometry ≡ K.geometry }
+    requires fits { MayBegin (X.fits crew) }
+    ensures done { IfOk result (VisitedFrom (λ geometry base before left. WasCrewed M.seen M.may_leave B.address_of B.content_of (X.did crew geometry base (record { passes = before; readers = [] }) []) geometry left) mounted.geometry mounted.image (bytes_at B.content_of mounted.parts.blocks.items)) }
+    ensures back { IfErr result (λ fault. fault.parts ≡ mounted.parts) }
+    ensures error { IfErr result (λ fault. fault.error ≡ NoMemory) }
+{
+    match mounted.name::<BooksOf<K>, WordsOf<K>, NumbersOf<K>>() {
+        Ok(opened) => on_opened::<K, Brand, Brand, M, B, R, X>(rt, alloc, opened, crew),
+        Err(fault) => Err(fault),
+    }
+}
+
+fn on_opened<
+    K: TablesName + Send + Sync,
+    P: PoolName + Send + Sync,
+    T: TurnName + Send + Sync,
+    M: Meta + Send,
+    B: SharedBlock,
+    R: Threads + Wait + Sync,
+    X: Crew<M, B> + Drop,
+>(
+    rt: &R,
+    alloc: Global,
+    opened: MountedQueues<BooksOf<K>, WordsOf<K>, NumbersOf<K>, M, B>,
+    crew: X,
+) -> Result<Result<Done<M, B, X::Output>, Fault<M, B>>, OpenFault<M, B>>
+where
+    X::Part: Send + Drop,
+    <X::Part as Part<M, B>>::Done: Send,
+    requires named { HaveNames opened.queues opened.channel P.ordinary P.reserve T.turns T.key }
+    requires fits { MayBegin (X.fits crew) }
+    ensures done { IfOk result (VisitedFrom (λ geometry base before left. WasCrewed M.seen M.may_leave B.address_of B.content_of (X.did crew geometry base (record { passes = before; readers = [] }) []) geometry left) opened.named.mounted.geometry opened.named.mounted.image (bytes_at B.content_of opened.named.mounted.parts.blocks.items)) }
+    ensures back { IfErr result (λ fault. fault.parts ≡ opened.named.mounted.parts) }
+    ensures error { IfErr result (λ fault. fault.error ≡ NoMemory) }
+{
+    match opened.name::<P, T, R>(rt) {
+        Ok((volume, seats, passes)) => {
+            let rights = Rights { seats, passes };
+            Ok(take_turns_and_leave(rt, alloc, volume, rights, crew))
+        }
+        Err(fault) => Err(fault),
+    }
+}

@@ -1,5 +1,0 @@
-use Rattle.program_run.proofs.remounting.run_mounted.Given as goal
-
--- what was just read of the device
-abbrev pub ghosts-on_mounted : goal.ghosts-on_mounted
-ghosts-on_mounted g a = record { books = a.mounted.books; words = a.mounted.words; geometry = a.mounted.geometry }
