@@ -1,3 +1,4 @@
+-- Each segment's entry is spelled behind those before it: so what the loop has added is what the infos of the segments so far spell.
 use Rattle.std.proofs.Common.{◌≡◌, ◌+◌, ◌<◌, ◌^◌, ◌++◌, ◌∷◌, [], ◌∙◌, sym, ap, subst, List, take}
 use Rattle.std.specs.Prelude.{All}
 use Rattle.std.specs.List.{flat_map}

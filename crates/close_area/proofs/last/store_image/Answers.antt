@@ -1,3 +1,4 @@
+-- The image that is taken is lawful, so packs may store it. It has the volume's numbers, so only a device that fails refuses it.
 use Rattle.std.proofs.Common.{◌≡◌, IfOk, List, true, inr, ⊎_elim, ap, sym, subst, ◌∙◌, arith}
 use Rattle.geometry.specs.declared.error.Error.TheVariants.{Device}
 use Rattle.geometry.specs.declared.geometry.Geometry.{Geometry}

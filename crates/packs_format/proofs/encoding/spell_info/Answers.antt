@@ -1,3 +1,4 @@
+-- A count, a time and a map are added one behind the other. A segment has whole bytes of bits, so its words spell exactly the map.
 use Rattle.std.proofs.Common.{◌≡◌, refl, ◌∙◌, ap, ◌*◌, ◌/◌, ◌≤◌, ◌++◌, append_assoc, arith}
 use Rattle.std.proofs.lemmas.Result.{IfOk-equal}
 use Rattle.byteorder.specs.Endian.{little_bytes}
