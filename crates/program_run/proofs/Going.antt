@@ -1,7 +1,7 @@
 -- Each mount goes on with the files of the volume that was left before it: so the steps run on one volume after another
 -- write the same lines as one run of all of them.
-use Rattle.std.proofs.Common.{◌≡◌, ◌≢◌, ◌⊎◌, ◌∙◌, ℕ, suc, zero, true, List, [], ◌∷◌, ◌++◌, ap, sym, subst, refl, arith, inl, inr, append_assoc, take, drop, length, map, replicate, Option, Some, None, Result, Ok, Err, IfOk, ◌+◌, ◌-◌, ◌<◌, ◌≤◌}
-use Rattle.std.specs.Prelude.{Bool, false, if◌then◌else◌, slice_get, slice_index_or}
+use Rattle.std.proofs.Common.{◌≡◌, ◌≢◌, ◌⊎◌, ◌∙◌, ℕ, suc, zero, true, List, [], ◌∷◌, ◌++◌, ap, sym, subst, refl, arith, inl, inr, append_assoc, take, drop, length, map, replicate, Option, Some, None, ◌+◌, ◌-◌, ◌<◌, ◌≤◌}
+use Rattle.std.specs.Prelude.{Bool, false, if◌then◌else◌, slice_get}
 use Rattle.std.specs.Io.KnownBytes.{Appends}
 use Rattle.std.proofs.KnownBytes.{Appends-trans}
 use Rattle.std.proofs.lemmas.Bool.{false≢true}
@@ -12,7 +12,6 @@ use Rattle.geometry.specs.File.{Block, File}
 use Rattle.geometry.specs.Shape.{block_bytes}
 use Rattle.geometry.specs.declared.geometry.Geometry.{Geometry}
 use Rattle.image.specs.Files.{files as files_of}
-use Rattle.image.specs.Image.{Image}
 use Rattle.image.specs.Rules.{IsLawful}
 use Rattle.file_readers.specs.Reader.{SnapshotOf}
 use Rattle.program_script.specs.declared.command.Command.TheVariants.{Work as WorkOf, Now, Create, Delete, Status as TellStatus, Snap, Done, Fail, Remount}
@@ -22,13 +21,11 @@ use Rattle.program_session.specs.Files.{ArePlaced, Files, IsOpened, no_files, op
 use Rattle.program_session.proofs.Placing.{nothing_there}
 use Rattle.packs_format.specs.Grammar.{HasSuper}
 use Rattle.packs_format.proofs.Same.{one_geometry}
-use Rattle.program_run.specs.Ending.{AreLeft, LeftScript, LeftSome, WasLeft, WentOn, WentOnWith}
+use Rattle.program_run.specs.Ending.{AreLeft, LeftScript, LeftSome, WasLeft, WentOn}
 use Rattle.program_run.specs.Run.{IsHalted, IsRemounted, StepWrites, StepsWrite, WroteSteps, first_opening, format_line, is_remount, mount_line, mounted_of, opening_line}
-use Rattle.mount_reading.specs.Held.{HoldsImage}
 use Rattle.image_codec.specs.Blocks.{bytes_at}
 use Rattle.device.specs.declared.parts.Parts.{Parts}
 use Rattle.program_run.specs.declared.remounting.Left.{Left}
-use Rattle.program_run.specs.declared.steps.Carried.{Carried}
 use Rattle.program_run.specs.declared.steps.Opening.{Opening}
 use Rattle.program_run.proofs.Runs.{more, one_more}
 
@@ -253,34 +250,3 @@ module _ {M B L : Type 0} (seen : M → List ℕ) (address_of : B → ℕ) (cont
 -- the rest of a list behind a place, as a slice of it is
 pub rest_is : {A : Type 0} (xs : List A) (k : ℕ) → take (length xs - k) (drop k xs) ≡ drop k xs
 rest_is xs k = take_all (length xs - k) (drop k xs) (omega (arith, length-drop k xs))
-
--- what is known of a volume with its image, of the lawful one that the parts hold
-pub went_with : {M B L E : Type 0} (seen : M → List ℕ) (address_of : B → ℕ) (content_of : B → List ℕ) (geometry : Geometry) (image : Image) (blocks : List B) (parts : Parts M B) (steps : List Step) (carried : Carried)
-    (result : Result (Left M B L) E) (old new : Option (List ℕ)) → HasSuper geometry (seen parts.meta) → HoldsImage seen content_of geometry parts image → IsLawful geometry image
-    → map content_of blocks ≡ map content_of parts.blocks.items
-    → IfOk result (λ left. WentOnWith seen address_of content_of geometry image (bytes_at content_of blocks) steps carried left old new)
-    → IfOk result (λ left. WentOn seen address_of content_of parts steps carried left old new)
-went_with seen address_of content_of geometry image blocks parts steps carried (Ok left) old new has held lawful same on = record {
-  geometry = geometry;
-  front = has;
-  image = image;
-  held = held;
-  lawful = lawful;
-  on = subst (λ (contents : List (List ℕ)). WentOnWith seen address_of content_of geometry image (λ address. slice_index_or contents (address - 1) []) steps carried left old new) same on;
-}
-went_with seen address_of content_of geometry image blocks parts steps carried (Err e) old new has held lawful same on = tt
-
--- a volume of the numbers that its name tells
-pub went_so : {M B L E : Type 0} (seen : M → List ℕ) (address_of : B → ℕ) (content_of : B → List ℕ) (geometry named : Geometry) (image : Image) (blocks : ℕ → Block) (steps : List Step) (carried : Carried)
-    (passes : List Pass) (opening : Opening) (result : Result (Left M B L) E) (old new : Option (List ℕ)) → geometry ≡ named
-    → map pair passes ≡ files_of geometry image blocks
-    → opening ≡ record { mounted = mounted_of carried image.version; carried = carried }
-    → IfOk result (λ left. LeftSome seen address_of content_of steps named passes opening left old new)
-    → IfOk result (λ left. WentOnWith seen address_of content_of geometry image blocks steps carried left old new)
-went_so seen address_of content_of geometry named image blocks steps carried passes opening (Ok left) old new same shown opened ran = record {
-  passes = passes;
-  shown = shown;
-  some = subst (λ o. LeftSome seen address_of content_of steps geometry passes o left old new) opened
-      (subst (λ n. LeftSome seen address_of content_of steps n passes opening left old new) (sym same) ran);
-}
-went_so seen address_of content_of geometry named image blocks steps carried passes opening (Err e) old new same shown opened ran = tt
