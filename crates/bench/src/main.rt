@@ -26,7 +26,7 @@ mod threads;
 mod timed;
 
 use measurement::{MEASUREMENTS, Measurement};
-use request::{Request, read_request};
+use request::{Request, USAGE, read_request};
 use std::alloc::Global;
 use std::rt::Runtime;
 use std::sync::Wait;
@@ -39,14 +39,11 @@ fn main(rt: HostRuntime) -> io::Result<()> {
     for word in env::args(&rt)? {
         words.push(word)?;
     }
-    match read_request(alloc, words.as_slice()) {
-        Ok(request) => measure_all(&rt, alloc, request),
-        Err(error) => {
-            error.print(&rt)?;
-            if error.use_stderr() {
-                return Err(io::Error::from(io::ErrorKind::InvalidInput));
-            }
-            Ok(())
+    match read_request(words.as_slice()) {
+        Some(request) => measure_all(&rt, alloc, request),
+        None => {
+            eprintln!(rt; "{USAGE}")?;
+            Err(io::Error::from(io::ErrorKind::InvalidInput))
         }
     }
 }

@@ -19,9 +19,6 @@ pub const MEASUREMENTS: [Measurement; 5] = [
     Measurement::Mounts,
 ];
 
-/// The word of each measurement.
-pub const WORDS: [&str; 5] = ["calls", "threads", "checkpoints", "cleaning", "mounts"];
-
 impl Measurement {
     /// Its word in the arguments and in front of its lines.
     pub fn name(self) -> &'static str {

@@ -1,5 +1,5 @@
-//! Tests of sizes and shapes, of the device in memory, of packs, of the byte formats, of the checker and of a new volume's bytes, by their public calls. They
-//! stand apart, so that to prove them does not take the proofs of those crates again.
+//! Tests of sizes and shapes, of the device in memory, of packs, of the byte formats, of the checker, of a new volume's bytes and of a
+//! folder's, by their public calls. They stand apart, so that to prove them does not take the proofs of those crates again.
 #![tactic(auto)]
 
 #[cfg(test)]
@@ -16,6 +16,8 @@ mod error;
 mod faulty;
 #[cfg(test)]
 mod file_calls;
+#[cfg(test)]
+mod folder_calls;
 #[cfg(test)]
 mod format_calls;
 #[cfg(test)]

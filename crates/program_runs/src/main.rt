@@ -67,7 +67,7 @@ fn called<R: Runtime + Threads + Wait + Sync + Files<File = File>>(
     for word in env::args(rt)? {
         words.push(word)?;
     }
-    let Some(Request { only, count }) = read_request(alloc, words.as_slice())? else {
+    let Some(Request { only, count }) = read_request(words.as_slice()) else {
         eprintln!(rt; "{USAGE}")?;
         return Ok(MISUSED);
     };

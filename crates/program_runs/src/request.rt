@@ -1,7 +1,4 @@
 //! What the program is asked for.
-use clap::error::ErrorKind;
-use clap::{Arg, Command, Error};
-use std::alloc::{AllocError, Global};
 use std::convert::AsStr;
 
 /// What is printed of words that are refused.
@@ -45,16 +42,17 @@ pub struct Request {
 }
 
 impl Part {
-    /// The word that asks for it.
-    fn word(self) -> &'static str {
-        match self {
-            Part::Cases => "cases",
-            Part::Sweep => "sweep",
-            Part::Crashes => "crashes",
-            Part::Machine => "machine",
-            Part::Schedules => "schedules",
-            Part::Damage => "damage",
-            Part::Growths => "growths",
+    /// The part that a word asks for.
+    fn named(word: &str) -> Option<Part> {
+        match word {
+            "cases" => Some(Part::Cases),
+            "sweep" => Some(Part::Sweep),
+            "crashes" => Some(Part::Crashes),
+            "machine" => Some(Part::Machine),
+            "schedules" => Some(Part::Schedules),
+            "damage" => Some(Part::Damage),
+            "growths" => Some(Part::Growths),
+            _ => None,
         }
     }
 
@@ -71,69 +69,24 @@ impl Part {
 }
 
 /// What these words ask for, the first of which is the program's own name. None where they are not of the usage.
-pub fn read_request<S: AsStr>(alloc: Global, words: &[S]) -> Result<Option<Request>, AllocError> {
-    match parsed(alloc, words) {
-        Ok(request) => Ok(request),
-        Err(error) => match error.kind() {
-            ErrorKind::OutOfMemory => Err(AllocError),
-            _ => Ok(None),
-        },
-    }
-}
-
-fn parsed<S: AsStr>(alloc: Global, words: &[S]) -> Result<Option<Request>, Error> {
-    let matches = program(alloc)?.try_get_matches_from(words)?;
-    for part in [
-        Part::Cases,
-        Part::Sweep,
-        Part::Crashes,
-        Part::Machine,
-        Part::Schedules,
-        Part::Damage,
-        Part::Growths,
-    ] {
-        if let Some(found) = matches.subcommand_matches(part.word()) {
-            return Ok(requested(part, found.get_str("count")));
+pub fn read_request<S: AsStr>(words: &[S]) -> Option<Request> {
+    let Some(word) = words.get(1) else {
+        return Some(Request {
+            only: None,
+            count: None,
+        });
+    };
+    let only = Part::named(word.as_str());
+    match (words.get(2), words.get(3)) {
+        _ if only.is_none() || words.len() > 4 => None,
+        (None, _) => Some(Request { only, count: None }),
+        (Some(flag), Some(number)) if flag.as_str() == "--count" => {
+            let count = number.as_str().parse::<u32>().ok();
+            match count {
+                Some(_) => Some(Request { only, count }),
+                None => None,
+            }
         }
+        _ => None,
     }
-    Ok(Some(Request {
-        only: None,
-        count: None,
-    }))
-}
-
-// A part with the number beside it. None where that is none.
-fn requested(part: Part, count: Option<&str>) -> Option<Request> {
-    let only = Some(part);
-    match count {
-        None => Some(Request { only, count: None }),
-        Some(word) => match word.parse::<u32>() {
-            Ok(count) => Some(Request {
-                only,
-                count: Some(count),
-            }),
-            Err(_) => None,
-        },
-    }
-}
-
-fn program<'a>(alloc: Global) -> Result<Command<'a>, AllocError> {
-    let command = Command::new(alloc, "program_runs");
-    let command = with_part(alloc, command, "cases")?;
-    let command = with_part(alloc, command, "sweep")?;
-    let command = with_part(alloc, command, "crashes")?;
-    let command = with_part(alloc, command, "machine")?;
-    let command = with_part(alloc, command, "schedules")?;
-    let command = with_part(alloc, command, "damage")?;
-    with_part(alloc, command, "growths")
-}
-
-// Adds the word of a part.
-fn with_part<'a>(
-    alloc: Global,
-    command: Command<'a>,
-    word: &'a str,
-) -> Result<Command<'a>, AllocError> {
-    let count = Arg::new(alloc, "count").long("count");
-    command.subcommand(Command::new(alloc, word).arg(count)?)
 }
