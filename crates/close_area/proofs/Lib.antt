@@ -1,2 +1,4 @@
+pub mod Holding
+pub mod Emptied
 pub mod Giving
 pub mod Mounting

@@ -29,7 +29,7 @@ use Rattle.file_cells.specs.Cell.{CellView}
 use Rattle.file_cells.specs.Pass.{Pass}
 use Rattle.checkpoint_sync.specs.Held.{AreWritten}
 use Rattle.checkpoint_sync.specs.TakenFrom.{IsTakenFrom, cells_with}
-use Rattle.close_files.specs.HeldTokens.{HoldTokens}
+use Rattle.close_area.specs.HeldTokens.{HoldTokens}
 use Rattle.close_area.specs.Returned.{IsFileOf}
 use Rattle.close_area.specs.Shown.{AreShown}
 use Rattle.close_area.proofs.Giving.{some_same}

@@ -1,3 +1,4 @@
+pub mod HeldTokens
 pub mod Returned
 pub mod Shown
 pub mod Refused

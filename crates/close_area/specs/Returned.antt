@@ -8,7 +8,7 @@ use Rattle.nodes.specs.declared.file.FileState.{FileState}
 use Rattle.nodes.specs.File.{file_of}
 use Rattle.file_cells.specs.Cell.{CellView}
 use Rattle.file_cells.specs.Pass.{Pass}
-use Rattle.close_files.specs.HeldTokens.{HoldTokens}
+use Rattle.close_area.specs.HeldTokens.{HoldTokens}
 
 module _ {B L : Type 0} where
   -- how many of the files live

@@ -15,10 +15,10 @@ ghost use Rattle.close_area.specs.Returned.{living};
 ghost use Rattle.close_area.specs.Shown.{AreShown};
 
 use crate::returning::{into_accounts, return_files};
+use crate::written::WrittenFile;
 use area::MainArea;
 use area_emptying::{OwnedArea, Spare};
 use checkpoint_image::TakenImage;
-use close_files::WrittenFile;
 use device::Block;
 use file_cells::FilePass;
 use rights_books::FileAccount;

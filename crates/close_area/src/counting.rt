@@ -2,7 +2,7 @@
 ghost use Rattle.std.specs.Prelude.{◌≡◌, ◌≤◌, vec_len};
 ghost use Rattle.close_area.specs.Returned.{living};
 
-use close_files::WrittenFile;
+use crate::written::WrittenFile;
 use device::Block;
 use rights_names::VolumeName;
 

@@ -13,12 +13,14 @@ ghost use Rattle.close_area.specs.Returned.{living};
 ghost use Rattle.close_area.specs.Refused.{IsNotWritten};
 
 use crate::count_living;
+use crate::locks::share_files;
+use crate::rows::own_files;
 use crate::telling::tell_written;
+use crate::written::WrittenFile;
 use area::MainArea;
 use checkpoint::{PacksCell, Taken};
 use checkpoint_image::TakenImage;
 use checkpoint_sync::take_image;
-use close_files::{WrittenFile, own_files, share_files};
 use device::{Block, Meta};
 use file_cells::FileCell;
 use file_flush::FlushBuffer;

@@ -9,8 +9,9 @@ ghost use Rattle.checkpoint_sync.specs.Held.{AreWritten};
 ghost use Rattle.rights_permits.specs.Turns.{at_home};
 ghost use Rattle.close_area.specs.Returned.{living, AreGiven, AreReturned, IsFileOf};
 
+use crate::file::return_file;
+use crate::written::WrittenFile;
 use area_emptying::OwnedArea;
-use close_files::{WrittenFile, return_file};
 use device::Block;
 use file_cells::FilePass;
 use rights_books::{FileAccount, Permit};

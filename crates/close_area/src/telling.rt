@@ -3,7 +3,7 @@ ghost use Rattle.std.specs.Prelude.{◌≡◌, map};
 ghost use Rattle.rights_books.specs.Accounts.{AreFiles};
 ghost use Rattle.checkpoint_sync.specs.Held.{AreWritten};
 
-use close_files::WrittenFile;
+use crate::written::WrittenFile;
 use device::Block;
 use rights_names::VolumeName;
 

@@ -4,10 +4,9 @@
 mod saving;
 
 use program_run::status::{FAILED, MISUSED};
-use program_run::{check_image, run_script, tell_files, tell_io_failure};
+use program_run::{OpenGate, check_image, run_script, tell_files, tell_io_failure};
 use program_script::words::USAGE;
 use program_script::{Words, WordsError};
-use program_workers::OpenGate;
 use saving::save;
 use std::fs::File;
 use std::io::{LineWriter, Write};

@@ -1,3 +1,11 @@
+pub mod Doing
+pub mod Giving
+pub mod Keeping
+pub mod Lending
+pub mod Telling
+pub mod Looking
+pub mod Whole
+pub mod Zipping
 mod Consumed
 mod Front
 pub mod Texts

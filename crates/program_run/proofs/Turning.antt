@@ -13,11 +13,11 @@ use Rattle.program_script.specs.declared.script.Step.{Step}
 use Rattle.program_script.specs.declared.script.Step.TheVariants.{Part}
 use Rattle.program_script.specs.declared.script.Worker.{Worker}
 use Rattle.program_session.specs.Files.{AreInOrder, Files, Lends, StandInPlace}
-use Rattle.program_workers.specs.Duties.{AreFit, AreGiven, Hand, TookBack, told_text}
-use Rattle.program_workers.specs.Part.{PartWrites}
-use Rattle.program_workers.proofs.Keeping.{DidTasks, all_fit}
-use Rattle.program_workers.proofs.Lending.{same_files}
-use Rattle.program_workers.proofs.Whole.{whole}
+use Rattle.program_run.specs.Duties.{AreFit, AreGiven, Hand, TookBack, told_text}
+use Rattle.program_run.specs.Part.{PartWrites}
+use Rattle.program_run.proofs.Keeping.{DidTasks, all_fit}
+use Rattle.program_run.proofs.Lending.{same_files}
+use Rattle.program_run.proofs.Whole.{whole}
 use Rattle.program_run.specs.Crew.{Begins, HasHalted, IsAtPart, MayGoOn, RanOn, first_of}
 use Rattle.program_run.specs.Run.{StepsWrite, WroteSteps}
 use Rattle.program_run.specs.declared.crew.Halt.{Halt}

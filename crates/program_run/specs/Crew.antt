@@ -13,7 +13,7 @@ use Rattle.program_script.specs.declared.script.Step.TheVariants.{Part}
 use Rattle.program_script.specs.declared.script.Worker.{Worker}
 use Rattle.program_session.specs.Files.{AreInOrder, ArePlaced, Files, IsOpened, Lends, passes_among}
 use Rattle.program_session.specs.Lines.{unsynced_line}
-use Rattle.program_workers.specs.Duties.{AreFit, AreGiven, Hand, TookBack}
+use Rattle.program_run.specs.Duties.{AreFit, AreGiven, Hand, TookBack}
 use Rattle.program_run.specs.Run.{IsHalted, WroteSteps, is_part, mounted_of, names_line, opening_line}
 use Rattle.program_run.specs.declared.crew.Halt.{Halt}
 use Rattle.program_run.specs.declared.crew.Pause.{Pause}

@@ -1,3 +1,7 @@
+pub mod WorkerLines
+pub mod Tasks
+pub mod Duties
+pub mod Part
 pub mod Checking
 pub mod Run
 pub mod Ending

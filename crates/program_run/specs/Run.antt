@@ -25,7 +25,7 @@ use Rattle.program_run.specs.declared.steps.Carried.{Carried}
 use Rattle.program_run.specs.declared.steps.Opening.{Opening}
 use Rattle.program_run.specs.declared.stop.Stop.{Stop}
 use Rattle.program_run.specs.declared.stop.Stop.TheVariants.{BadLine, Failed, NoMemory, Refused}
-use Rattle.program_workers.specs.Part.{PartWrites}
+use Rattle.program_run.specs.Part.{PartWrites}
 
 abbrev pub format_line : List ℕ
 format_line = codes "format ok" ++ newline

@@ -1,10 +1,13 @@
 //! The steps of a script on one volume, up to the one where it is mounted again: a crew, whose parts are workers.
 ghost use Rattle.std.specs.Prelude.{◌≡◌, ◌≤◌, false, length, map, IfErr, IfNone, IfOk, IfSome};
 ghost use Rattle.program_session.specs.Files.{AreInOrder};
-ghost use Rattle.program_workers.specs.Duties.{AreFit};
+ghost use Rattle.program_run.specs.Duties.{AreFit};
 ghost use Rattle.program_run.specs.Crew.{Begins, HasNoPart, HasPart, IsLeft, Pauses};
 ghost use Rattle.program_run.specs.Run.{names_line};
 
+use crate::gate::Gate;
+use crate::hand::Hand;
+use crate::part::{give_shares, take_shares};
 use crate::setting::Setting;
 use crate::steps::{Carried, run_commands};
 use crate::stop::Stop;
@@ -14,7 +17,6 @@ use geometry::Error;
 use program_script::{Step, Worker};
 use program_session::lines::tell_unsynced;
 use program_session::{Session, close_readers, no_items};
-use program_workers::{Gate, Hand, give_shares, take_shares};
 use rights_names::VolumeName;
 use std::alloc::Global;
 use std::io::Write;
@@ -69,7 +71,7 @@ impl<'s, 'g, 'o, M: Meta, B: Block + Drop, G: Gate, O: Write> Crew<M, B>
     ghost use Rattle.flash_volume.specs.Turns.{Keeps};
     ghost use Rattle.program_run.specs.Crew.{HasHalted, MayGoOn};
     ghost use Rattle.program_session.specs.Files.{AreInOrder};
-    ghost use Rattle.program_workers.specs.Duties.{IsDone};
+    ghost use Rattle.program_run.specs.Duties.{IsDone};
 
     type Part = Hand<'s, G>;
 

@@ -5,13 +5,13 @@ ghost use Rattle.program_run.specs.Ending.{WentOn};
 ghost use Rattle.program_run.specs.Run.{names_line};
 
 use crate::crew::{Halt, Ran, Script};
+use crate::gate::Gate;
 use crate::setting::Setting;
 use crate::steps::Carried;
 use crate::stop::Stop;
 use device::{Block, Meta, Parts};
 use flash_volume::{Done, SharedBlock, visit_by_turns};
 use program_script::Step;
-use program_workers::Gate;
 use std::alloc::Global;
 use std::io::Write;
 use std::sync::Wait;

@@ -6,6 +6,7 @@ ghost use Rattle.program_run.specs.Ending.{LeftScript};
 ghost use Rattle.program_run.specs.Run.{WroteScript, WroteSomeScript, names_line};
 
 use crate::disk::{Faults, new_parts, with_faults, without_faults};
+use crate::gate::Gate;
 use crate::reading::read_all;
 use crate::remounting::{Left, run_mounted};
 use crate::setting::Setting;
@@ -18,7 +19,6 @@ use flash_volume::SharedBlock;
 use geometry::Geometry;
 use packs_format::one_image_law;
 use program_script::{Numbers, Script, Step};
-use program_workers::Gate;
 use std::alloc::Global;
 use std::io::{Read, Write};
 use std::sync::Wait;

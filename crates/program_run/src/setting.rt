@@ -1,6 +1,6 @@
 //! What a script runs in.
 use crate::disk::Faults;
-use program_workers::Gate;
+use crate::gate::Gate;
 
 /// What a script runs in beside its volume: what lets calls of its device fail, and the gate that its workers' calls go through.
 #[derive(Drop)]

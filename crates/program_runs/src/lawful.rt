@@ -1,7 +1,7 @@
 //! Lawful images that are damaged.
 use crate::fault::Fault;
 use crate::play::play;
-use program_workers::OpenGate;
+use program_run::OpenGate;
 use std::alloc::Global;
 use std::sync::Wait;
 use std::thread::Threads;

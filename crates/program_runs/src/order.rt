@@ -1,6 +1,6 @@
 //! A gate that lets calls begin in an order that a seed picks.
 use crate::chance::Chance;
-use program_workers::Gate;
+use program_run::Gate;
 use std::alloc::{AllocError, Global};
 use std::sync::{Condvar, Mutex, Wait};
 

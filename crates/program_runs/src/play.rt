@@ -1,6 +1,5 @@
 //! A script that is run, and what it told.
-use program_run::run_script;
-use program_workers::Gate;
+use program_run::{Gate, run_script};
 use std::alloc::Global;
 use std::sync::Wait;
 use std::thread::Threads;

@@ -5,7 +5,7 @@ use crate::judge::Trouble;
 use crate::play::play;
 use crate::scripts::{FORMAT, SCRIPTS, Script};
 use crate::trial::{try_script, without};
-use program_workers::OpenGate;
+use program_run::OpenGate;
 use std::alloc::Global;
 use std::io;
 use std::rt::Runtime;

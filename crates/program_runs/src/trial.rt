@@ -2,9 +2,9 @@
 use crate::fault::Fault;
 use crate::judge::{Judge, Trouble, Verdict};
 use crate::play::{Told, play};
+use program_run::OpenGate;
 use program_run::status::FAILED;
 use program_script::{Command, Script, ScriptError, Step};
-use program_workers::OpenGate;
 use std::alloc::{AllocError, Global};
 use std::sync::Wait;
 use std::thread::Threads;

@@ -13,7 +13,7 @@ use crate::cells::SpareCell;
 use crate::volume::Volume;
 use area::MainArea;
 use area_emptying::empty_area;
-use close_files::own_file;
+use close_area::own_file;
 use device::{Block, Meta, Parts};
 use file_cells::{FileCell, FilePass};
 use file_readers::{Seat, seats_out};

@@ -1,8 +1,7 @@
 //! What the program `f2fsim` tells of an input.
 use crate::cases::input::Input;
-use program_run::{check_image, run_script, tell_files};
+use program_run::{OpenGate, check_image, run_script, tell_files};
 use program_script::{Script, Words};
-use program_workers::OpenGate;
 use std::alloc::Global;
 use std::io;
 use std::io::Write;

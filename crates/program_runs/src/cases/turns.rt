@@ -1,6 +1,5 @@
 //! Scripts through a gate that holds each of two workers before its second call until the other's first one has answered.
-use program_run::run_script;
-use program_workers::Gate;
+use program_run::{Gate, run_script};
 use std::alloc::Global;
 use std::io::Write;
 use std::sync::Wait;

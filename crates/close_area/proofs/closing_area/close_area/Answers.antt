@@ -2,7 +2,7 @@ use Rattle.std.proofs.Common.{◌≡◌, ◌+◌, length, ap, sym, subst, ◌∙
 use Rattle.image_law.specs.Items.{Among}
 use Rattle.checkpoint_image.specs.View.{taken_view}
 use Rattle.checkpoint.specs.Files.{HoldContents}
-use Rattle.close_files.specs.HeldTokens.{HoldTokens}
+use Rattle.close_area.specs.HeldTokens.{HoldTokens}
 use Rattle.nodes.specs.File.{file_of}
 use Rattle.image_codec.specs.Blocks.{bytes_at}
 use Rattle.close_area.specs.Returned.{living}

@@ -8,7 +8,7 @@ use Rattle.image_law.specs.Items.{Among}
 use Rattle.rights_books.specs.Accounts.{HandView}
 use Rattle.checkpoint.specs.Files.{HoldContents}
 use Rattle.area_emptying.proofs.Nothing.{each_reset}
-use Rattle.close_files.specs.HeldTokens.{HoldTokens}
+use Rattle.close_area.specs.HeldTokens.{HoldTokens}
 use Rattle.nodes.specs.File.{file_of}
 use Rattle.file_cells.specs.Cell.{CellView}
 use Rattle.file_cells.specs.Pass.{Pass}

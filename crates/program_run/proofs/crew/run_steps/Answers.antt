@@ -2,7 +2,7 @@
 use Rattle.std.proofs.Common.{◌≡◌, ◌∙◌, ◌+◌, ◌-◌, [], ap, arith, drop, inr, length, map, refl, subst, sym, take}
 use Rattle.flash_volume.specs.Turns.{Held}
 use Rattle.program_session.specs.Files.{Lends}
-use Rattle.program_workers.specs.Duties.{AreGiven}
+use Rattle.program_run.specs.Duties.{AreGiven}
 use Rattle.program_run.specs.Crew.{IsLeave}
 use Rattle.program_run.specs.Run.{IsPaused, WroteSteps}
 use Rattle.program_run.proofs.Going.{rest_is}

@@ -1,9 +1,0 @@
-use Rattle.std.proofs.Common.{◌≡◌, take}
-use Rattle.program_session.specs.Work.{Wrote}
-use Rattle.program_workers.specs.Tasks.{TasksWrite}
-use Rattle.program_workers.proofs.tasks.run_tasks.Given as goal
-
-abbrev pub invariant-loop-task : goal.invariant-loop-task
-invariant-loop-task g l =
-    Wrote (TasksWrite l.fn.calls.worker (take l.task-index l.tasks) l.fn.share l.share) (g.W.Write.contents l.fn.out) (g.W.Write.contents l.out)
-    × (l.calls.worker ≡ l.fn.calls.worker)

@@ -1,4 +1,0 @@
-pub mod Lines
-pub mod Tasks
-pub mod Duties
-pub mod Part
