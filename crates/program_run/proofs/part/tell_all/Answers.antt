@@ -2,7 +2,7 @@ use Rattle.std.proofs.Common.{◌++◌, subst, sym}
 use Rattle.std.specs.Io.KnownBytes.{Appends}
 use Rattle.std.proofs.KnownBytes.{Appends-trans}
 use Rattle.program_run.specs.WorkerLines.{end_line}
-use Rattle.program_run.proofs.Telling.{told_next}
+use Rattle.program_run.proofs.WorkerTelling.{told_next}
 use Rattle.program_run.proofs.part.tell_all.Goals as goal
 
 pub loop-number-preserved : goal.loop-number-preserved
