@@ -11,14 +11,14 @@ use Rattle.rights_books.specs.Accounts.{FileView, AreFiles}
 use Rattle.image.specs.Image.{Image}
 use Rattle.nodes.specs.declared.file.FileState.{FileState}
 use Rattle.checkpoint_image.specs.Cells.{Filed, IsFiledAt}
-use Rattle.checkpoint_files.specs.TreeOf.{seen, tree_of}
-use Rattle.checkpoint_files.proofs.Contents.{is_state_of}
-use Rattle.checkpoint_files.specs.FileParts.{filed_of, IsFlushedOrNone}
-use Rattle.checkpoint_files.proofs.Filing.{filed}
+use Rattle.checkpoint_sync.specs.TreeOf.{seen, tree_of}
+use Rattle.checkpoint_sync.proofs.Contents.{is_state_of}
+use Rattle.checkpoint_sync.specs.FileParts.{filed_of, IsFlushedOrNone}
+use Rattle.checkpoint_sync.proofs.Filing.{filed}
 use Rattle.file_cells.specs.Cell.{CellView}
-use Rattle.checkpoint_sync.specs.Held.{IsWrittenCell, AreWritten}
-use Rattle.checkpoint_locks.specs.Held.{AreHeldFiles, HasTrees}
-use Rattle.checkpoint_locks.proofs.Laws.{shown_by}
+use Rattle.checkpoint_sync.specs.WrittenFiles.{IsWrittenCell, AreWritten}
+use Rattle.checkpoint_sync.specs.LocksHeld.{AreHeldFiles, HasTrees}
+use Rattle.checkpoint_sync.proofs.LockLaws.{shown_by}
 use Rattle.checkpoint.specs.Files.{IsStateOf}
 
 module _ {B L : Type 0} where

@@ -1,3 +1,12 @@
+pub mod Turns
+pub mod LockLaws
+pub mod Stored
+pub mod TreeHeld
+pub mod Slots
+pub mod FileLaws
+pub mod Owned
+pub mod Contents
+pub mod Filing
 pub mod Serving
 pub mod Seen
 pub mod Laws

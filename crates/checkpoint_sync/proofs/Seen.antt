@@ -5,7 +5,7 @@ use Rattle.atomic_table.specs.Seated.{TableId}
 use Rattle.rights_books.proofs.Dealing.{slice_get_push}
 use Rattle.geometry.specs.declared.geometry.Geometry.{Geometry}
 use Rattle.file_cells.specs.Cell.{CellView}
-use Rattle.checkpoint_sync.specs.Held.{IsWrittenCell, AreWritten}
+use Rattle.checkpoint_sync.specs.WrittenFiles.{IsWrittenCell, AreWritten}
 
 -- one more file
 pub one_more : {B L : Type 0} (book : TableId) (geometry : Geometry) (files : List (CellView B L)) (c : CellView B L) → AreWritten book geometry files

@@ -1,3 +1,7 @@
-pub mod Held
+pub mod LocksHeld
+pub mod TreeOf
+pub mod Owned
+pub mod FileParts
+pub mod WrittenFiles
 pub mod Lent
 pub mod TakenFrom

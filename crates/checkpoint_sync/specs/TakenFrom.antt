@@ -5,7 +5,7 @@ use Rattle.image.specs.Image.{Image}
 use Rattle.image_law.specs.Parts.{IsImageOf}
 use Rattle.checkpoint_image.specs.Cells.{Cells, Filed, parts_of}
 use Rattle.checkpoint_image.specs.PartsLaw.{ArePartsOf, IsFaithfulImage}
-use Rattle.checkpoint_locks.specs.Held.{AreaView, held_cells}
+use Rattle.checkpoint_sync.specs.LocksHeld.{AreaView, held_cells}
 
 -- what lay in all locks, with these files
 abbrev pub cells_with : AreaView → List Filed → Cells

@@ -4,13 +4,13 @@ ghost use Rattle.geometry.specs.declared.error.Error.TheVariants.{NoMemory};
 ghost use Rattle.image.specs.Rules.{IsLawful};
 ghost use Rattle.rights_books.specs.Accounts.{AreFiles};
 ghost use Rattle.checkpoint_image.specs.View.{taken_view};
-ghost use Rattle.checkpoint_locks.specs.Held.{AreHeldFiles, HasTrees};
+ghost use Rattle.checkpoint_sync.specs.LocksHeld.{AreHeldFiles, HasTrees};
 ghost use Rattle.rights_permits.specs.Turns.{at_home};
 ghost use Rattle.checkpoint_sync.specs.TakenFrom.{IsTakenFrom};
 
+use crate::lock_area;
 use area::MainArea;
 use checkpoint_image::{AuditedFile, TakenImage};
-use checkpoint_locks::lock_area;
 use device::Block;
 use geometry::Error;
 use rights_names::VolumeName;

@@ -5,7 +5,7 @@ ghost use Rattle.tree.specs.Change.{each_marked};
 ghost use Rattle.nodes.specs.File.{weight_of, file_of};
 ghost use Rattle.rights_permits.specs.Turns.{at_home};
 ghost use Rattle.file_cells.specs.Cell.{IsLodged};
-ghost use Rattle.checkpoint_sync.specs.Held.{IsWrittenCell};
+ghost use Rattle.checkpoint_sync.specs.WrittenFiles.{IsWrittenCell};
 
 use area::MainArea;
 use device::Block;

@@ -4,7 +4,7 @@ ghost use Rattle.std.specs.Sync.Mutex.{mutex_guard_value};
 ghost use Rattle.geometry.specs.declared.error.Error.TheVariants.{NoSpace, Device};
 ghost use Rattle.nodes.specs.File.{file_of};
 ghost use Rattle.rights_permits.specs.Turns.{at_home};
-ghost use Rattle.checkpoint_sync.specs.Held.{IsWrittenCell};
+ghost use Rattle.checkpoint_sync.specs.WrittenFiles.{IsWrittenCell};
 
 use crate::flushing::flush_cell;
 use area::MainArea;
@@ -28,7 +28,7 @@ pub struct HeldFile<'a, V: VolumeName + 'a, B: Block + Drop + 'a> {
 impl<'a, V: VolumeName + 'a, B: Block + Drop + 'a> Model for HeldFile<'a, V, B> {
     ghost use Rattle.std.specs.Sync.Mutex.{mutex_guard_value};
     ghost use Rattle.file_cells.specs.Cell.{CellView};
-    ghost use Rattle.checkpoint_sync.specs.Held.{IsWrittenCell};
+    ghost use Rattle.checkpoint_sync.specs.WrittenFiles.{IsWrittenCell};
 
     ghost Value = { CellView B B.Lease };
 
@@ -89,7 +89,7 @@ impl<'a, V: VolumeName + 'a, B: Block + Drop + 'a> HeldFile<'a, V, B> {
 }
 
 impl<'a, V: VolumeName + 'a, B: Block + Drop + 'a> HoldsFile for HeldFile<'a, V, B> {
-    ghost use Rattle.checkpoint_files.specs.FileParts.{filed_of};
+    ghost use Rattle.checkpoint_sync.specs.FileParts.{filed_of};
 
     ghost shown = { λ h. filed_of h.account h.state };
 }

@@ -2,8 +2,8 @@
 ghost use Rattle.std.specs.Prelude.{◌≡◌, map, reverse, vec_len};
 ghost use Rattle.rights_books.specs.Accounts.{AreFiles};
 ghost use Rattle.checkpoint_image.specs.View.{taken_view};
-ghost use Rattle.checkpoint_files.specs.FileParts.{filed_of};
-ghost use Rattle.checkpoint_locks.specs.Held.{HasTrees};
+ghost use Rattle.checkpoint_sync.specs.FileParts.{filed_of};
+ghost use Rattle.checkpoint_sync.specs.LocksHeld.{HasTrees};
 ghost use Rattle.checkpoint.specs.Files.{files_of};
 ghost use Rattle.checkpoint_sync.specs.Lent.{shown_by};
 

@@ -2,7 +2,7 @@
 ghost use Rattle.std.specs.Prelude.{◌≡◌, ◌≤◌, ◌⊎◌, [], vec_len, vec_capacity, OnOk, IfOk, IfErr};
 ghost use Rattle.geometry.specs.declared.error.Error.TheVariants.{NoMemory, NoSpace, Device};
 ghost use Rattle.rights_permits.specs.Turns.{at_home};
-ghost use Rattle.checkpoint_sync.specs.Held.{AreWritten};
+ghost use Rattle.checkpoint_sync.specs.WrittenFiles.{AreWritten};
 
 use crate::held::HeldFile;
 use area::{MainArea, lock_numbered};

@@ -5,7 +5,7 @@ ghost use Rattle.image.specs.Rules.{IsLawful};
 ghost use Rattle.checkpoint_image.specs.View.{taken_view};
 ghost use Rattle.checkpoint.specs.Files.{files_of};
 ghost use Rattle.rights_permits.specs.Turns.{at_home};
-ghost use Rattle.checkpoint_sync.specs.Held.{AreWritten};
+ghost use Rattle.checkpoint_sync.specs.WrittenFiles.{AreWritten};
 ghost use Rattle.checkpoint_sync.specs.Lent.{shown_by};
 
 use crate::area_image::take_image;

@@ -2,9 +2,9 @@
 use Rattle.std.proofs.Common.{◌≡◌, None, sym, subst}
 use Rattle.atomic_table.specs.Seated.{TableId}
 use Rattle.geometry.specs.declared.geometry.Geometry.{Geometry}
-use Rattle.checkpoint_files.specs.FileParts.{IsFlushedOrNone}
+use Rattle.checkpoint_sync.specs.FileParts.{IsFlushedOrNone}
 use Rattle.file_cells.specs.Cell.{CellView, IsLawfulCell, Keeps}
-use Rattle.checkpoint_sync.specs.Held.{IsWrittenCell}
+use Rattle.checkpoint_sync.specs.WrittenFiles.{IsWrittenCell}
 
 -- no node of it is to be written
 pub none_written : {B L : Type 0} (book : TableId) (geometry : Geometry) (c : CellView B L) → IsLawfulCell book geometry c → c.state ≡ None → IsWrittenCell book geometry c

@@ -21,13 +21,13 @@ use Rattle.checkpoint_image.proofs.Laws.{read_holds}
 use Rattle.checkpoint.specs.Files.{HoldContents}
 use Rattle.nodes.specs.declared.file.FileState.{FileState}
 use Rattle.nodes.specs.File.{file_of}
-use Rattle.checkpoint_files.specs.TreeOf.{seen, tree_of}
-use Rattle.checkpoint_files.proofs.Contents.{content_is}
-use Rattle.checkpoint_files.specs.FileParts.{filed_of, IsFlushed, IsFlushedOrNone}
-use Rattle.checkpoint_files.proofs.Filing.{filed}
+use Rattle.checkpoint_sync.specs.TreeOf.{seen, tree_of}
+use Rattle.checkpoint_sync.proofs.Contents.{content_is}
+use Rattle.checkpoint_sync.specs.FileParts.{filed_of, IsFlushed, IsFlushedOrNone}
+use Rattle.checkpoint_sync.proofs.Filing.{filed}
 use Rattle.file_cells.specs.Cell.{CellView}
 use Rattle.file_cells.specs.Pass.{Pass}
-use Rattle.checkpoint_sync.specs.Held.{AreWritten}
+use Rattle.checkpoint_sync.specs.WrittenFiles.{AreWritten}
 use Rattle.checkpoint_sync.specs.TakenFrom.{IsTakenFrom, cells_with}
 use Rattle.close_area.specs.HeldTokens.{HoldTokens}
 use Rattle.close_area.specs.Returned.{IsFileOf}

@@ -2,10 +2,10 @@
 ghost use Rattle.std.specs.Prelude.{◌≡◌, ◌≤◌, map, vec_len, vec_capacity};
 ghost use Rattle.device.specs.Parts.{IsBlockRun};
 ghost use Rattle.checkpoint_image.specs.View.{taken_view};
-ghost use Rattle.checkpoint_files.specs.FileParts.{filed_of};
+ghost use Rattle.checkpoint_sync.specs.FileParts.{filed_of};
 ghost use Rattle.geometry.specs.Area.{block_count};
 ghost use Rattle.geometry.specs.Shape.{block_bytes};
-ghost use Rattle.checkpoint_sync.specs.Held.{AreWritten};
+ghost use Rattle.checkpoint_sync.specs.WrittenFiles.{AreWritten};
 ghost use Rattle.image.specs.Files.{files as files_of};
 ghost use Rattle.image.specs.Reading.{read_nodes};
 ghost use Rattle.checkpoint_sync.specs.TakenFrom.{IsTakenFrom};

@@ -3,8 +3,8 @@ ghost use Rattle.std.specs.Prelude.{◌≡◌, ◌⊎◌, ◌+◌, ◌≤◌, tr
 ghost use Rattle.geometry.specs.declared.error.Error.TheVariants.{Device};
 ghost use Rattle.packs_format.specs.Holding.{HoldsTables};
 ghost use Rattle.device.specs.Disk.{Leaves};
-ghost use Rattle.checkpoint_files.specs.FileParts.{filed_of};
-ghost use Rattle.checkpoint_sync.specs.Held.{AreWritten};
+ghost use Rattle.checkpoint_sync.specs.FileParts.{filed_of};
+ghost use Rattle.checkpoint_sync.specs.WrittenFiles.{AreWritten};
 ghost use Rattle.image.specs.Rules.{IsLawful};
 ghost use Rattle.checkpoint_sync.specs.TakenFrom.{IsTakenFrom};
 ghost use Rattle.checkpoint_image.specs.View.{taken_view};

@@ -5,7 +5,7 @@ ghost use Rattle.area_emptying.specs.Home.{AreAtHome};
 ghost use Rattle.area_emptying.specs.Rows.{HaveNothing};
 ghost use Rattle.file_cells.specs.Cell.{CellView};
 ghost use Rattle.file_cells.specs.Pass.{Pass};
-ghost use Rattle.checkpoint_sync.specs.Held.{AreWritten};
+ghost use Rattle.checkpoint_sync.specs.WrittenFiles.{AreWritten};
 ghost use Rattle.rights_permits.specs.Turns.{at_home};
 ghost use Rattle.close_area.specs.Returned.{living, AreGiven, AreReturned, IsFileOf};
 

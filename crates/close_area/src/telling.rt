@@ -1,7 +1,7 @@
 //! What holds of files that were out of sight for a call.
 ghost use Rattle.std.specs.Prelude.{◌≡◌, map};
 ghost use Rattle.rights_books.specs.Accounts.{AreFiles};
-ghost use Rattle.checkpoint_sync.specs.Held.{AreWritten};
+ghost use Rattle.checkpoint_sync.specs.WrittenFiles.{AreWritten};
 
 use crate::written::WrittenFile;
 use device::Block;

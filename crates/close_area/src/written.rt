@@ -4,7 +4,7 @@ ghost use Rattle.geometry.specs.declared.error.Error.TheVariants.{NoSpace, Devic
 ghost use Rattle.nodes.specs.File.{file_of};
 ghost use Rattle.rights_permits.specs.Turns.{at_home};
 ghost use Rattle.file_cells.specs.Cell.{IsLodged};
-ghost use Rattle.checkpoint_sync.specs.Held.{IsWrittenCell};
+ghost use Rattle.checkpoint_sync.specs.WrittenFiles.{IsWrittenCell};
 
 use area::MainArea;
 use checkpoint_image::{AuditedFile, HoldsFile};
@@ -27,7 +27,7 @@ pub struct WrittenFile<V: VolumeName, B: Block + Drop> {
 
 impl<V: VolumeName, B: Block + Drop> Model for WrittenFile<V, B> {
     ghost use Rattle.file_cells.specs.Cell.{CellView};
-    ghost use Rattle.checkpoint_sync.specs.Held.{IsWrittenCell};
+    ghost use Rattle.checkpoint_sync.specs.WrittenFiles.{IsWrittenCell};
 
     ghost Value = { CellView B B.Lease };
 
@@ -118,7 +118,7 @@ impl<V: VolumeName, B: Block + Drop> WrittenFile<V, B> {
 }
 
 impl<V: VolumeName, B: Block + Drop> HoldsFile for WrittenFile<V, B> {
-    ghost use Rattle.checkpoint_files.specs.FileParts.{filed_of};
+    ghost use Rattle.checkpoint_sync.specs.FileParts.{filed_of};
 
     ghost shown = { λ w. filed_of w.account w.state };
 }

@@ -1,3 +1,12 @@
+pub mod Walks
+pub mod Standing
+pub mod Nothing
+pub mod Sums
+pub mod Nodes
+pub mod Laws
+pub mod Sorted
+pub mod Accounted
+pub mod NothingLeft
 pub mod Tables
 pub mod Rest
 pub mod Slips

@@ -32,9 +32,9 @@ use Rattle.mount_trees.specs.Loaded.{of_rights}
 use Rattle.mount_blocks.specs.Goods.{AreGoods}
 use Rattle.image_codec.specs.Blocks.{bytes_at}
 use Rattle.mount_blocks.specs.Table.{HaveBytes}
-use Rattle.mount_files.specs.Files.{HasFile, StandsFor, AreFiles}
-use Rattle.mount_files.proofs.Accounted.{file_held, no_tickets_of, no_tokens_of}
-use Rattle.mount_files.proofs.NothingLeft.{has_nothing}
+use Rattle.mount.specs.MountFiles.{HasFile, StandsFor, AreFiles}
+use Rattle.mount.proofs.Accounted.{file_held, no_tickets_of, no_tokens_of}
+use Rattle.mount.proofs.NothingLeft.{has_nothing}
 use Rattle.file_cells.specs.Pass.{Pass}
 use Rattle.mount.specs.Lodged.{HasLodged}
 

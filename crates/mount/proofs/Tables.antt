@@ -15,7 +15,7 @@ use Rattle.area.proofs.RoomLemmas.{are_accounts, are_posts, posts_long}
 use Rattle.mount_trees.specs.Goods.{in_place}
 use Rattle.mount_blocks.specs.Rights.{AreRights}
 use Rattle.mount_blocks.proofs.Tables.{nothing_weighs}
-use Rattle.mount_files.specs.Empty.{AreEmptyAccounts}
+use Rattle.mount.specs.Empty.{AreEmptyAccounts}
 
 -- places where nothing stands
 pub empty_table : {A : Type 0} (places : ℕ) (xs : List (Option A)) → xs ≡ replicate places None → weigh (in_place (λ _. 1)) xs ≡ 0

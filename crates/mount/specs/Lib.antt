@@ -1,3 +1,5 @@
+pub mod MountFiles
+pub mod Empty
 pub mod Made
 pub mod Logs
 pub mod Mounted

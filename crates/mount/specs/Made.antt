@@ -8,9 +8,9 @@ use Rattle.rights_names.specs.Names.{layout_of}
 use Rattle.nat.specs.Shard.{ShardNodes}
 use Rattle.mount_blocks.specs.Rights.{AreRights}
 use Rattle.mount_blocks.specs.Goods.{AreShards}
-use Rattle.mount_files.specs.Files.{AreRooms}
-use Rattle.mount_files.specs.Empty.{AreEmptyAccounts}
-use Rattle.mount_files.specs.declared.loading_all.VolumeMemory.{VolumeMemory}
+use Rattle.mount.specs.MountFiles.{AreRooms}
+use Rattle.mount.specs.Empty.{AreEmptyAccounts}
+use Rattle.mount.specs.declared.loading_all.VolumeMemory.{VolumeMemory}
 use Rattle.words.specs.Tokens.{fresh_holder}
 use Rattle.mount.specs.declared.made.MountTables.{MountTables}
 

@@ -2,7 +2,7 @@
 ghost use Rattle.std.specs.Prelude.{◌≡◌, ◌+◌, ◌<◌, ◌≤◌, ◌++◌, ℕ, List, None, Some, true, false, map, vec_capacity, vec_len, MatchOption};
 ghost use Rattle.std.specs.Option.{option_to_list};
 ghost use Rattle.rights_books.specs.Accounts.{FileView};
-ghost use Rattle.mount_files.specs.Files.{AreFiles, StandsFor};
+ghost use Rattle.mount.specs.MountFiles.{AreFiles, StandsFor};
 ghost use Rattle.mount_trees.specs.FileLoaded.{IsLoadedFile};
 ghost use Rattle.image.specs.Files.{file_of as image_file, files as image_files};
 ghost use Rattle.image.specs.Rules.{IsLawful};
@@ -21,11 +21,11 @@ ghost use Rattle.tickets.specs.Placed.{Placed};
 ghost use Rattle.rights_books.specs.declared.claim.Entry.{Entry};
 
 use crate::frames::FileFrames;
+use crate::law::tell_file;
 use device::Block;
 use file_cells::{FileCell, FilePass};
 use geometry::Geometry;
 use image::Image;
-use mount_files::tell_file;
 use mount_trees::{Stock, free_table};
 use nodes::FileState;
 use rights_books::{Books, FileAccount};

@@ -3,13 +3,13 @@ ghost use Rattle.std.specs.Prelude.{◌≡◌, ◌+◌, None, replicate, IfOk};
 ghost use Rattle.geometry.specs.Area.{block_count};
 ghost use Rattle.image.specs.Rules.{IsLawful};
 ghost use Rattle.image.specs.View.{image_view};
-ghost use Rattle.mount_files.specs.Files.{AreRooms};
+ghost use Rattle.mount.specs.MountFiles.{AreRooms};
 
+use crate::rooms::{free_file_rooms, new_file_rooms};
 use device::Block;
 use geometry::Geometry;
 use image::Image;
 use mount_blocks::new_table;
-use mount_files::{free_file_rooms, new_file_rooms};
 use mount_trees::{FileRoom, free_table};
 use nodes::FileState;
 use std::alloc::{AllocError, Global};

@@ -14,13 +14,13 @@ ghost use Rattle.mount.specs.Made.{IsMemory};
 
 use crate::files::lock_loaded_files;
 use crate::frames::{AreaFrames, FileFrames};
+use crate::loading_all::{LoadedVolume, VolumeMemory, load_volume};
 use crate::mounted_area::lock_area;
 use area::MainArea;
 use device::Block;
 use file_cells::{FileCell, FilePass};
 use geometry::Geometry;
 use image::Image;
-use mount_files::{LoadedVolume, VolumeMemory, load_volume};
 use pool::{Pool, PoolPass};
 use rights_books::Permit;
 use rights_names::VolumeName;

@@ -11,13 +11,13 @@ ghost use Rattle.rights_names.specs.Names.{layout_of};
 ghost use Rattle.words.specs.Tokens.{fresh_holder};
 
 use crate::goods::{Goods, free_goods, new_goods};
+use crate::loading_all::VolumeMemory;
 use crate::shards::new_shards;
 use area::{new_rooms, store_slips};
 use device::Block;
 use geometry::{Error, Geometry};
 use image::Image;
 use mount_blocks::{LoadedSegments, SegmentRights};
-use mount_files::VolumeMemory;
 use rights_books::{Books, Layout, Opened, Permits, SegmentAccount};
 use std::alloc::Global;
 use words::{CheckpointSeat, Dealt, Seat, Words};

@@ -16,6 +16,7 @@ ghost use Rattle.volume.specs.Picked.{HaveNames};
 ghost use Rattle.mount.specs.Made.{IsMemory};
 
 use crate::frames::MountFrames;
+use crate::loading_all::VolumeMemory;
 use crate::locked::load_locks;
 use crate::mounted::{Mounted, MountedQueues, NamedMount};
 use crate::{MountTables, free_memory};
@@ -24,7 +25,6 @@ use checkpoint::{ImagePacks, PacksCell};
 use device::{Block, Meta};
 use file_cells::FilePass;
 use file_readers::Seat;
-use mount_files::VolumeMemory;
 use mount_reading::{OpenFault, OpenedDevice};
 use pool::{Pool, PoolPass};
 use rights_books::FileAccount;

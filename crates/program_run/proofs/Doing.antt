@@ -3,8 +3,8 @@ use Rattle.std.proofs.Common.{◌∙◌, ℕ, List, [], ◌∷◌, ◌++◌, ap,
 use Rattle.std.proofs.KnownBytes.{Appends-trans}
 use Rattle.std.proofs.lemmas.List.{take_all, take_more}
 use Rattle.program_script.specs.declared.script.Task.{Task}
-use Rattle.program_session.specs.Files.{Files}
-use Rattle.program_session.specs.Work.{Wrote}
+use Rattle.program_run.specs.Files.{Files}
+use Rattle.program_run.specs.Work.{Wrote}
 use Rattle.program_run.specs.Tasks.{TaskWrites, TasksWrite}
 
 one_more : (number : ℕ) (tasks : List Task) (task : Task) (begun now new : Files) (lines line : List ℕ)

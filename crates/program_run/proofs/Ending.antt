@@ -16,8 +16,8 @@ use Rattle.image_codec.specs.Blocks.{bytes_at}
 use Rattle.packs_format.specs.OneImage.{OneImageLaw}
 use Rattle.program_script.specs.declared.script.Step.{Step}
 use Rattle.program_run.specs.Ending.{HoldsFiles, LeftScript, RanSteps, ToldParts, WasLeft}
-use Rattle.program_session.specs.Files.{passes_among}
-use Rattle.program_session.specs.Lines.{image_lines, unsynced_line}
+use Rattle.program_run.specs.Files.{passes_among}
+use Rattle.program_run.specs.Lines.{image_lines, unsynced_line}
 use Rattle.program_run.specs.Run.{EndsClosed, WroteScript, format_line}
 use Rattle.program_run.proofs.Shown.{files_shown}
 

@@ -7,8 +7,8 @@ use Rattle.flash_volume.specs.Turns.{Held, Lot}
 use Rattle.geometry.specs.declared.geometry.Geometry.{Geometry}
 use Rattle.program_script.specs.declared.script.Task.{Task}
 use Rattle.program_script.specs.declared.script.Worker.{Worker}
-use Rattle.program_session.specs.Files.{AreInOrder, Files}
-use Rattle.program_session.specs.Share.{IsPutBack}
+use Rattle.program_run.specs.Files.{AreInOrder, Files}
+use Rattle.program_run.specs.Share.{IsPutBack}
 use Rattle.program_run.specs.Duties.{AreBack, AreGiven, Hand, IsGiven}
 
 module _ (geometry : Geometry) where

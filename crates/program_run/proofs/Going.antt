@@ -17,8 +17,8 @@ use Rattle.file_readers.specs.Reader.{SnapshotOf}
 use Rattle.program_script.specs.declared.command.Command.TheVariants.{Work as WorkOf, Now, Create, Delete, Status as TellStatus, Snap, Done, Fail, Remount}
 use Rattle.program_script.specs.declared.script.Step.{Step}
 use Rattle.program_script.specs.declared.script.Step.TheVariants.{Command as CommandStep, Part}
-use Rattle.program_session.specs.Files.{ArePlaced, Files, IsOpened, no_files, open_count, passes_among}
-use Rattle.program_session.proofs.Placing.{nothing_there}
+use Rattle.program_run.specs.Files.{ArePlaced, Files, IsOpened, no_files, open_count, passes_among}
+use Rattle.program_run.proofs.Placing.{nothing_there}
 use Rattle.packs_format.specs.Grammar.{HasSuper}
 use Rattle.packs_format.proofs.Same.{one_geometry}
 use Rattle.program_run.specs.Ending.{AreLeft, LeftScript, LeftSome, WasLeft, WentOn}

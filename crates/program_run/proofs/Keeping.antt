@@ -12,8 +12,8 @@ use Rattle.program_script.specs.declared.command.Work.{Work}
 use Rattle.program_script.specs.declared.command.Work.TheVariants.{Write, Fill, Read, Cut, Clean, Sync, Look}
 use Rattle.program_script.specs.declared.script.Task.{Task}
 use Rattle.program_script.specs.declared.script.Worker.{Worker}
-use Rattle.program_session.specs.Files.{AreInOrder, Files, StandInPlace}
-use Rattle.program_session.specs.Work.{IsCut, IsFilled, IsWritten}
+use Rattle.program_run.specs.Files.{AreInOrder, Files, StandInPlace}
+use Rattle.program_run.specs.Work.{IsCut, IsFilled, IsWritten}
 use Rattle.program_run.specs.Duties.{AreFit, AreGiven, Hand, IsDone, IsMade}
 use Rattle.program_run.specs.Tasks.{TaskWrites, TasksWrite}
 

@@ -4,7 +4,7 @@ use Rattle.std.proofs.Common.{◌≡◌, ◌∙◌, ◌<◌, ℕ, suc, ◌+◌, 
 use Rattle.file_cells.specs.Pass.{Pass}
 use Rattle.flash_volume.specs.Turns.{Held}
 use Rattle.geometry.specs.declared.geometry.Geometry.{Geometry}
-use Rattle.program_session.specs.Files.{Files, Lends, StandInPlace, passes_among}
+use Rattle.program_run.specs.Files.{Files, Lends, StandInPlace, passes_among}
 
 -- each pass stands at its place, where so many places stand before
 abbrev StandFrom : ℕ → List (Option Pass) → Type 0

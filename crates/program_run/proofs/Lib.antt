@@ -1,3 +1,12 @@
+pub mod Hex
+pub mod OnOk
+pub mod FilePlaces
+pub mod Placing
+mod Counting
+pub mod OneCall
+pub mod Filling
+pub mod Moving
+pub mod Sharing
 pub mod Doing
 pub mod Giving
 pub mod Keeping

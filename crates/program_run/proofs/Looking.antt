@@ -1,8 +1,8 @@
 -- A reader that is open is told as outside of a part.
 use Rattle.std.proofs.Common.{ℕ, inl, inr, List}
 use Rattle.program_script.specs.declared.command.Work.TheVariants.{Look}
-use Rattle.program_session.specs.Files.{Files, HasReader}
-use Rattle.program_session.specs.Work.{IsLooked as IsLookedAt, WorkWrites}
+use Rattle.program_run.specs.Files.{Files, HasReader}
+use Rattle.program_run.specs.Work.{IsLooked as IsLookedAt, WorkWrites}
 use Rattle.program_run.specs.Tasks.{IsLooked, TaskWrites}
 
 open_told : (number : ℕ) (files : Files) (reader : ℕ) (line : List ℕ) → HasReader files reader → IsLookedAt files reader line → IsLooked number files reader line

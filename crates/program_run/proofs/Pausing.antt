@@ -10,7 +10,7 @@ use Rattle.flash_volume.specs.Turns.{Held, Lot}
 use Rattle.flash_volume.specs.declared.leave.Leave.{Leave}
 use Rattle.geometry.specs.declared.geometry.Geometry.{Geometry}
 use Rattle.program_script.specs.declared.script.Step.{Step}
-use Rattle.program_session.specs.Files.{Files}
+use Rattle.program_run.specs.Files.{Files}
 use Rattle.program_run.specs.Duties.{Hand}
 use Rattle.program_run.specs.Crew.{Begins, HasNoPart, IsLeave, IsLeft, Pauses}
 use Rattle.program_run.specs.Run.{IsHalted, IsPaused, is_part}

@@ -2,12 +2,12 @@
 -- lines follow one another.
 use Rattle.std.proofs.Common.{◌≡◌, ◌∙◌, ℕ, List, [], ◌∷◌, ◌++◌, ap, sym, subst, refl, append_assoc, append-nil, take, length, Option, ◌+◌, ◌<◌, ◌≤◌}
 use Rattle.program_script.specs.declared.script.Step.{Step}
-use Rattle.program_session.specs.Files.{Files}
+use Rattle.program_run.specs.Files.{Files}
 use Rattle.std.specs.Prelude.{get_or}
 use Rattle.std.specs.Io.KnownBytes.{Appends}
 use Rattle.std.proofs.KnownBytes.{Appends-trans}
 use Rattle.std.proofs.lemmas.List.{take_all, take_more}
-use Rattle.program_session.specs.Work.{Wrote}
+use Rattle.program_run.specs.Work.{Wrote}
 use Rattle.program_run.specs.Run.{StepWrites, StepsWrite, WroteSteps}
 
 pub one_more : (steps : List Step) (step : Step) (begun now new : Files) (lines line : List ℕ)

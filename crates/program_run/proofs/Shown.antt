@@ -15,8 +15,8 @@ use Rattle.geometry.specs.File.{Block, File}
 use Rattle.image.specs.Files.{file_of as image_file, files as files_of}
 use Rattle.image.specs.Image.{Image}
 use Rattle.image.specs.Walk.{is_taken, up_to}
-use Rattle.program_session.specs.Files.{ArePlaced, AreInOrder, Files, StandInPlace, passes_among, shown_files}
-use Rattle.program_session.proofs.Placing.{among_place, place_of_pass}
+use Rattle.program_run.specs.Files.{ArePlaced, AreInOrder, Files, StandInPlace, passes_among, shown_files}
+use Rattle.program_run.proofs.Placing.{among_place, place_of_pass}
 
 -- the items of the numbers below this one, one behind the other
 abbrev below : {A : Type 0} → ℕ → (ℕ → List A) → List A

@@ -5,7 +5,7 @@ use Rattle.std.proofs.lemmas.List.Concat.{flat_map-append}
 use Rattle.geometry.specs.declared.shape.Shape.{Shape}
 use Rattle.file_cells.specs.Pass.{Pass}
 use Rattle.geometry.specs.File.{File}
-use Rattle.program_session.specs.Lines.{file_line, lines_of}
+use Rattle.program_run.specs.Lines.{file_line, lines_of}
 
 abbrev pub pair : Pass → ℕ × File
 pair pass = (pass.number, pass.file)

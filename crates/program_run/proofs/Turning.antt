@@ -12,7 +12,7 @@ use Rattle.geometry.specs.declared.geometry.Geometry.{Geometry}
 use Rattle.program_script.specs.declared.script.Step.{Step}
 use Rattle.program_script.specs.declared.script.Step.TheVariants.{Part}
 use Rattle.program_script.specs.declared.script.Worker.{Worker}
-use Rattle.program_session.specs.Files.{AreInOrder, Files, Lends, StandInPlace}
+use Rattle.program_run.specs.Files.{AreInOrder, Files, Lends, StandInPlace}
 use Rattle.program_run.specs.Duties.{AreFit, AreGiven, Hand, TookBack, told_text}
 use Rattle.program_run.specs.Part.{PartWrites}
 use Rattle.program_run.proofs.Keeping.{DidTasks, all_fit}

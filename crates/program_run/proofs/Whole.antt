@@ -4,8 +4,8 @@ use Rattle.std.specs.List.{AllZip}
 use Rattle.flash_volume.specs.Turns.{Lot}
 use Rattle.geometry.specs.declared.geometry.Geometry.{Geometry}
 use Rattle.program_script.specs.declared.script.Worker.{Worker}
-use Rattle.program_session.specs.Files.{Files, Lends}
-use Rattle.program_session.specs.Share.{AreJoined, IsShare}
+use Rattle.program_run.specs.Files.{Files, Lends}
+use Rattle.program_run.specs.Share.{AreJoined, IsShare}
 use Rattle.program_run.proofs.Keeping.{DidTasks}
 use Rattle.program_run.proofs.Lending.{same_files, same_passes}
 use Rattle.program_run.specs.Duties.{AreBack, AreGiven, Hand, IsDone, IsGiven, IsMade, told_text}

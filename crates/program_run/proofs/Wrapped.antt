@@ -9,7 +9,7 @@ use Rattle.device.specs.Parts.{HasSize, IsBlockRun}
 use Rattle.geometry.specs.declared.geometry.Geometry.{Geometry}
 use Rattle.image_codec.specs.Blocks.{bytes_at}
 use Rattle.packs_format.specs.OneImage.{HoldVolume}
-use Rattle.program_session.specs.Lines.{image_lines}
+use Rattle.program_run.specs.Lines.{image_lines}
 use Rattle.program_run.specs.Ending.{ToldParts}
 use Rattle.std.specs.Io.KnownBytes.{Appends}
 

@@ -9,7 +9,7 @@ use Rattle.image.specs.Image.{Image}
 use Rattle.image.specs.Rules.{IsLawful}
 use Rattle.packs_format.specs.Grammar.{HasSuper}
 use Rattle.packs_format.specs.File.{HoldsImage, IsFileRefusal}
-use Rattle.program_session.specs.Lines.{image_line, refusal_line}
+use Rattle.program_run.specs.Lines.{image_line, refusal_line}
 use Rattle.program_run.specs.Ending.{ToldParts}
 
 -- the file has this superblock, and this lawful image in its picked pack

@@ -11,8 +11,8 @@ use Rattle.geometry.specs.declared.geometry.Geometry.{Geometry}
 use Rattle.program_script.specs.declared.script.Step.{Step}
 use Rattle.program_script.specs.declared.script.Step.TheVariants.{Part}
 use Rattle.program_script.specs.declared.script.Worker.{Worker}
-use Rattle.program_session.specs.Files.{AreInOrder, ArePlaced, Files, IsOpened, Lends, passes_among}
-use Rattle.program_session.specs.Lines.{unsynced_line}
+use Rattle.program_run.specs.Files.{AreInOrder, ArePlaced, Files, IsOpened, Lends, passes_among}
+use Rattle.program_run.specs.Lines.{unsynced_line}
 use Rattle.program_run.specs.Duties.{AreFit, AreGiven, Hand, TookBack}
 use Rattle.program_run.specs.Run.{IsHalted, WroteSteps, is_part, mounted_of, names_line, opening_line}
 use Rattle.program_run.specs.declared.crew.Halt.{Halt}

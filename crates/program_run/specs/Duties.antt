@@ -6,8 +6,8 @@ use Rattle.flash_volume.specs.Turns.{Held, Lot}
 use Rattle.geometry.specs.declared.geometry.Geometry.{Geometry}
 use Rattle.program_script.specs.declared.script.Task.{Task}
 use Rattle.program_script.specs.declared.script.Worker.{Worker}
-use Rattle.program_session.specs.Files.{AreInOrder, Files, Lends}
-use Rattle.program_session.specs.Share.{IsPutBack, IsShare}
+use Rattle.program_run.specs.Files.{AreInOrder, Files, Lends}
+use Rattle.program_run.specs.Share.{IsPutBack, IsShare}
 use Rattle.program_run.specs.WorkerLines.{end_line}
 use Rattle.program_run.specs.Tasks.{TasksWrite}
 

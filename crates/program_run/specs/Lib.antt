@@ -1,3 +1,8 @@
+pub mod Files
+pub mod Contents
+pub mod Lines
+pub mod Work
+pub mod Share
 pub mod WorkerLines
 pub mod Tasks
 pub mod Duties

@@ -3,8 +3,8 @@
 use Rattle.std.specs.Prelude.{◌≡◌, ℕ, ◌+◌, List, [], ◌∷◌, ◌++◌}
 use Rattle.program_script.specs.declared.script.Task.{Task}
 use Rattle.program_script.specs.declared.script.Worker.{Worker}
-use Rattle.program_session.specs.Files.{Files}
-use Rattle.program_session.specs.Share.{IsJoined, IsShare}
+use Rattle.program_run.specs.Files.{Files}
+use Rattle.program_run.specs.Share.{IsJoined, IsShare}
 use Rattle.program_run.specs.WorkerLines.{end_line}
 use Rattle.program_run.specs.Tasks.{TasksWrite}
 

@@ -18,9 +18,9 @@ use Rattle.program_script.specs.declared.command.Command.{Command}
 use Rattle.program_script.specs.declared.command.Command.TheVariants.{Work as WorkOf, Now, Create, Delete, Status as TellStatus, Snap, Done, Fail, Remount}
 use Rattle.program_script.specs.declared.script.Step.{Step}
 use Rattle.program_script.specs.declared.script.Step.TheVariants.{Command as CommandStep, Part}
-use Rattle.program_session.specs.Files.{ArePlaced, Files, IsOpened, no_files, open_count, passes_among, shown_files}
-use Rattle.program_session.specs.Lines.{created_line, done_line, image_lines, newline, refusal_line, status_line, taken_line, unsynced_line}
-use Rattle.program_session.specs.Work.{IsClosed, IsCreated, IsDeleted, IsTaken, WorkWrites}
+use Rattle.program_run.specs.Files.{ArePlaced, Files, IsOpened, no_files, open_count, passes_among, shown_files}
+use Rattle.program_run.specs.Lines.{created_line, done_line, image_lines, newline, refusal_line, status_line, taken_line, unsynced_line}
+use Rattle.program_run.specs.Work.{IsClosed, IsCreated, IsDeleted, IsTaken, WorkWrites}
 use Rattle.program_run.specs.declared.steps.Carried.{Carried}
 use Rattle.program_run.specs.declared.steps.Opening.{Opening}
 use Rattle.program_run.specs.declared.stop.Stop.{Stop}

@@ -6,11 +6,11 @@ use Rattle.cleaning.specs.declared.section.Cleaned.{Cleaned}
 use Rattle.program_script.specs.declared.command.Work.{Work}
 use Rattle.program_script.specs.declared.command.Work.TheVariants.{Write, Fill, Read, Cut, Clean, Sync, Look}
 use Rattle.program_script.specs.declared.script.Task.{Task}
-use Rattle.program_session.specs.declared.content.Content.{Content}
-use Rattle.program_session.specs.declared.synced.Synced.{Synced}
-use Rattle.program_session.specs.Files.{Files, HasReader, reader_at, shown_by}
-use Rattle.program_session.specs.Lines.{look_line}
-use Rattle.program_session.specs.Work.{IsCut, IsFilled, IsFound, IsSynced, IsTidied, IsWritten}
+use Rattle.program_run.specs.declared.content.Content.{Content}
+use Rattle.program_run.specs.declared.synced.Synced.{Synced}
+use Rattle.program_run.specs.Files.{Files, HasReader, reader_at, shown_by}
+use Rattle.program_run.specs.Lines.{look_line}
+use Rattle.program_run.specs.Work.{IsCut, IsFilled, IsFound, IsSynced, IsTidied, IsWritten}
 use Rattle.program_run.specs.WorkerLines.{done_text, read_text, refused_line}
 
 -- what a reader shows was told, or a refusal where no such reader is open

@@ -2,8 +2,8 @@
 use Rattle.std.specs.Prelude.{ℕ, List, [], ◌++◌, codes, Option, Result, Ok, Err}
 use Rattle.std.specs.Fmt.{decimal}
 use Rattle.geometry.specs.declared.error.Error.{Error}
-use Rattle.program_session.specs.declared.content.Content.{Content}
-use Rattle.program_session.specs.Lines.{newline, read_line, refusal_line}
+use Rattle.program_run.specs.declared.content.Content.{Content}
+use Rattle.program_run.specs.Lines.{newline, read_line, refusal_line}
 
 -- a refusal of a worker's work
 abbrev pub refused_line : ℕ → Error → List ℕ

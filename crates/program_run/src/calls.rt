@@ -1,13 +1,13 @@
 //! The calls of one worker, which go through a gate.
 ghost use Rattle.std.specs.Prelude.{◌≡◌};
-ghost use Rattle.program_session.specs.Work.{IsCut, IsFilled, IsFound, IsSynced, IsTidied, IsWritten};
+ghost use Rattle.program_run.specs.Work.{IsCut, IsFilled, IsFound, IsSynced, IsTidied, IsWritten};
 
 use crate::gate::Gate;
+use crate::{Content, Session, Synced, policy_of};
 use cleaning::Cleaned;
 use device::{Block, Meta};
 use geometry::Error;
 use program_script::Cleaning;
-use program_session::{Content, Session, Synced, policy_of};
 use rights_names::VolumeName;
 use std::sync::Wait;
 

@@ -2,14 +2,14 @@
 ghost use Rattle.std.specs.Prelude.{◌≡◌, ◌≢◌, ◌⊎◌, Some, OnOk, IfOk, IfSome};
 ghost use Rattle.std.specs.Io.KnownBytes.{Appends};
 ghost use Rattle.program_run.specs.Checking.{TellsImage, TellsRefusal};
-ghost use Rattle.program_session.specs.Lines.{name_of, numbers_line, refusal_line};
+ghost use Rattle.program_run.specs.Lines.{name_of, numbers_line, refusal_line};
 
+use crate::lines::{tell_numbers, tell_refusal};
 use crate::reading::read_image;
 use crate::status::{DONE, REFUSED};
 use crate::stop::tell_io_failure;
 use image::Image;
 use packs_format::ReadImage;
-use program_session::lines::{tell_numbers, tell_refusal};
 use std::alloc::Global;
 use std::io;
 use std::io::{Read, Write};

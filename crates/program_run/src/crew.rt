@@ -1,22 +1,22 @@
 //! The steps of a script on one volume, up to the one where it is mounted again: a crew, whose parts are workers.
 ghost use Rattle.std.specs.Prelude.{◌≡◌, ◌≤◌, false, length, map, IfErr, IfNone, IfOk, IfSome};
-ghost use Rattle.program_session.specs.Files.{AreInOrder};
+ghost use Rattle.program_run.specs.Files.{AreInOrder};
 ghost use Rattle.program_run.specs.Duties.{AreFit};
 ghost use Rattle.program_run.specs.Crew.{Begins, HasNoPart, HasPart, IsLeft, Pauses};
 ghost use Rattle.program_run.specs.Run.{names_line};
 
 use crate::gate::Gate;
 use crate::hand::Hand;
+use crate::lines::tell_unsynced;
 use crate::part::{give_shares, take_shares};
 use crate::setting::Setting;
 use crate::steps::{Carried, run_commands};
 use crate::stop::Stop;
+use crate::{Session, close_readers, no_items};
 use device::{Block, Meta};
 use flash_volume::{Crew, Duty, Ended, Leave, Lent, Turn};
 use geometry::Error;
 use program_script::{Step, Worker};
-use program_session::lines::tell_unsynced;
-use program_session::{Session, close_readers, no_items};
 use rights_names::VolumeName;
 use std::alloc::Global;
 use std::io::Write;
@@ -70,7 +70,7 @@ impl<'s, 'g, 'o, M: Meta, B: Block + Drop, G: Gate, O: Write> Crew<M, B>
     ghost use Rattle.std.specs.declared.io.Error.{Error as IoError};
     ghost use Rattle.flash_volume.specs.Turns.{Keeps};
     ghost use Rattle.program_run.specs.Crew.{HasHalted, MayGoOn};
-    ghost use Rattle.program_session.specs.Files.{AreInOrder};
+    ghost use Rattle.program_run.specs.Files.{AreInOrder};
     ghost use Rattle.program_run.specs.Duties.{IsDone};
 
     type Part = Hand<'s, G>;

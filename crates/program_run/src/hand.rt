@@ -1,8 +1,9 @@
 //! What a worker of a part is given, and what it does.
 ghost use Rattle.std.specs.Prelude.{◌≡◌, Ok, IfOk};
-ghost use Rattle.program_session.specs.Files.{AreInOrder};
+ghost use Rattle.program_run.specs.Files.{AreInOrder};
 ghost use Rattle.program_run.specs.Duties.{IsDone};
 
+use crate::Session;
 use crate::calls::Calls;
 use crate::gate::Gate;
 use crate::tasks::run_tasks;
@@ -10,7 +11,6 @@ use device::{Block, Meta};
 use flash_volume::{Lent, Part};
 use geometry::Error;
 use program_script::Task;
-use program_session::Session;
 use rights_names::VolumeName;
 use std::alloc::Global;
 use std::io;
@@ -81,7 +81,7 @@ pub(crate) fn memory<T>(made: Result<T, Error>) -> io::Result<T>
 
 impl<'t, M: Meta, B: Block + Drop, G: Gate> Part<M, B> for Hand<'t, G> {
     ghost use Rattle.std.specs.Prelude.{IfOk};
-    ghost use Rattle.program_session.specs.Files.{AreInOrder};
+    ghost use Rattle.program_run.specs.Files.{AreInOrder};
     ghost use Rattle.program_run.specs.Duties.{IsDone};
 
     type Done = io::Result<Vec<u8>>;

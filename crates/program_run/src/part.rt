@@ -2,16 +2,16 @@
 ghost use Rattle.std.specs.Prelude.{◌≡◌, length, map, All, IfOk, OnOk};
 ghost use Rattle.std.specs.Io.KnownBytes.{Appends};
 ghost use Rattle.std.specs.List.{AllZip};
-ghost use Rattle.program_session.specs.Files.{AreInOrder};
+ghost use Rattle.program_run.specs.Files.{AreInOrder};
 ghost use Rattle.program_run.specs.Duties.{AreBack, AreFit, AreGiven, IsMade, TookBack, told_text};
 
+use crate::Session;
 use crate::gate::Gate;
 use crate::hand::{Hand, memory};
 use crate::worker_lines::tell_end;
 use device::{Block, Meta};
 use flash_volume::{Duty, Ended, Lent};
 use program_script::Worker;
-use program_session::Session;
 use rights_names::VolumeName;
 use std::alloc::Global;
 use std::io;

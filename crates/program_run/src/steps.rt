@@ -2,17 +2,17 @@
 ghost use Rattle.std.specs.Prelude.{◌≡◌, ◌<◌, [], true, false, take, IfErr, IfOk, OnOk};
 ghost use Rattle.std.specs.Io.KnownBytes.{Appends};
 ghost use Rattle.program_script.specs.declared.command.Command.TheVariants.{Remount};
-ghost use Rattle.program_session.specs.Files.{open_count};
-ghost use Rattle.program_session.specs.Work.{Wrote};
+ghost use Rattle.program_run.specs.Files.{open_count};
+ghost use Rattle.program_run.specs.Work.{Wrote};
 ghost use Rattle.program_run.specs.Run.{CommandWrites, IsPaused, WroteSteps, is_remount, mounted_of, names_line, opening_line};
 
 use crate::disk::Faults;
+use crate::lines::{tell_created, tell_done, tell_refusal, tell_status, tell_taken};
 use crate::stop::Stop;
+use crate::{Session, run_work};
 use device::{Block, Meta};
 use geometry::Error;
 use program_script::{Command, Step};
-use program_session::lines::{tell_created, tell_done, tell_refusal, tell_status, tell_taken};
-use program_session::{Session, run_work};
 use rights_names::VolumeName;
 use std::io;
 use std::io::Write;

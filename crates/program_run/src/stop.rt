@@ -3,10 +3,10 @@ ghost use Rattle.std.specs.Prelude.{◌≡◌, ◌⊎◌, true, false};
 ghost use Rattle.program_run.specs.declared.stop.Stop.TheVariants.{NoMemory, Refused};
 ghost use Rattle.program_run.specs.Run.{names_line};
 
+use crate::lines::tell_refusal;
 use crate::status::{BAD_LINE, FAILED, REFUSED};
 use geometry::Error;
 use program_script::ScriptError;
-use program_session::lines::tell_refusal;
 use std::alloc::AllocError;
 use std::io;
 use std::io::Write;

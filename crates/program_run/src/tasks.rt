@@ -1,14 +1,14 @@
 //! What a worker does.
 ghost use Rattle.std.specs.Prelude.{◌≡◌, OnOk};
-ghost use Rattle.program_session.specs.Work.{Wrote};
+ghost use Rattle.program_run.specs.Work.{Wrote};
 ghost use Rattle.program_run.specs.Tasks.{TaskWrites, TasksWrite};
 
 use crate::calls::Calls;
 use crate::gate::Gate;
 use crate::worker_lines::{tell_done, tell_read, tell_refusal};
+use crate::{Session, run_work};
 use device::{Block, Meta};
 use program_script::{Task, Work};
-use program_session::{Session, run_work};
 use rights_names::VolumeName;
 use std::io;
 use std::io::Write;

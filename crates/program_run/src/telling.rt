@@ -4,16 +4,16 @@ ghost use Rattle.std.specs.Io.KnownBytes.{Appends};
 ghost use Rattle.device.specs.Parts.{IsBlockRun};
 ghost use Rattle.geometry.specs.Shape.{block_bytes};
 ghost use Rattle.program_run.specs.Ending.{ToldParts};
-ghost use Rattle.program_session.specs.Lines.{block_text, file_line, lines_of, total_line};
+ghost use Rattle.program_run.specs.Lines.{block_text, file_line, lines_of, total_line};
 ghost use Rattle.program_run.specs.Run.{names_line};
 
+use crate::Content;
+use crate::lines::tell_total;
 use crate::stop::Stop;
 use device::{Block, Meta, Parts};
 use file_cells::FilePass;
 use flash_volume::{Done, Leave, Rights, Visit, visit_volume};
 use geometry::Error;
-use program_session::Content;
-use program_session::lines::tell_total;
 use rights_names::VolumeName;
 use std::alloc::Global;
 use std::io::Write;
@@ -66,7 +66,7 @@ struct Told<'a, O> {
 impl<'a, M: Meta, B: Block + Drop, O: Write> Visit<M, B> for TellFiles<'a, O> {
     ghost use Rattle.std.specs.Prelude.{◌≡◌, ◌++◌, false, map, IfErr, OnOk};
     ghost use Rattle.std.specs.Io.KnownBytes.{Appends};
-    ghost use Rattle.program_session.specs.Lines.{lines_of, total_line};
+    ghost use Rattle.program_run.specs.Lines.{lines_of, total_line};
     ghost use Rattle.program_run.specs.Run.{names_line};
 
     type Output = Told<'a, O>;

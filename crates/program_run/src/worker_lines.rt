@@ -3,8 +3,8 @@ ghost use Rattle.std.specs.Prelude.{◌≡◌, OnOk};
 ghost use Rattle.std.specs.Io.KnownBytes.{Appends};
 ghost use Rattle.program_run.specs.WorkerLines.{done_text, end_line, read_text, refused_line};
 
+use crate::{Content, lines};
 use geometry::Error;
-use program_session::{Content, lines};
 use std::io;
 use std::io::Write;
 

@@ -1,6 +1,6 @@
 use Rattle.std.proofs.Common.{◌≡◌, ◌+◌, ◌≤◌, length, vec_len, vec_capacity}
 use Rattle.rights_permits.specs.Turns.{at_home}
-use Rattle.checkpoint_sync.specs.Held.{AreWritten}
+use Rattle.checkpoint_sync.specs.WrittenFiles.{AreWritten}
 use Rattle.checkpoint_sync.proofs.rows.flush_each.Given as goal
 
 abbrev pub invariant-loop-index : goal.invariant-loop-index

@@ -2,8 +2,8 @@ use Rattle.std.proofs.Common.{List, IfOk, map, sym, subst}
 use Rattle.rights_books.specs.Accounts.{AreFiles}
 use Rattle.checkpoint_image.specs.View.{taken_view}
 use Rattle.checkpoint_image.specs.Cells.{Filed}
-use Rattle.checkpoint_files.specs.FileParts.{filed_of}
-use Rattle.checkpoint_locks.specs.Held.{HasTrees}
+use Rattle.checkpoint_sync.specs.FileParts.{filed_of}
+use Rattle.checkpoint_sync.specs.LocksHeld.{HasTrees}
 use Rattle.checkpoint_sync.proofs.Laws.{accounts_are, held_are}
 use Rattle.checkpoint_sync.proofs.volume.take_held.Goals as goal
 

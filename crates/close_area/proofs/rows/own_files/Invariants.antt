@@ -1,5 +1,5 @@
 use Rattle.std.proofs.Common.{◌≡◌, ◌+◌, ◌≤◌, vec_len, vec_capacity}
-use Rattle.checkpoint_sync.specs.Held.{AreWritten}
+use Rattle.checkpoint_sync.specs.WrittenFiles.{AreWritten}
 use Rattle.close_area.proofs.rows.own_files.Given as goal
 
 abbrev pub invariant-files : goal.invariant-files

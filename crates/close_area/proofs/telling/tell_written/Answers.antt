@@ -4,7 +4,7 @@ use Rattle.std.proofs.lemmas.List.{length-take-le, take_all}
 use Rattle.std.proofs.lemmas.Option.{slice_get-map}
 use Rattle.std.proofs.Math.Seq.{take-suc}
 use Rattle.checkpoint_image.proofs.Turning.{got}
-use Rattle.checkpoint_sync.specs.Held.{AreWritten}
+use Rattle.checkpoint_sync.specs.WrittenFiles.{AreWritten}
 use Rattle.checkpoint_sync.proofs.Seen.{one_more}
 use Rattle.file_cells.specs.Cell.{CellView}
 use Rattle.close_area.proofs.telling.tell_written.Goals as goal

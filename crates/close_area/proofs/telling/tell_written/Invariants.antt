@@ -1,5 +1,5 @@
 use Rattle.std.proofs.Common.{take}
-use Rattle.checkpoint_sync.specs.Held.{AreWritten}
+use Rattle.checkpoint_sync.specs.WrittenFiles.{AreWritten}
 use Rattle.close_area.proofs.telling.tell_written.Given as goal
 
 abbrev pub invariant-loop-k : goal.invariant-loop-k

@@ -8,7 +8,7 @@ use Rattle.rights_books.specs.declared.claim.Layout.{Layout}
 use Rattle.rights_books.specs.Accounts.{FileView}
 use Rattle.geometry.specs.declared.geometry.Geometry.{Geometry}
 use Rattle.image.specs.View.{image_view}
-use Rattle.mount_files.specs.Files.{StandsFor, HasFile}
+use Rattle.mount.specs.MountFiles.{StandsFor, HasFile}
 use Rattle.mount_trees.specs.FileLoaded.{IsLoadedFile}
 use Rattle.mount.specs.Lodged.{HasLodged}
 use Rattle.mount.proofs.Rest.{EachFrom, begin_from, first_of, rest_of, later_kept, gone_kept, all_gone, first_none}

@@ -5,7 +5,7 @@ use Rattle.rights_claims.specs.Rules.{Ruled}
 use Rattle.rights_books.specs.declared.claim.Layout.{Layout}
 use Rattle.rights_books.specs.Accounts.{FileView}
 use Rattle.image_codec.specs.Blocks.{bytes_at}
-use Rattle.mount_files.specs.Empty.{AreEmptyAccounts}
+use Rattle.mount.specs.Empty.{AreEmptyAccounts}
 use Rattle.mount.proofs.Passes.{have_bytes}
 use Rattle.mount.proofs.locked.load_locks.Goals as goal
 

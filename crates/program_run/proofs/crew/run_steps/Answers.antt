@@ -1,7 +1,7 @@
 -- A turn ends with a part, or where the steps halt: what was run before it is told of the steps behind the first one.
 use Rattle.std.proofs.Common.{◌≡◌, ◌∙◌, ◌+◌, ◌-◌, [], ap, arith, drop, inr, length, map, refl, subst, sym, take}
 use Rattle.flash_volume.specs.Turns.{Held}
-use Rattle.program_session.specs.Files.{Lends}
+use Rattle.program_run.specs.Files.{Lends}
 use Rattle.program_run.specs.Duties.{AreGiven}
 use Rattle.program_run.specs.Crew.{IsLeave}
 use Rattle.program_run.specs.Run.{IsPaused, WroteSteps}

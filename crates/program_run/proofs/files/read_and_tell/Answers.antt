@@ -1,5 +1,5 @@
 use Rattle.std.proofs.Common.{List, ℕ, subst}
-use Rattle.program_session.proofs.OnOk.{on_ok}
+use Rattle.program_run.proofs.OnOk.{on_ok}
 use Rattle.program_run.specs.Checking.{IsDeviceOf, TellsFiles}
 use Rattle.program_run.specs.Ending.{ToldParts}
 use Rattle.program_run.specs.Reading.{IsEnoughOf, IsWhole}

@@ -1,8 +1,8 @@
 use Rattle.std.proofs.Common.{◌≡◌, ◌∙◌, ◌+◌, ◌∷◌, [], List, ap, map, sym, subst, take, IfOk}
 use Rattle.std.proofs.lemmas.List.{map-append}
 use Rattle.flash_volume.specs.Turns.{Lot}
-use Rattle.program_session.specs.Files.{Lends}
-use Rattle.program_session.specs.Share.{IsShare}
+use Rattle.program_run.specs.Files.{Lends}
+use Rattle.program_run.specs.Share.{IsShare}
 use Rattle.program_run.specs.Duties.{AreGiven, Hand, IsGiven}
 use Rattle.program_run.proofs.Giving.{given_next, hand_is}
 use Rattle.program_run.proofs.part.give_shares.Goals as goal

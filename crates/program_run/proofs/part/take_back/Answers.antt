@@ -1,5 +1,5 @@
 use Rattle.std.proofs.Common.{OnOk, subst, length}
-use Rattle.program_session.specs.Share.{IsPutBack}
+use Rattle.program_run.specs.Share.{IsPutBack}
 use Rattle.program_run.proofs.Giving.{back_mapped, still_fit}
 use Rattle.program_run.proofs.part.take_back.Goals as goal
 

@@ -1,5 +1,5 @@
 use Rattle.std.proofs.Common.{◌≡◌, All, length, map, vec_len}
-use Rattle.program_session.specs.Files.{AreInOrder, Files}
+use Rattle.program_run.specs.Files.{AreInOrder, Files}
 use Rattle.program_run.specs.Duties.{AreBack}
 use Rattle.program_run.proofs.part.take_back.Given as goal
 

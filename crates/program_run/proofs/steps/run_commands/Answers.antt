@@ -1,5 +1,5 @@
 use Rattle.std.proofs.Common.{[], arith, subst, sym}
-use Rattle.program_session.specs.Work.{Wrote}
+use Rattle.program_run.specs.Work.{Wrote}
 use Rattle.program_run.specs.Run.{StepWrites}
 use Rattle.program_run.proofs.Runs.{wrote_more}
 use Rattle.program_run.proofs.steps.run_commands.Goals as goal

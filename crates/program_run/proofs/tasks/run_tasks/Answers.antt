@@ -1,7 +1,7 @@
 use Rattle.std.proofs.Common.{◌∙◌, get_or, subst}
 use Rattle.program_script.specs.declared.command.Work.TheVariants.{Write}
 use Rattle.program_script.specs.declared.script.Task.{Task}
-use Rattle.program_session.specs.Work.{Wrote}
+use Rattle.program_run.specs.Work.{Wrote}
 use Rattle.program_run.specs.Tasks.{TaskWrites}
 use Rattle.program_run.proofs.Doing.{wrote_more}
 use Rattle.program_run.proofs.tasks.run_tasks.Goals as goal

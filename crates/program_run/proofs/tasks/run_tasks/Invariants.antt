@@ -1,5 +1,5 @@
 use Rattle.std.proofs.Common.{◌≡◌, take}
-use Rattle.program_session.specs.Work.{Wrote}
+use Rattle.program_run.specs.Work.{Wrote}
 use Rattle.program_run.specs.Tasks.{TasksWrite}
 use Rattle.program_run.proofs.tasks.run_tasks.Given as goal
 

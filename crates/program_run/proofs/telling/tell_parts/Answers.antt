@@ -1,7 +1,7 @@
 -- The visit began with the files of the image that the parts hold, and so it told their lines. The writer that comes back is the one
 -- that was lent, so what it holds is what `out` holds in the end.
 use Rattle.std.proofs.Common.{rules, OnOk}
-use Rattle.program_session.proofs.OnOk.{on_ok}
+use Rattle.program_run.proofs.OnOk.{on_ok}
 use Rattle.program_run.specs.Ending.{ToldParts}
 use Rattle.program_run.proofs.Loans.{ends_as}
 use Rattle.program_run.proofs.telling.tell_parts.Goals as goal

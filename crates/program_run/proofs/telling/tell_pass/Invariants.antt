@@ -1,6 +1,6 @@
 use Rattle.std.proofs.Common.{◌++◌}
 use Rattle.std.specs.Io.KnownBytes.{Appends}
-use Rattle.program_session.specs.Lines.{block_text, head_text, texts_below}
+use Rattle.program_run.specs.Lines.{block_text, head_text, texts_below}
 use Rattle.program_run.proofs.telling.tell_pass.Given as goal
 
 abbrev pub invariant-loop-index : goal.invariant-loop-index

@@ -1,6 +1,6 @@
 use Rattle.std.proofs.Common.{map, take}
 use Rattle.std.specs.Io.KnownBytes.{Appends}
-use Rattle.program_session.specs.Lines.{lines_of}
+use Rattle.program_run.specs.Lines.{lines_of}
 use Rattle.program_run.proofs.Texts.{pair}
 use Rattle.program_run.proofs.telling.tell_volume.Given as goal
 

@@ -1,5 +1,5 @@
 use Rattle.std.proofs.Common.{◌∙◌, arith}
-use Rattle.program_session.proofs.Filling.{one_more}
+use Rattle.program_run.proofs.Filling.{one_more}
 use Rattle.program_run.proofs.calls.Calls.fill.Goals as goal
 
 pub loop-index-preserved : goal.loop-index-preserved

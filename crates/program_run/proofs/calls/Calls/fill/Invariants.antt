@@ -1,5 +1,5 @@
 use Rattle.std.proofs.Common.{◌≡◌, ◌-◌, ◌≤◌}
-use Rattle.program_session.specs.Work.{IsFilledTo}
+use Rattle.program_run.specs.Work.{IsFilledTo}
 use Rattle.program_run.proofs.calls.Calls.fill.Given as goal
 
 abbrev pub invariant-loop-index : goal.invariant-loop-index

@@ -1,5 +1,0 @@
-use Rattle.checkpoint_files.proofs.Filing.{filed}
-use Rattle.checkpoint_files.proofs.law.file_parts_law.Goals as goal
-
-pub returns : goal.returns
-returns g c = λ geometry is. filed geometry c.args.account.now.inode c.args.account.now c.args.state.now is

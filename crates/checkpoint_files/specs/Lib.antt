@@ -1,3 +1,0 @@
-pub mod TreeOf
-pub mod Owned
-pub mod FileParts

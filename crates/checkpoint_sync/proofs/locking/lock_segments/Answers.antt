@@ -1,0 +1,17 @@
+use Rattle.std.proofs.Common.{◌≡◌, length, arith}
+use Rattle.checkpoint_sync.specs.LocksHeld.{IsHeldSegment}
+use Rattle.checkpoint_sync.proofs.Turns.{push_more}
+use Rattle.checkpoint_sync.proofs.locking.lock_segments.Goals as goal
+
+pub loop-number-preserved : goal.loop-number-preserved
+loop-number-preserved g c =
+    let old = c.loop-number.segments.items in
+    let count = c.loop-number.invariant.count in
+    let long = c.loop-number.segments.ok in
+    let as_long : length old ≡ c.loop-number.number = omega arith in
+    record {
+      count = (let more = c.push_reserved.ensures.len in omega arith);
+      room = (let same = c.push_reserved.ensures.capacity in let room = c.loop-number.invariant.room in omega arith);
+      are = push_more (IsHeldSegment g.V.Numbers.GeometryName.geometry g.V.Books.BooksName.books.book g.V.Words.WordsName.words) old c.push_reserved.new.self.items c.lock.result c.loop-number.number
+          c.push_reserved.ensures.items as_long c.loop-number.invariant.are c.lock.ensures;
+    }

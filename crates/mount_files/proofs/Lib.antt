@@ -1,9 +1,0 @@
-pub mod Walks
-pub mod Standing
-pub mod Nothing
-pub mod Sums
-pub mod Nodes
-pub mod Laws
-pub mod Sorted
-pub mod Accounted
-pub mod NothingLeft

@@ -1,9 +1,0 @@
-use Rattle.std.proofs.Common.{vec_len}
-use Rattle.mount_files.specs.Files.{AreOfFiles}
-use Rattle.mount_files.proofs.rooms.free_file_rooms.Given as goal
-
-abbrev pub invariant-loop-place : goal.invariant-loop-place
-invariant-loop-place g l = AreOfFiles l.rooms.items
-
-abbrev pub decreases-loop-place : goal.decreases-loop-place
-decreases-loop-place g l = vec_len l.rooms

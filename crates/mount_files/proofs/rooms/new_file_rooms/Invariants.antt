@@ -1,7 +1,0 @@
-use Rattle.image.specs.View.{image_view}
-use Rattle.mount_trees.specs.FileLoaded.{IsFileRoom}
-use Rattle.mount_files.proofs.Standing.{AreUpTo}
-use Rattle.mount_files.proofs.rooms.new_file_rooms.Given as goal
-
-abbrev pub invariant-loop-before : goal.invariant-loop-before
-invariant-loop-before g l = AreUpTo l.geometry (image_view l.image) (λ i room. IsFileRoom (image_view l.image) i room) l.rooms.items l.before

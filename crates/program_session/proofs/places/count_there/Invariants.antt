@@ -1,7 +1,0 @@
-use Rattle.std.proofs.Common.{◌≡◌, ◌^◌, ◌-◌, take}
-use Rattle.std.specs.Prelude.{min}
-use Rattle.program_session.proofs.Counting.{there}
-use Rattle.program_session.proofs.places.count_there.Given as goal
-
-abbrev pub invariant-loop-place : goal.invariant-loop-place
-invariant-loop-place g l = l.count ≡ min (there (take l.place-index l.places)) (2 ^ 32 - 1)

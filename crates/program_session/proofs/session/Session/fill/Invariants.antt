@@ -1,7 +1,0 @@
-use Rattle.std.proofs.Common.{◌-◌, ◌≤◌}
-use Rattle.program_session.specs.Work.{IsFilledTo}
-use Rattle.program_session.proofs.session.Session.fill.Given as goal
-
-abbrev pub invariant-loop-index : goal.invariant-loop-index
-invariant-loop-index g l =
-    IsFilledTo l.fn.self l.file l.first (l.index - l.first) l.byte l.self × (l.index - l.first ≤ l.last - l.first)
