@@ -16,7 +16,7 @@ use std::thread::Threads;
 use std::{fs, io};
 
 // The files, in the order in which they are played.
-const FILES: [&str; 13] = [
+const FILES: [&str; 14] = [
     "files",
     "readers",
     "cleans",
@@ -30,6 +30,7 @@ const FILES: [&str; 13] = [
     "inputs",
     "images",
     "saved",
+    "examples",
 ];
 
 // How many cases were played, and how many told something else than stands there.
