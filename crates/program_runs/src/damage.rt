@@ -2,7 +2,8 @@
 use crate::chance::Chance;
 use crate::fault::Fault;
 use crate::lawful::{AREA, Lawful, lawful_images};
-use crate::mounting::{Handed, mount_bytes};
+use crate::mounting::{Handed, is_same, mount_bytes};
+use flash_volume::Leave;
 use program_run::status::{DONE, REFUSED};
 use program_run::{check_image, tell_files};
 use std::alloc::Global;
@@ -64,12 +65,13 @@ fn is_refused<R: Runtime + Wait>(
     spoil(chance, &mut bytes)?;
     let (answer, time) = timed(rt, alloc, bytes.as_slice())?;
     let quick = time < limit || is_quick(rt, alloc, image, bytes.as_slice())?;
-    let handed = mount_bytes(rt, alloc, bytes.as_slice())?;
-    if !agree(&answer) || !agrees(alloc, &answer, &handed)? || !quick {
+    let handed = mount_bytes(rt, alloc, bytes.as_slice(), Leave::Discard)?;
+    let agreed = agree(&answer) && agrees(alloc, &answer, bytes.as_slice(), &handed)?;
+    if !agreed || !quick {
         let line = String::from_utf8_lossy(alloc, answer.line.as_slice())?;
         let files = String::from_utf8_lossy(alloc, answer.files.as_slice())?;
         let what = format!(in alloc;
-            "image {seed}: {line} and {files} and {handed:?}, quick: {quick}"
+            "image {seed}: {line} and {files}, agreed: {agreed}, quick: {quick}"
         )?;
         return Err(Fault::Wrong(what));
     }
@@ -181,14 +183,22 @@ fn total_of(lines: &[u8]) -> Option<u32> {
     total
 }
 
-// Whether a mount answers as the check does, and hands the same bytes back.
-fn agrees(alloc: Global, answer: &Answer, handed: &Handed) -> Result<bool, Fault> {
-    match handed {
-        Handed::Mounted { same } => Ok(*same && answer.status == DONE),
-        Handed::NoDevice => Ok(answer.status == REFUSED),
-        Handed::Refused { error, same } => {
+// Whether a mount of these bytes answers as the check does, and hands the same bytes back.
+fn agrees(
+    alloc: Global,
+    answer: &Answer,
+    bytes: &[u8],
+    handed: &Option<Handed>,
+) -> Result<bool, Fault> {
+    let Some(handed) = handed else {
+        return Ok(answer.status == REFUSED);
+    };
+    let same = is_same(bytes, handed.bytes.as_slice(), AREA);
+    match handed.refused {
+        None => Ok(same && answer.status == DONE),
+        Some(error) => {
             let number = format!(in alloc; "refused {} ", error.number())?;
-            Ok(*same && answer.line.as_slice().starts_with(number.as_bytes()))
+            Ok(same && answer.line.as_slice().starts_with(number.as_bytes()))
         }
     }
 }

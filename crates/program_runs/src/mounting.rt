@@ -1,21 +1,17 @@
 //! An image file's bytes that are mounted, and handed back.
-use crate::fault::Fault;
-use device::{Block, MemBlock, MemDevice, MemMeta, Meta, Parts};
+use device::{Block, MemDevice, Meta};
 use file_device::{FileFault, read_device};
-use flash_volume::{Leave, Rights, Volume, VolumeName, Work, work_on};
+use flash_volume::{Done, Leave, Rights, Volume, VolumeName, Work, work_on};
 use geometry::Error;
 use std::alloc::Global;
 use std::io;
 use std::sync::Wait;
 
-/// What a mount of an image file's bytes answers. Where they are those of a device, it hands bytes back: `same` says whether they
-/// are the same, but for a footer that was cleared.
-#[derive(Debug, Drop)]
-pub enum Handed {
-    /// They are not those of a device.
-    NoDevice,
-    Mounted { same: bool },
-    Refused { error: Error, same: bool },
+/// What a mount of a device's bytes leaves of them, and why it was refused, or the close behind it.
+#[derive(Drop)]
+pub struct Handed {
+    pub bytes: Vec<u8>,
+    pub refused: Option<Error>,
 }
 
 /// Work that does nothing.
@@ -36,42 +32,34 @@ impl<M: Meta, B: Block + Drop> Work<M, B> for Nothing {
     }
 }
 
-/// Mounts a device in memory with the bytes of an image file.
-pub fn mount_bytes<R: Wait>(rt: &R, alloc: Global, bytes: &[u8]) -> Result<Handed, Fault> {
+/// Mounts a device in memory with the bytes of an image file, and leaves it. Answers nothing where they are not those of a device.
+pub fn mount_bytes<R: Wait>(
+    rt: &R,
+    alloc: Global,
+    bytes: &[u8],
+    leave: Leave,
+) -> io::Result<Option<Handed>> {
     let mut input = bytes;
     let device = match read_device(alloc, &mut input) {
         Ok((_geometry, device)) if input.is_empty() => device,
-        Ok(_) | Err(FileFault::Refused(_)) => return Ok(Handed::NoDevice),
-        Err(FileFault::Io(error)) => return Err(Fault::Failed(error)),
-        Err(_) => return Err(Fault::Failed(io::Error::from(io::ErrorKind::Other))),
+        Ok(_) | Err(FileFault::Refused(_)) => return Ok(None),
+        Err(FileFault::Io(error)) => return Err(error),
+        Err(_) => return Err(io::Error::from(io::ErrorKind::Other)),
     };
-    let parts = device.split();
-    let area = parts.meta.len() as usize;
-    match work_on(rt, alloc, parts, Leave::Discard, Nothing) {
-        Ok(done) => Ok(Handed::Mounted {
-            same: is_handed_back(alloc, bytes, done.parts, area),
-        }),
-        Err(fault) => Ok(Handed::Refused {
-            error: fault.error,
-            same: is_handed_back(alloc, bytes, fault.parts, area),
-        }),
+    let (parts, refused) = match work_on(rt, alloc, device.split(), leave, Nothing) {
+        Ok(Done { parts, output: _ }) => (parts, None),
+        Err(fault) => (fault.parts, Some(fault.error)),
+    };
+    let mut bytes = Vec::new(alloc);
+    if MemDevice::join(parts).append_to(&mut bytes).is_err() {
+        return Err(io::Error::from(io::ErrorKind::OutOfMemory));
     }
+    Ok(Some(Handed { bytes, refused }))
 }
 
-// Whether the parts of a device have the same bytes as before, but for a footer of zeros.
-fn is_handed_back(
-    alloc: Global,
-    bytes: &[u8],
-    parts: Parts<MemMeta, MemBlock>,
-    area: usize,
-) -> bool {
-    let mut back = Vec::new(alloc);
-    let added = MemDevice::join(parts).append_to(&mut back);
-    added.is_ok() && is_same(bytes, back.as_slice(), area)
-}
-
-// Whether bytes are the same, but for a footer of zeros: each of the two slots behind the superblock ends with one of 4 bytes.
-fn is_same(bytes: &[u8], back: &[u8], area: usize) -> bool {
+/// Whether bytes are the same, but for a footer of zeros: each of the two slots behind the superblock ends with one of 4 bytes, and
+/// the second one with the meta area.
+pub fn is_same(bytes: &[u8], back: &[u8], area: usize) -> bool {
     if bytes.len() != back.len() {
         return false;
     }

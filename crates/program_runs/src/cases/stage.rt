@@ -3,12 +3,14 @@ use crate::cases::answer::{Question, answer, tell_call, tell_script};
 use crate::cases::input::{End, Input};
 use crate::cases::text::{bytes_of, number, push_lines};
 use crate::cases::turns::run_in_turns;
+use crate::mounting::mount_bytes;
+use flash_volume::Leave;
 use std::alloc::{AllocError, Global};
 use std::io;
 use std::io::Write;
 use std::sync::Wait;
 use std::thread::Threads;
-use test_support::{base_file, change, empty_file, file_of_format_one};
+use test_support::{base_file, empty_file, file_of_format_one};
 
 /// The lines of a script that is not run yet, an image file and one that is kept beside it, and what was told.
 #[derive(Drop)]
@@ -48,7 +50,8 @@ impl Stage {
     /// - `turns N` does so through a gate that holds two workers before their second call, each until the other's first has answered;
     /// - `run TEXT` and `parse TEXT` take a text as a script, `call WORDS` words of the program;
     /// - `empty`, `base` and `one`, of format 1, are images built by hand; `keep` keeps one, and `same` tells where another is not the same;
-    /// - `change PLACE=BYTE ..` and `cut LENGTH` change the image; `length` and `bytes FROM COUNT` tell what it is;
+    /// - `change PLACE=BYTE ..`, or `PLACE+COUNT=BYTE`, and `cut LENGTH` change the image; `length` and `bytes FROM COUNT` tell what it is;
+    /// - `mount` mounts the image and gives the volume up, and `close` closes it: the image is what they left, and a refusal is told;
     /// - `check` and `files` tell of the image, `endless` of one with zeros behind it, and `broken KIND` of one that cannot be read.
     pub fn step<R: Threads + Wait + Sync>(&mut self, rt: &R, step: &str) -> io::Result<()> {
         let (verb, rest) = step.split_once(' ').unwrap_or((step, ""));
@@ -63,6 +66,8 @@ impl Stage {
             "run" => self.run_text(rt, rest),
             "check" => self.ask(rt, Question::Check, End::Here),
             "files" => self.ask(rt, Question::Files, End::Here),
+            "mount" => self.mount(rt, Leave::Discard),
+            "close" => self.mount(rt, Leave::Close),
             "endless" => self.read_endless(rt),
             "broken" => self.read_broken(rt, rest),
             "parse" => {
@@ -127,6 +132,18 @@ impl Stage {
         Ok(())
     }
 
+    // Mounts the image, and leaves the volume.
+    fn mount<R: Wait>(&mut self, rt: &R, leave: Leave) -> io::Result<()> {
+        let Some(handed) = mount_bytes(rt, self.alloc, self.image.as_slice(), leave)? else {
+            return writeln!(self.told, "no device");
+        };
+        self.image = handed.bytes;
+        match handed.refused {
+            Some(error) => writeln!(self.told, "refused {}: {error}", error.number()),
+            None => Ok(()),
+        }
+    }
+
     fn read_endless<R: Threads + Wait + Sync>(&mut self, rt: &R) -> io::Result<()> {
         self.ask(rt, Question::Check, End::Never)?;
         self.ask(rt, Question::Files, End::Never)
@@ -158,13 +175,16 @@ impl Stage {
         Ok(())
     }
 
-    // Puts bytes at places of the image: `PLACE=BYTE ..`.
+    // Puts bytes at places of the image: `PLACE=BYTE ..`, or `PLACE+COUNT=BYTE` from one on.
     fn change(&mut self, changes: &str) {
         for word in changes.split(' ') {
-            if let Some((place, byte)) = word.split_once('=')
-                && let Ok(byte) = u8::from_str_radix(byte, 16)
-            {
-                change(self.image.as_mut_slice(), &[(number(place) as usize, byte)]);
+            let (place, byte) = word.split_once('=').unwrap_or((word, ""));
+            let (first, count) = place.split_once('+').unwrap_or((place, "1"));
+            let (first, count) = (number(first) as usize, number(count) as usize);
+            if let Ok(byte) = u8::from_str_radix(byte, 16) {
+                for changed in self.image.as_mut_slice().iter_mut().skip(first).take(count) {
+                    *changed = byte;
+                }
             }
         }
     }
