@@ -9,8 +9,8 @@
 use std::alloc::{AllocError, Global};
 /// Places of a file, and the bytes that are put there.
 pub type Changes<'a> = &'a [(usize, u8)];
-/// The superblock of 32 tiny segments, one a section, with 4 files and 64 node numbers.
-pub const SUPERBLOCK: [u8; 32] = [
+// The superblock of 32 tiny segments, one a section, with 4 files and 64 node numbers.
+const SUPERBLOCK: [u8; 32] = [
     0x46, 0x32, 0x53, 0x45, 0x47, 0x30, 0x30, 0x31, 1, 0, 0, 0, 0, 0, 0, 0, 0x20, 0, 0, 0, 1, 0, 0,
     0, 4, 0, 0, 0, 0x40, 0, 0, 0,
 ];

@@ -1,5 +1,0 @@
-use Rattle.rights_tests.proofs.turnstile_calls.with_books.Given as goal
-
--- the channel that was just made
-abbrev pub ghosts-with_turnstile : goal.ghosts-with_turnstile
-ghosts-with_turnstile g a = record { turns = a.opened.turns; key = a.opened.key }
