@@ -226,7 +226,7 @@ fn no_call_is_under_way_in_an_audit(rt: HostRuntime) -> Result<(), Fail> {
         let (permits, dealer) = books.deal_permits(dealer);
         let (account, _) = books.deal_segment(dealer);
         let wrong = with_books::<Brand, _>(&rt, alloc, callers, meet, books, permits, account)?;
-        assert!(rt; wrong.iter().all(|times| *times == 0));
+        assert!(rt; wrong.len() == callers.len() && wrong.iter().all(|times| *times == 0));
     }
     Ok(())
 }
