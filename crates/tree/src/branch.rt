@@ -3,10 +3,8 @@ ghost use Rattle.std.specs.Prelude.{◌≡◌, ◌*◌, ◌<◌, None, true, fal
 ghost use Rattle.tree.specs.Tree.{find_below, missing_below, namer_below, ShapedBelow, UsefulBelow, AreNone, number_of};
 ghost use Rattle.tree.specs.Change.{tree_node, weight_below};
 
-use crate::entries::{Entries, Pruned};
-use crate::spare::Spare;
+use crate::entries::Entries;
 use crate::subtree::Subtree;
-use device::DeviceError;
 use std::alloc::Global;
 use tickets::NidToken;
 
@@ -117,95 +115,6 @@ impl<C: Subtree> Subtree for Branch<C> {
         match slot {
             Some(branch) => branch.token.number(),
             None => 0,
-        }
-    }
-
-    fn address(slot: &Option<Branch<C>>, entries: usize, index: usize) -> u32 {
-        match slot {
-            Some(branch) => branch.entries.address(entries, entries, index),
-            None => 0,
-        }
-    }
-
-    fn is_clean(slot: &Option<Branch<C>>) -> bool {
-        match slot {
-            Some(branch) => branch.entries.is_clean(),
-            None => true,
-        }
-    }
-
-    fn put(
-        slot: &mut Option<Branch<C>>,
-        entries: usize,
-        index: usize,
-        ticket: C::Leaf,
-    ) -> Option<C::Leaf> {
-        match slot {
-            Some(branch) => branch.entries.put(entries, entries, index, ticket),
-            None => unreachable!(),
-        }
-    }
-
-    fn prune(slot: &mut Option<Branch<C>>, entries: usize, from: usize) -> Option<Spare<C::Leaf>> {
-        let pruned = match slot {
-            Some(branch) => branch.entries.prune(entries, entries, from),
-            None => return None,
-        };
-        match pruned {
-            Pruned::Found(spare) => Some(spare),
-            Pruned::Kept => None,
-            Pruned::Empty => match slot.take() {
-                Some(branch) => Some(Spare::Token(branch.into_token())),
-                None => unreachable!(),
-            },
-        }
-    }
-
-    fn migrate(
-        slot: &mut Option<Branch<C>>,
-        entries: usize,
-        nid: u32,
-        at: usize,
-        from: u32,
-        ticket: C::Leaf,
-    ) -> Result<C::Leaf, C::Leaf> {
-        let Some(branch) = slot else {
-            return Err(ticket);
-        };
-        if !C::is_leaf() {
-            return branch
-                .entries
-                .migrate(entries, entries, nid, at, from, ticket);
-        }
-        if branch.token.number() != nid {
-            return Err(ticket);
-        }
-        branch.entries.swap(entries, entries, at, from, ticket)
-    }
-
-    fn read(
-        slot: &mut Option<Branch<C>>,
-        entries: usize,
-        index: usize,
-        out: &mut [u8],
-    ) -> Result<(), DeviceError> {
-        match slot {
-            Some(branch) => branch.entries.read(entries, entries, index, out),
-            None => {
-                out.fill(0);
-                Ok(())
-            }
-        }
-    }
-
-    fn lend(
-        slot: &mut Option<Branch<C>>,
-        entries: usize,
-        index: usize,
-    ) -> Result<Option<C::Lease>, DeviceError> {
-        match slot {
-            Some(branch) => branch.entries.lend(entries, entries, index),
-            None => Ok(None),
         }
     }
 }

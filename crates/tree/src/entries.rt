@@ -4,8 +4,8 @@ ghost use Rattle.geometry.specs.Weights.{weigh};
 ghost use Rattle.tree.specs.Tree.{find_in, ShapedIn, AreNone, entry_at, number_of};
 ghost use Rattle.tree.specs.Change.{nothing, each_marked};
 
+use crate::Reading;
 use crate::slots::Slots;
-use crate::subtree::Subtree;
 use device::DeviceError;
 use std::alloc::{AllocError, Global};
 
@@ -68,7 +68,7 @@ fn names_nothing<C>(slots: &Slots<C>) -> bool
     true
 }
 
-impl<C: Subtree> Entries<C> {
+impl<C: Reading> Entries<C> {
     /// The address of the block at the index, 0 where there is none.
     pub fn address(&self, count: usize, entries: usize, index: usize) -> u32
         requires some { 0 < entries }

@@ -4,16 +4,20 @@
 #![tactic(auto)]
 
 mod branch;
+mod changing;
 mod entries;
 mod planting;
+mod reading;
 mod slots;
 mod spare;
 mod spare_entries;
 mod subtree;
 
 pub use branch::Branch;
+pub use changing::Changing;
 pub use entries::{Entries, Pruned};
 pub use planting::{Planting, SpareNodes};
+pub use reading::Reading;
 pub use slots::Slots;
 pub use spare::Spare;
 pub use spare_entries::{is_ready_in, plant_in, prepare_in};

@@ -1,11 +1,9 @@
 //! What an entry of a node may name: the ticket of a block, or a node with entries of its own.
-ghost use Rattle.std.specs.Prelude.{◌≡◌, ℕ, ◌+◌, ◌^◌, ◌<◌, ◌≤◌, List, Bool, true, false, Option, Some, None, is_none, length, replicate, OnOk, OnErr, IfOk, IfErr, MatchOption, IsTrue, ◌↔◌};
-ghost use Rattle.tree.specs.Tree.{SetsAt, Same, KeepsNamers, EmptyFrom, HandsOut, SwapsOne, SparesIndex, SparesPast, AsksPast, AsksEither, only_at_zero, number_of};
-ghost use Rattle.tree.specs.Change.{Weighing, ticket_weight, ChangesSlot, WeighsAs, nothing, each_marked, each_naming};
+ghost use Rattle.std.specs.Prelude.{◌≡◌, ℕ, ◌+◌, ◌^◌, ◌<◌, ◌≤◌, List, Bool, true, false, Option, Some, None};
+ghost use Rattle.tree.specs.Tree.{AsksEither, only_at_zero, number_of};
+ghost use Rattle.tree.specs.Change.{Weighing, ticket_weight};
 
-use crate::spare::Spare;
-use device::{Block, DeviceError};
-use std::mem;
+use device::Block;
 use tickets::Ticket;
 
 /// The ticket of a block, or a node with entries that name subtrees (Linux `filesystems/f2fs`, index structure).
@@ -14,6 +12,9 @@ use tickets::Ticket;
 /// index, `missing` the number of nodes that are not there on the way to it, `namer` the number of the node whose entries
 /// hold it, `useful` that each node that is asked about names something, and `weight` what all tickets and nodes weigh.
 /// `entries` is how many entries a node has.
+///
+/// What is done with a tree stands in traits above this one (`Reading`, `Changing`, `Planting`): a proof at a type of four levels
+/// goes through each method of each level's trait, so small ones are proved sooner.
 pub trait Subtree {
     /// The tickets.
     type Leaf;
@@ -59,106 +60,6 @@ pub trait Subtree {
     /// nothing.
     fn entry(slot: &Option<Self>) -> u32
         ensures { result ≡ number slot.now };
-
-    /// The address of the block at the index, 0 where there is none.
-    fn address(slot: &Option<Self>, entries: usize, index: usize) -> u32
-        requires some { 0 < entries }
-        requires fits { span_of entries < 2 ^ 64 }
-        requires inside { index < span_of entries }
-        requires shaped { shaped entries slot.now }
-        ensures { result ≡ number_of address_of (find entries slot.now index) };
-
-    /// Whether no node is marked as changed.
-    fn is_clean(slot: &Option<Self>) -> bool
-        ensures { IsTrue result ↔ (weight each_marked slot.now ≡ 0) };
-
-    /// Puts a ticket at the index, and hands out the one that stood there.
-    fn put(
-        slot: &mut Option<Self>,
-        entries: usize,
-        index: usize,
-        ticket: Self::Leaf,
-    ) -> Option<Self::Leaf>
-        requires some { 0 < entries }
-        requires fits { span_of entries < 2 ^ 64 }
-        requires inside { index < span_of entries }
-        requires shaped { shaped entries slot.old }
-        requires path { missing entries slot.old index ≡ 0 }
-        ensures old { result ≡ find entries slot.old index }
-        ensures sets { SetsAt (find entries slot.old) (find entries slot.new) index (Some ticket) }
-        ensures namer { Same (namer entries slot.old) (namer entries slot.new) }
-        ensures useful { (asked : ℕ → ℕ → Bool) (first : ℕ) → SparesIndex asked (first + index) → useful entries asked first slot.old → useful entries asked first slot.new }
-        ensures shaped { shaped entries slot.new }
-        ensures change { ChangesSlot number weight is_leaf slot.old slot.new (λ w. ticket_weight w result) (λ w. w.ticket ticket) };
-
-    /// Hands out one ticket at or past the index, or the token of a node that names nothing.
-    fn prune(slot: &mut Option<Self>, entries: usize, from: usize) -> Option<Spare<Self::Leaf>>
-        requires some { 0 < entries }
-        requires fits { span_of entries < 2 ^ 64 }
-        requires shaped { shaped entries slot.old }
-        ensures shaped { shaped entries slot.new }
-        ensures namer { KeepsNamers (find entries slot.new) (namer entries slot.old) (namer entries slot.new) }
-        ensures useful { (asked : ℕ → ℕ → Bool) (first : ℕ) → SparesPast asked (first + from) → useful entries asked first slot.old → useful entries asked first slot.new }
-        ensures past { MatchOption result ((asked : ℕ → ℕ → Bool) (first : ℕ) → AsksPast asked first (first + from) → useful entries asked first slot.new) (λ _. Unit {0}) }
-        ensures none { MatchOption result
-            ((slot.new ≡ slot.old) × EmptyFrom (find entries slot.old) from × (from ≡ 0 → slot.old ≡ None)) (λ _. Unit {0}) }
-        ensures out { MatchOption result (Unit {0}) (λ spare. HandsOut (find entries slot.old) (find entries slot.new) from spare) }
-        ensures change { MatchOption result (Unit {0})
-            (λ spare. (out : Weighing Self.Leaf → ℕ) × WeighsAs spare out × ChangesSlot number weight (is_none slot.new) slot.old slot.new out nothing) };
-
-    /// Where a node of this number has the address `from` at an entry, the ticket comes there and the old one goes. Else
-    /// the ticket is handed back, and nothing has changed.
-    fn migrate(
-        slot: &mut Option<Self>,
-        entries: usize,
-        nid: u32,
-        at: usize,
-        from: u32,
-        ticket: Self::Leaf,
-    ) -> Result<Self::Leaf, Self::Leaf>
-        requires some { 0 < entries }
-        requires fits { span_of entries < 2 ^ 64 }
-        requires address { 0 < from }
-        requires shaped { shaped entries slot.old }
-        ensures shaped { shaped entries slot.new }
-        ensures named { OnOk result (0 < weight (each_naming nid at from) slot.old) }
-        ensures address { IfOk result (λ before. address_of before ≡ from) }
-        ensures swaps { IfOk result (λ before. SwapsOne (find entries slot.old) (find entries slot.new) before ticket) }
-        ensures namer { Same (namer entries slot.old) (namer entries slot.new) }
-        ensures useful { (asked : ℕ → ℕ → Bool) (first : ℕ) → useful entries asked first slot.old → useful entries asked first slot.new }
-        ensures change { IfOk result (λ before. ChangesSlot number weight false slot.old slot.new (λ w. w.ticket before) (λ w. w.ticket ticket)) }
-        ensures elsewhere { OnErr result (weight (each_naming nid at from) slot.old ≡ 0) }
-        ensures refused { OnErr result (slot.new ≡ slot.old) }
-        ensures back { IfErr result (λ back. back ≡ ticket) };
-
-    /// Reads the block at the index, zeros where there is none. After a failure of the device `out` has any bytes.
-    fn read(
-        slot: &mut Option<Self>,
-        entries: usize,
-        index: usize,
-        out: &mut [u8],
-    ) -> Result<(), DeviceError>
-        requires some { 0 < entries }
-        requires fits { span_of entries < 2 ^ 64 }
-        requires inside { index < span_of entries }
-        requires shaped { shaped entries slot.old }
-        requires out { MatchOption (find entries slot.old index) (Unit {0}) (λ ticket. length out.old ≡ length (content_of ticket)) }
-        ensures same { slot.new ≡ slot.old }
-        ensures bytes { OnOk result (MatchOption (find entries slot.old index) (out.new ≡ replicate (length out.old) 0) (λ ticket. out.new ≡ content_of ticket)) };
-
-    /// The bytes of the block at the index as they are now, whatever becomes of the block; None where there is none.
-    fn lend(
-        slot: &mut Option<Self>,
-        entries: usize,
-        index: usize,
-    ) -> Result<Option<Self::Lease>, DeviceError>
-        requires some { 0 < entries }
-        requires fits { span_of entries < 2 ^ 64 }
-        requires inside { index < span_of entries }
-        requires shaped { shaped entries slot.old }
-        ensures same { slot.new ≡ slot.old }
-        ensures none { IfOk result (λ lease. lease ≡ None → find entries slot.old index ≡ None) }
-        ensures bytes { IfOk result (λ lease. MatchOption lease (Unit {0}) (λ l. MatchOption (find entries slot.old index) ⊥ (λ ticket. lent l ≡ content_of ticket))) };
 
     ghost span_positive: { (e : ℕ) → 0 < e → 0 < span_of e };
 
@@ -266,80 +167,6 @@ impl<B: Block> Subtree for Ticket<B> {
         match slot {
             Some(ticket) => ticket.address(),
             None => 0,
-        }
-    }
-
-    fn address(slot: &Option<Ticket<B>>, _entries: usize, _index: usize) -> u32 {
-        match slot {
-            Some(ticket) => ticket.address(),
-            None => 0,
-        }
-    }
-
-    fn is_clean(_slot: &Option<Ticket<B>>) -> bool {
-        true
-    }
-
-    fn put(
-        slot: &mut Option<Ticket<B>>,
-        _entries: usize,
-        _index: usize,
-        ticket: Ticket<B>,
-    ) -> Option<Ticket<B>> {
-        mem::replace(slot, Some(ticket))
-    }
-
-    fn prune(
-        slot: &mut Option<Ticket<B>>,
-        _entries: usize,
-        from: usize,
-    ) -> Option<Spare<Ticket<B>>> {
-        if from > 0 {
-            return None;
-        }
-        match slot.take() {
-            Some(ticket) => Some(Spare::Ticket(ticket)),
-            None => None,
-        }
-    }
-
-    fn migrate(
-        _slot: &mut Option<Ticket<B>>,
-        _entries: usize,
-        _nid: u32,
-        _at: usize,
-        _from: u32,
-        ticket: Ticket<B>,
-    ) -> Result<Ticket<B>, Ticket<B>> {
-        Err(ticket)
-    }
-
-    fn read(
-        slot: &mut Option<Ticket<B>>,
-        _entries: usize,
-        _index: usize,
-        out: &mut [u8],
-    ) -> Result<(), DeviceError> {
-        match slot {
-            Some(ticket) => ticket.read(out),
-            None => {
-                out.fill(0);
-                Ok(())
-            }
-        }
-    }
-
-    fn lend(
-        slot: &mut Option<Ticket<B>>,
-        _entries: usize,
-        _index: usize,
-    ) -> Result<Option<B::Lease>, DeviceError> {
-        match slot {
-            Some(ticket) => match ticket.lend() {
-                Ok(lease) => Ok(Some(lease)),
-                Err(error) => Err(error),
-            },
-            None => Ok(None),
         }
     }
 }

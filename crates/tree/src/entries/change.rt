@@ -4,9 +4,9 @@ ghost use Rattle.tree.specs.Tree.{find_in, missing_in, ShapedIn, SetsAt, Same, U
 ghost use Rattle.tree.specs.Change.{ChangesEntries, ticket_weight};
 
 use super::Entries;
-use crate::subtree::Subtree;
+use crate::Changing;
 
-impl<C: Subtree> Entries<C> {
+impl<C: Changing> Entries<C> {
     /// Puts a ticket at the index, and hands out the one that stood there.
     pub fn put(
         &mut self,

@@ -5,10 +5,10 @@ ghost use Rattle.tree.specs.Change.{Weighing, ChangesEntries, WeighsAs, nothing}
 ghost use Rattle.tree.specs.Pruned.{MatchPruned};
 
 use super::{Entries, Pruned, names_nothing};
+use crate::Changing;
 use crate::spare::Spare;
-use crate::subtree::Subtree;
 
-impl<C: Subtree> Entries<C> {
+impl<C: Changing> Entries<C> {
     /// Hands out one ticket at or past the index, or the token of a node that names nothing.
     pub fn prune(&mut self, count: usize, entries: usize, from: usize) -> Pruned<Spare<C::Leaf>>
         requires some { 0 < entries }

@@ -5,9 +5,9 @@ ghost use Rattle.tree.specs.Tree.{find_in, ShapedIn, Same, SwapsOne, UsefulIn, A
 ghost use Rattle.tree.specs.Change.{ChangesEntries, nothing, each_naming};
 
 use super::Entries;
-use crate::subtree::Subtree;
+use crate::Changing;
 
-impl<C: Subtree> Entries<C> {
+impl<C: Changing> Entries<C> {
     /// Where these entries have addresses, and `from` at this place, the ticket comes there and the old one goes. Else the
     /// ticket is handed back, and nothing has changed.
     pub fn swap(

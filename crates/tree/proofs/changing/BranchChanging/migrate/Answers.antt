@@ -5,7 +5,7 @@ use Rattle.tree.specs.Change.{each_naming}
 use Rattle.tree.proofs.Changes.{branch_trades}
 use Rattle.tree.proofs.Naming.{other_number, other_address}
 use Rattle.tree.proofs.Results.{if_ok, on_err}
-use Rattle.tree.proofs.branch.BranchSubtree.migrate.Goals as goal
+use Rattle.tree.proofs.changing.BranchChanging.migrate.Goals as goal
 
 pub returns-then-not-is_leaf-clause-change : goal.returns-then-not-is_leaf-clause-change
 returns-then-not-is_leaf-clause-change g c =

@@ -1,5 +1,5 @@
 use Rattle.std.proofs.Common.{arith, None, ◌∙◌, sym, refl}
-use Rattle.tree.proofs.subtree.TicketSubtree.prune.Goals as goal
+use Rattle.tree.proofs.changing.TicketChanging.prune.Goals as goal
 
 pub returns-in-Some-clause-change : goal.returns-in-Some-clause-change
 returns-in-Some-clause-change g c =

@@ -1,7 +1,7 @@
 use Rattle.std.proofs.Common.{refl}
 use Rattle.tree.specs.Change.{ticket_weight}
 use Rattle.tree.proofs.Changes.{branch_trades}
-use Rattle.tree.proofs.branch.BranchSubtree.put.Goals as goal
+use Rattle.tree.proofs.changing.BranchChanging.put.Goals as goal
 
 pub returns-clause-change : goal.returns-clause-change
 returns-clause-change g c =

@@ -2,7 +2,7 @@ use Rattle.std.proofs.Common.{◌≡◌, None, refl, sym, map, arith}
 use Rattle.tree.specs.Change.{tree_node, nothing}
 use Rattle.tree.specs.Laws.{no_leaf}
 use Rattle.tree.proofs.Changes.{branch_trades, weigh_nothing}
-use Rattle.tree.proofs.branch.BranchSubtree.prune.Goals as goal
+use Rattle.tree.proofs.changing.BranchChanging.prune.Goals as goal
 
 pub returns-in-Found-clause-change : goal.returns-in-Found-clause-change
 returns-in-Found-clause-change g c =
