@@ -1,7 +1,7 @@
 //! A test is a table of works, each with what it is to tell or how it is to be refused.
 mod closes;
-mod device;
 mod door;
 mod mounts;
 mod steps;
 mod threads;
+mod watched;

@@ -3,9 +3,9 @@
 ghost use Rattle.std.specs.Prelude.{◌≡◌};
 ghost use Rattle.volume.specs.Picked.{HaveNames};
 
-use super::device::{Watch, watch_device};
 use super::steps::Step::Make;
 use super::steps::made;
+use super::watched::{Watch, watch_device};
 use device::Fuse;
 use flash_volume::{Block, Error, FilePass, Kind, Meta, Parts, Seat, Volume, VolumeName};
 use mount::{Mounted, MountedQueues, mount};

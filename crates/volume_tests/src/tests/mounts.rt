@@ -1,7 +1,7 @@
 //! A mount that is refused: a call of the device fails, or the device holds no volume.
-use super::device::{Watch, watch_device};
 use super::steps::Step::{Make, Tell};
 use super::steps::{Steps, made};
+use super::watched::{Watch, watch_device};
 use flash_volume::{Error, Kind, Leave, MemMeta, Parts, Stage, work_on};
 use std::alloc::Global;
 use std::process::Abort;

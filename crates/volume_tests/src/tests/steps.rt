@@ -2,7 +2,7 @@
 ghost use Rattle.std.specs.Prelude.{ℕ, IfErr, IfOk};
 ghost use Rattle.device.specs.Parts.{IsBlockRun};
 
-use super::device::Watch;
+use super::watched::Watch;
 use flash_volume::{
     Block, Done, Error, Fault, Geometry, Kind, Leave, MemBlock, MemDevice, MemMeta, Meta, Parts,
     Policy, Rights, Shape, Stage, Volume, VolumeName, Work, work_on_new,

@@ -1,7 +1,7 @@
 //! Works on threads that share a volume: they make files side by side, and no call keeps one waiting that has another log.
-use super::device::{Watch, watch_device};
 use super::steps::Step::{Clean, Make, Meet, Tell};
 use super::steps::{Step, Steps, made};
+use super::watched::{Watch, watch_device};
 use flash_volume::{Beside, Error, Kind, Leave, work_on, work_side_by_side};
 use std::alloc::Global;
 use std::process::Abort;

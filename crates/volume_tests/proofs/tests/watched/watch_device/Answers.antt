@@ -1,5 +1,5 @@
 use Rattle.volume_tests.proofs.Wrapped.{run_outside}
-use Rattle.volume_tests.proofs.tests.device.watch_device.Goals as goal
+use Rattle.volume_tests.proofs.tests.watched.watch_device.Goals as goal
 
 -- the blocks inside are the device's
 pub returns : goal.returns

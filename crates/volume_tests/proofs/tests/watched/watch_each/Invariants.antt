@@ -1,6 +1,6 @@
 use Rattle.std.proofs.Common.{◌≡◌, ◌+◌, ◌≤◌, ◌++◌, map, length, vec_len, vec_capacity}
 use Rattle.std.specs.Vec.Iter.{into_iter_items}
-use Rattle.volume_tests.proofs.tests.device.watch_each.Given as goal
+use Rattle.volume_tests.proofs.tests.watched.watch_each.Given as goal
 
 -- the blocks inside, and those that are left
 abbrev pub invariant-loop-block : goal.invariant-loop-block
