@@ -1,7 +1,7 @@
 //! Lawful images that are damaged.
-use crate::fault::Fault;
 use crate::play::play;
 use program_run::OpenGate;
+use program_trials::Fault;
 use std::alloc::Global;
 use std::sync::Wait;
 use std::thread::Threads;
@@ -12,9 +12,6 @@ use test_support::{base_file, file_of_format_one};
 pub struct Lawful {
     pub bytes: Vec<u8>,
 }
-
-/// The bytes of the meta area of each: 32 segments of 8 blocks of 64 bytes lie behind them.
-pub const AREA: usize = 6_136;
 
 // A file whose blocks hang on each kind of node, another one, and two packs.
 const DEEP: &str = "format TINY 32 1 4 64\n\
