@@ -31,7 +31,7 @@ const FILES: [&str; 14] = [
 ];
 
 // How many cases were played, and how many told something else than stands there.
-#[derive(Clone, Copy)]
+#[derive(Drop)]
 struct Count {
     played: u32,
     wrong: u32,

@@ -14,7 +14,7 @@ use std::rt::Runtime;
 use std::sync::{Arc, Wait};
 
 /// How often a crash left the one checkpoint and the other.
-#[derive(Clone, Copy)]
+#[derive(Drop)]
 struct Found {
     old: u32,
     new: u32,

@@ -1,5 +1,5 @@
 //! Images that are damaged by a seed: each is told alike by a check and by a mount, which hands its bytes back, in no long time.
-use crate::lawful::{Lawful, lawful_images};
+use crate::lawful::lawful_images;
 use crate::mounting::mount_bytes;
 use flash_volume::Leave;
 use program_run::status::REFUSED;
@@ -33,7 +33,7 @@ pub fn damage<R: Runtime + Threads + Wait + Sync>(
         let mut chance = Chance::of(seed);
         let which = chance.below(images.len());
         if let Some(image) = images.as_slice().get(which)
-            && is_refused(rt, alloc, image, limit, seed, &mut chance)?
+            && is_refused(rt, alloc, image.as_slice(), limit, seed, &mut chance)?
         {
             refused = refused.saturating_add(1);
         }
@@ -46,12 +46,12 @@ pub fn damage<R: Runtime + Threads + Wait + Sync>(
 fn is_refused<R: Runtime + Wait>(
     rt: &R,
     alloc: Global,
-    image: &Lawful,
+    image: &[u8],
     limit: Duration,
     seed: u32,
     chance: &mut Chance,
 ) -> Result<bool, Fault> {
-    let mut bytes = Vec::from_slice(alloc, image.bytes.as_slice())?;
+    let mut bytes = Vec::from_slice(alloc, image)?;
     spoil(chance, &mut bytes)?;
     let (answer, time) = timed(rt, alloc, bytes.as_slice())?;
     let quick = time < limit || is_quick(rt, alloc, image, bytes.as_slice())?;
@@ -90,11 +90,11 @@ fn timed<R: Runtime + Wait>(
 }
 
 // So long takes what is told of each lawful image in its quickest try, so many times.
-fn limit<R: Runtime + Wait>(rt: &R, alloc: Global, images: &[Lawful]) -> Result<Duration, Fault> {
+fn limit<R: Runtime + Wait>(rt: &R, alloc: Global, images: &[Vec<u8>]) -> Result<Duration, Fault> {
     let mut least = Duration::MAX;
     for _turn in 0..TRIES {
         for image in images {
-            let (_, time) = timed(rt, alloc, image.bytes.as_slice())?;
+            let (_, time) = timed(rt, alloc, image.as_slice())?;
             least = least.min(time);
         }
     }
@@ -105,11 +105,11 @@ fn limit<R: Runtime + Wait>(rt: &R, alloc: Global, images: &[Lawful]) -> Result<
 fn is_quick<R: Runtime + Wait>(
     rt: &R,
     alloc: Global,
-    image: &Lawful,
+    image: &[u8],
     bytes: &[u8],
 ) -> Result<bool, Fault> {
     for _turn in 0..TRIES {
-        let (_, lawful) = timed(rt, alloc, image.bytes.as_slice())?;
+        let (_, lawful) = timed(rt, alloc, image)?;
         let (_, time) = timed(rt, alloc, bytes)?;
         if time < lawful.saturating_mul(TIMES) {
             return Ok(true);

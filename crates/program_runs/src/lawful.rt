@@ -7,12 +7,6 @@ use std::sync::Wait;
 use std::thread::Threads;
 use test_support::{base_file, file_of_format_one};
 
-/// The bytes of a lawful image file.
-#[derive(Drop)]
-pub struct Lawful {
-    pub bytes: Vec<u8>,
-}
-
 // A file whose blocks hang on each kind of node, another one, and two packs.
 const DEEP: &str = "format TINY 32 1 4 64\n\
     create file\n\
@@ -29,16 +23,12 @@ const DEEP: &str = "format TINY 32 1 4 64\n\
     write 1 1222 18\n\
     cut 2 3\n";
 
-/// Two that were built by hand, and one that a script leaves.
+/// The bytes of two that were built by hand, and of one that a script leaves.
 pub fn lawful_images<R: Threads + Wait + Sync>(
     rt: &R,
     alloc: Global,
-) -> Result<Vec<Lawful>, Fault> {
+) -> Result<[Vec<u8>; 3], Fault> {
     let mut saved = Vec::new(alloc);
     let _told = play(rt, alloc, DEEP, Some(&mut saved), &OpenGate);
-    let mut images = Vec::new(alloc);
-    for bytes in [base_file(alloc)?, file_of_format_one(alloc)?, saved] {
-        images.push(Lawful { bytes })?;
-    }
-    Ok(images)
+    Ok([base_file(alloc)?, file_of_format_one(alloc)?, saved])
 }

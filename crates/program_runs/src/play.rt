@@ -1,6 +1,6 @@
 //! A script that is run, and what it told.
 use program_run::{Gate, OpenGate, run_script};
-use program_trials::{Fault, Told, Trouble, Verdict, judge};
+use program_trials::{Fault, Told, Trouble, Verdict, judge_lines};
 use std::alloc::Global;
 use std::sync::Wait;
 use std::thread::Threads;
@@ -32,6 +32,6 @@ pub fn try_script<R: Threads + Wait + Sync>(
     trouble: Trouble,
 ) -> Result<(Told, Verdict), Fault> {
     let told = play(rt, alloc, text, None, &OpenGate);
-    let verdict = judge(alloc, text, &told, trouble)?;
+    let verdict = judge_lines(alloc, text, &told, trouble)?;
     Ok((told, verdict))
 }

@@ -44,4 +44,4 @@ pub use spoiled::{Answer, Handed, spoil};
 pub use telling::{tell_call, tell_script};
 pub use text::{number, push_lines, text_bytes};
 pub use torn::{Filling, Written, is_told, tear};
-pub use trial::{Told, judge, without};
+pub use trial::{Told, judge_lines, without};

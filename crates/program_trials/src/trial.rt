@@ -23,7 +23,12 @@ pub fn lines_of(alloc: Global, bytes: &[u8]) -> Result<Vec<&[u8]>, Fault> {
 }
 
 /// Judges the lines of a script that met this trouble.
-pub fn judge(alloc: Global, text: &str, told: &Told, trouble: Trouble) -> Result<Verdict, Fault> {
+pub fn judge_lines(
+    alloc: Global,
+    text: &str,
+    told: &Told,
+    trouble: Trouble,
+) -> Result<Verdict, Fault> {
     let script = parsed(alloc, text)?;
     let lines = lines_of(alloc, told.lines.as_slice())?;
     let mut rest = lines.as_slice();
