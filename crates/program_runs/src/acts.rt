@@ -1,12 +1,8 @@
 //! Calls of a volume that a seed picks, each of them replayed on the core machine.
-use crate::chance::Chance;
-use crate::fault::Fault;
-use crate::machine::Machine;
-use crate::naming::data_block;
-use crate::recorded::Recorder;
 use device::{Block, Fuse, Meta};
 use flash_volume::{FilePass, Kind, Policy, Rights, Volume, VolumeName, Work};
 use geometry::Error;
+use program_trials::{Chance, Fault, Machine, Recorder, data_block};
 use std::alloc::Global;
 use std::sync::Wait;
 

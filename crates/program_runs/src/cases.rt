@@ -1,13 +1,10 @@
 //! The cases of the files of `data/`: what is done, and what is to be told of it.
 mod answer;
-mod input;
 mod stage;
-mod text;
 mod turns;
 
 use crate::cases::stage::Stage;
-use crate::cases::text::push_lines;
-use crate::fault::Fault;
+use program_trials::{Fault, push_lines};
 use std::alloc::Global;
 use std::fs::{File, Files};
 use std::rt::Runtime;
@@ -34,7 +31,7 @@ const FILES: [&str; 14] = [
 ];
 
 // How many cases were played, and how many told something else than stands there.
-#[derive(Clone, Copy)]
+#[derive(Drop)]
 struct Count {
     played: u32,
     wrong: u32,

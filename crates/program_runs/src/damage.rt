@@ -1,11 +1,10 @@
 //! Images that are damaged by a seed: each is told alike by a check and by a mount, which hands its bytes back, in no long time.
-use crate::chance::Chance;
-use crate::fault::Fault;
-use crate::lawful::{AREA, Lawful, lawful_images};
-use crate::mounting::{Handed, is_same, mount_bytes};
+use crate::lawful::lawful_images;
+use crate::mounting::mount_bytes;
 use flash_volume::Leave;
-use program_run::status::{DONE, REFUSED};
+use program_run::status::REFUSED;
 use program_run::{check_image, tell_files};
+use program_trials::{Answer, Chance, Fault, spoil};
 use std::alloc::Global;
 use std::rt::Runtime;
 use std::sync::Wait;
@@ -17,15 +16,6 @@ const TIMES: u32 = 10;
 
 // So many tries are made where times are measured.
 const TRIES: u32 = 20;
-
-/// What is told of an image.
-#[derive(Drop)]
-struct Answer {
-    line: Vec<u8>,
-    status: u8,
-    files: Vec<u8>,
-    files_status: u8,
-}
 
 /// Damages so many images, and prints how many of them were refused.
 pub fn damage<R: Runtime + Threads + Wait + Sync>(
@@ -43,7 +33,7 @@ pub fn damage<R: Runtime + Threads + Wait + Sync>(
         let mut chance = Chance::of(seed);
         let which = chance.below(images.len());
         if let Some(image) = images.as_slice().get(which)
-            && is_refused(rt, alloc, image, limit, seed, &mut chance)?
+            && is_refused(rt, alloc, image.as_slice(), limit, seed, &mut chance)?
         {
             refused = refused.saturating_add(1);
         }
@@ -56,17 +46,17 @@ pub fn damage<R: Runtime + Threads + Wait + Sync>(
 fn is_refused<R: Runtime + Wait>(
     rt: &R,
     alloc: Global,
-    image: &Lawful,
+    image: &[u8],
     limit: Duration,
     seed: u32,
     chance: &mut Chance,
 ) -> Result<bool, Fault> {
-    let mut bytes = Vec::from_slice(alloc, image.bytes.as_slice())?;
+    let mut bytes = Vec::from_slice(alloc, image)?;
     spoil(chance, &mut bytes)?;
     let (answer, time) = timed(rt, alloc, bytes.as_slice())?;
     let quick = time < limit || is_quick(rt, alloc, image, bytes.as_slice())?;
     let handed = mount_bytes(rt, alloc, bytes.as_slice(), Leave::Discard)?;
-    let agreed = agree(&answer) && agrees(alloc, &answer, bytes.as_slice(), &handed)?;
+    let agreed = answer.agrees(alloc, bytes.as_slice(), &handed)?;
     if !agreed || !quick {
         let line = String::from_utf8_lossy(alloc, answer.line.as_slice())?;
         let files = String::from_utf8_lossy(alloc, answer.files.as_slice())?;
@@ -76,37 +66,6 @@ fn is_refused<R: Runtime + Wait>(
         return Err(Fault::Wrong(what));
     }
     Ok(answer.status == REFUSED)
-}
-
-// Changes some bytes of an image, most of them in its meta area, and now and then its length.
-fn spoil(chance: &mut Chance, bytes: &mut Vec<u8>) -> Result<(), Fault> {
-    for _change in 0..chance.below(4).saturating_add(1) {
-        let end = if chance.below(4) == 0 {
-            bytes.len()
-        } else {
-            AREA
-        };
-        let place = chance.below(end);
-        let from = chance.below(end);
-        let found = bytes.as_slice().get(from).copied().unwrap_or(0);
-        let byte = match chance.below(4) {
-            0 => chance.byte(),
-            1 => found,
-            2 => chance.byte() & 7,
-            _ => bytes.as_slice().get(place).copied().unwrap_or(0) ^ chance.bit(),
-        };
-        if let Some(changed) = bytes.as_mut_slice().get_mut(place) {
-            *changed = byte;
-        }
-    }
-    if chance.below(64) == 0 {
-        let length = chance.below(bytes.len());
-        bytes.truncate(length);
-    }
-    if chance.below(64) == 0 {
-        bytes.push(0)?;
-    }
-    Ok(())
 }
 
 // What is told of an image, and how long that takes.
@@ -131,11 +90,11 @@ fn timed<R: Runtime + Wait>(
 }
 
 // So long takes what is told of each lawful image in its quickest try, so many times.
-fn limit<R: Runtime + Wait>(rt: &R, alloc: Global, images: &[Lawful]) -> Result<Duration, Fault> {
+fn limit<R: Runtime + Wait>(rt: &R, alloc: Global, images: &[Vec<u8>]) -> Result<Duration, Fault> {
     let mut least = Duration::MAX;
     for _turn in 0..TRIES {
         for image in images {
-            let (_, time) = timed(rt, alloc, image.bytes.as_slice())?;
+            let (_, time) = timed(rt, alloc, image.as_slice())?;
             least = least.min(time);
         }
     }
@@ -146,59 +105,15 @@ fn limit<R: Runtime + Wait>(rt: &R, alloc: Global, images: &[Lawful]) -> Result<
 fn is_quick<R: Runtime + Wait>(
     rt: &R,
     alloc: Global,
-    image: &Lawful,
+    image: &[u8],
     bytes: &[u8],
 ) -> Result<bool, Fault> {
     for _turn in 0..TRIES {
-        let (_, lawful) = timed(rt, alloc, image.bytes.as_slice())?;
+        let (_, lawful) = timed(rt, alloc, image)?;
         let (_, time) = timed(rt, alloc, bytes)?;
         if time < lawful.saturating_mul(TIMES) {
             return Ok(true);
         }
     }
     Ok(false)
-}
-
-// Whether a check and the telling of the files agree: both refuse the image in one line, or the files have its total.
-fn agree(answer: &Answer) -> bool {
-    if answer.status != answer.files_status {
-        return false;
-    }
-    match answer.status {
-        REFUSED => answer.line.as_slice() == answer.files.as_slice(),
-        DONE => total_of(answer.line.as_slice()) == total_of(answer.files.as_slice()),
-        _ => false,
-    }
-}
-
-// The number behind the last word `total`.
-fn total_of(lines: &[u8]) -> Option<u32> {
-    let mut total = None;
-    let mut words = std::str::from_utf8(lines).unwrap_or("").split_whitespace();
-    while let Some(word) = words.next() {
-        if word == "total" {
-            total = words.next()?.parse::<u32>().ok();
-        }
-    }
-    total
-}
-
-// Whether a mount of these bytes answers as the check does, and hands the same bytes back.
-fn agrees(
-    alloc: Global,
-    answer: &Answer,
-    bytes: &[u8],
-    handed: &Option<Handed>,
-) -> Result<bool, Fault> {
-    let Some(handed) = handed else {
-        return Ok(answer.status == REFUSED);
-    };
-    let same = is_same(bytes, handed.bytes.as_slice(), AREA);
-    match handed.refused {
-        None => Ok(same && answer.status == DONE),
-        Some(error) => {
-            let number = format!(in alloc; "refused {} ", error.number())?;
-            Ok(same && answer.line.as_slice().starts_with(number.as_bytes()))
-        }
-    }
 }

@@ -1,11 +1,7 @@
 //! Scripts under which a growth is refused: by whoever runs this program, since it has no allocator of its own.
-use crate::comparing::compare;
-use crate::fault::Fault;
-use crate::judge::{Trouble, Verdict};
-use crate::play::Told;
-use crate::scripts::{FORMAT, SCRIPTS};
-use crate::trial::{try_script, without};
+use crate::play::try_script;
 use program_run::status::DONE;
+use program_trials::{FORMAT, Fault, SCRIPTS, Told, Trouble, Verdict, compare, without};
 use std::alloc::Global;
 use std::rt::Runtime;
 use std::sync::Wait;

@@ -1,20 +1,11 @@
 //! Lawful images that are damaged.
-use crate::fault::Fault;
 use crate::play::play;
 use program_run::OpenGate;
+use program_trials::Fault;
 use std::alloc::Global;
 use std::sync::Wait;
 use std::thread::Threads;
 use test_support::{base_file, file_of_format_one};
-
-/// The bytes of a lawful image file.
-#[derive(Drop)]
-pub struct Lawful {
-    pub bytes: Vec<u8>,
-}
-
-/// The bytes of the meta area of each: 32 segments of 8 blocks of 64 bytes lie behind them.
-pub const AREA: usize = 6_136;
 
 // A file whose blocks hang on each kind of node, another one, and two packs.
 const DEEP: &str = "format TINY 32 1 4 64\n\
@@ -32,16 +23,12 @@ const DEEP: &str = "format TINY 32 1 4 64\n\
     write 1 1222 18\n\
     cut 2 3\n";
 
-/// Two that were built by hand, and one that a script leaves.
+/// The bytes of two that were built by hand, and of one that a script leaves.
 pub fn lawful_images<R: Threads + Wait + Sync>(
     rt: &R,
     alloc: Global,
-) -> Result<Vec<Lawful>, Fault> {
+) -> Result<[Vec<u8>; 3], Fault> {
     let mut saved = Vec::new(alloc);
     let _told = play(rt, alloc, DEEP, Some(&mut saved), &OpenGate);
-    let mut images = Vec::new(alloc);
-    for bytes in [base_file(alloc)?, file_of_format_one(alloc)?, saved] {
-        images.push(Lawful { bytes })?;
-    }
-    Ok(images)
+    Ok([base_file(alloc)?, file_of_format_one(alloc)?, saved])
 }

@@ -5,37 +5,21 @@
 #![tactic(auto)]
 
 mod acts;
-mod around;
 mod cases;
-mod chance;
-mod comparing;
 mod crashes;
 mod damage;
-mod fault;
-mod files;
 mod growths;
-mod judge;
 mod lawful;
-mod machine;
-mod marks;
 mod mounting;
-mod naming;
 mod order;
 mod play;
-mod recorded;
-mod replay;
 mod replaying;
-mod request;
 mod scene;
 mod schedules;
-mod scripts;
 mod sweep;
-mod trial;
-mod ways;
 
-use fault::Fault;
 use program_run::status::{DONE, FAILED, MISUSED, REFUSED};
-use request::{PARTS, Part, Request, USAGE, read_request};
+use program_trials::{Fault, PARTS, Part, Request, USAGE, read_request};
 use std::alloc::Global;
 use std::env;
 use std::fs::{File, Files};

@@ -1,18 +1,12 @@
 //! An image file's bytes that are mounted, and handed back.
-use device::{Block, MemDevice, Meta};
+use device::{Block, Meta};
 use file_device::{FileFault, read_device};
 use flash_volume::{Done, Leave, Rights, Volume, VolumeName, Work, work_on};
 use geometry::Error;
+use program_trials::{Handed, bytes_of};
 use std::alloc::Global;
 use std::io;
 use std::sync::Wait;
-
-/// What a mount of a device's bytes leaves of them, and why it was refused, or the close behind it.
-#[derive(Drop)]
-pub struct Handed {
-    pub bytes: Vec<u8>,
-    pub refused: Option<Error>,
-}
 
 /// Work that does nothing.
 #[derive(Drop)]
@@ -50,30 +44,6 @@ pub fn mount_bytes<R: Wait>(
         Ok(Done { parts, output: _ }) => (parts, None),
         Err(fault) => (fault.parts, Some(fault.error)),
     };
-    let mut bytes = Vec::new(alloc);
-    if MemDevice::join(parts).append_to(&mut bytes).is_err() {
-        return Err(io::Error::from(io::ErrorKind::OutOfMemory));
-    }
+    let bytes = bytes_of(alloc, parts)?;
     Ok(Some(Handed { bytes, refused }))
-}
-
-/// Whether bytes are the same, but for a footer of zeros: each of the two slots behind the superblock ends with one of 4 bytes, and
-/// the second one with the meta area.
-pub fn is_same(bytes: &[u8], back: &[u8], area: usize) -> bool {
-    if bytes.len() != back.len() {
-        return false;
-    }
-    for (place, (byte, other)) in bytes.iter().zip(back).enumerate() {
-        if byte != other && !(*other == 0 && is_footer(place, area)) {
-            return false;
-        }
-    }
-    true
-}
-
-fn is_footer(place: usize, area: usize) -> bool {
-    let middle = 64usize.saturating_add(area.saturating_sub(64) / 2);
-    [middle, area]
-        .iter()
-        .any(|end| place < *end && place.saturating_add(4) >= *end)
 }

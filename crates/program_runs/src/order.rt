@@ -1,11 +1,8 @@
-//! A gate that lets calls begin in an order that a seed picks.
-use crate::chance::Chance;
+//! A gate that lets calls begin in an order.
 use program_run::Gate;
-use std::alloc::{AllocError, Global};
 use std::sync::{Condvar, Mutex, Wait};
 
-/// The order in which the calls of workers begin. With an even seed each call ends before the next one begins; with an odd one it
-/// need not.
+/// The order in which the calls of workers begin: each ends before the next one begins, or it need not.
 ///
 /// Who is not next sleeps, so each worker has to make all its calls, on a thread of its own.
 #[derive(Drop)]
@@ -20,28 +17,15 @@ pub struct Order<'r, R: Wait> {
 }
 
 impl<'r, R: Wait> Order<'r, R> {
-    /// An order of so many calls of each worker.
-    pub fn of(
-        rt: &'r R,
-        alloc: Global,
-        calls: &[u32],
-        seed: u32,
-    ) -> Result<Order<'r, R>, AllocError> {
-        let mut workers = Vec::new(alloc);
-        for (worker, count) in calls.iter().enumerate() {
-            for _call in 0..*count {
-                workers.push(worker)?;
-            }
-        }
-        let mut chance = Chance::of(seed);
-        chance.shuffle(workers.as_mut_slice());
-        Ok(Order {
+    /// The order in which these workers begin a call each.
+    pub fn of(rt: &'r R, workers: Vec<usize>, one_at_a_time: bool) -> Order<'r, R> {
+        Order {
             rt,
             workers,
             turn: Mutex::new(0),
             turned: Condvar::new(),
-            one_at_a_time: seed.is_multiple_of(2),
-        })
+            one_at_a_time,
+        }
     }
 
     // Whether a turn is this worker's, or no one's.

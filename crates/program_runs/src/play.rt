@@ -1,16 +1,9 @@
 //! A script that is run, and what it told.
-use program_run::{Gate, run_script};
+use program_run::{Gate, OpenGate, run_script};
+use program_trials::{Fault, Told, Trouble, Verdict, judge_lines};
 use std::alloc::Global;
 use std::sync::Wait;
 use std::thread::Threads;
-
-/// What a script told on its two streams, and its status.
-#[derive(Drop)]
-pub struct Told {
-    pub lines: Vec<u8>,
-    pub errors: Vec<u8>,
-    pub status: u8,
-}
 
 /// Runs a script, the calls of whose workers go through a gate. The bytes of its device are added to `saved`, if there is one.
 pub fn play<R: Threads + Wait + Sync, G: Gate + Sync>(
@@ -29,4 +22,16 @@ pub fn play<R: Threads + Wait + Sync, G: Gate + Sync>(
         errors,
         status,
     }
+}
+
+/// Runs a script and judges its lines.
+pub fn try_script<R: Threads + Wait + Sync>(
+    rt: &R,
+    alloc: Global,
+    text: &str,
+    trouble: Trouble,
+) -> Result<(Told, Verdict), Fault> {
+    let told = play(rt, alloc, text, None, &OpenGate);
+    let verdict = judge_lines(alloc, text, &told, trouble)?;
+    Ok((told, verdict))
 }

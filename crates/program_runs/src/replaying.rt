@@ -1,17 +1,13 @@
 //! Random calls of a volume whose device is recorded and fails now and then: each call of the device is a step of the core machine of
 //! the crash law, and what a crash leaves is mounted to the files of a checkpoint.
 use crate::acts::Acts;
-use crate::around::{Around, inside};
-use crate::chance::Chance;
-use crate::fault::Fault;
-use crate::machine::{Counts, Machine};
 use crate::mounting::Nothing;
 use device::MemDevice;
 use file_device::read_device;
 use flash_volume::{Leave, Stage, work_on, work_on_new};
 use geometry::{Error, Geometry, Shape};
-use std::alloc::Global;
-use std::io;
+use program_trials::{Around, Chance, Counts, Fault, Machine, bytes_of, inside, tear};
+use std::alloc::{AllocError, Global};
 use std::rt::Runtime;
 use std::sync::Wait;
 
@@ -74,25 +70,13 @@ fn replay_script<R: Wait>(
 // The bytes of a new volume.
 fn format<R: Wait>(rt: &R, alloc: Global, geometry: Geometry) -> Result<Vec<u8>, Fault> {
     let Ok(device) = MemDevice::new(alloc, &geometry) else {
-        return Err(no_memory());
+        return Err(Fault::from(AllocError));
     };
     let parts = device.split();
     match work_on_new(rt, alloc, parts, geometry, Leave::Discard, Nothing) {
-        Ok(done) => bytes_of(alloc, &MemDevice::join(done.parts)),
+        Ok(done) => Ok(bytes_of(alloc, done.parts)?),
         Err(fault) => Err(Fault::Wrong(format!(in alloc; "no volume: {}", fault.error)?)),
     }
-}
-
-fn bytes_of(alloc: Global, device: &MemDevice) -> Result<Vec<u8>, Fault> {
-    let mut file = Vec::new(alloc);
-    match device.append_to(&mut file) {
-        Ok(()) => Ok(file),
-        Err(_) => Err(no_memory()),
-    }
-}
-
-fn no_memory() -> Fault {
-    Fault::Failed(io::Error::from(io::ErrorKind::OutOfMemory))
 }
 
 // Mounts a device with these bytes, makes calls, and leaves it with a checkpoint or without. Answers its bytes.
@@ -105,7 +89,7 @@ fn work<R: Wait>(
 ) -> Result<Vec<u8>, Fault> {
     let mut input = file;
     let Ok((_, device)) = read_device(alloc, &mut input) else {
-        return Err(no_memory());
+        return Err(Fault::from(AllocError));
     };
     let around = Around::new(alloc)?;
     let parts = around.put_around(alloc, device)?;
@@ -137,31 +121,5 @@ fn work<R: Wait>(
         }
     };
     machine.hear(around.recorder.take().as_slice())?;
-    bytes_of(alloc, &inside(alloc, parts)?)
-}
-
-// A crash: where something was written that no sync settled, any bytes stand, or what was written.
-fn tear(machine: &Machine, file: &mut Vec<u8>, chance: &mut Chance) {
-    let area = machine.geometry.meta_bytes() as usize;
-    let bytes = machine.geometry.shape.block_bytes() as usize;
-    for (at, length) in &machine.loose_area {
-        tear_range(file, *at as usize, *length, chance);
-    }
-    for (place, loose) in machine.loose.iter().enumerate() {
-        if *loose {
-            let at = area.saturating_add(place.saturating_mul(bytes));
-            tear_range(file, at, bytes, chance);
-        }
-    }
-}
-
-fn tear_range(file: &mut Vec<u8>, at: usize, length: usize, chance: &mut Chance) {
-    let filling = chance.below(3);
-    for byte in file.as_mut_slice().iter_mut().skip(at).take(length) {
-        match filling {
-            0 => *byte = 0,
-            1 => *byte = chance.byte(),
-            _ => {}
-        }
-    }
+    Ok(bytes_of(alloc, inside(alloc, parts)?)?)
 }

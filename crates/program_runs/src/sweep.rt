@@ -1,11 +1,7 @@
 //! Each call of a device fails in turn, under each script.
-use crate::comparing::compare;
-use crate::fault::Fault;
-use crate::judge::Trouble;
-use crate::play::play;
-use crate::scripts::{FORMAT, SCRIPTS, Script};
-use crate::trial::{try_script, without};
+use crate::play::{play, try_script};
 use program_run::OpenGate;
+use program_trials::{FORMAT, Fault, SCRIPTS, Script, Trouble, compare, without};
 use std::alloc::Global;
 use std::io;
 use std::rt::Runtime;

@@ -1,7 +1,6 @@
 //! What the program `f2fsim` tells of an input.
-use crate::cases::input::Input;
 use program_run::{OpenGate, check_image, run_script, tell_files};
-use program_script::{Script, Words};
+use program_trials::Input;
 use std::alloc::Global;
 use std::io;
 use std::io::Write;
@@ -43,31 +42,4 @@ pub fn answer<R: Threads + Wait + Sync>(
         writeln!(out, "status {status}")?;
     }
     Ok(out)
-}
-
-/// Tells the steps of a script, or at which line it is none.
-pub fn tell_script(alloc: Global, text: &[u8], told: &mut Vec<u8>) -> io::Result<()> {
-    match Script::parse(alloc, text) {
-        Ok(script) => {
-            let volume = script.volume;
-            writeln!(told, "volume {volume:?}")?;
-            for step in &script.steps {
-                writeln!(told, "{step:?}")?;
-            }
-            Ok(())
-        }
-        Err(error) => writeln!(told, "{error}"),
-    }
-}
-
-/// Tells what words, with a comma between two, ask for.
-pub fn tell_call(alloc: Global, text: &str, told: &mut Vec<u8>) -> io::Result<()> {
-    let mut words = Vec::new(alloc);
-    for word in text.split(',') {
-        words.push(word)?;
-    }
-    match Words::parse(alloc, words.as_slice()) {
-        Ok(words) => writeln!(told, "{words:?}"),
-        Err(error) => writeln!(told, "{error:?}"),
-    }
 }

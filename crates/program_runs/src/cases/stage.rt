@@ -1,24 +1,23 @@
 //! What stands ready for the steps of a case.
-use crate::cases::answer::{Question, answer, tell_call, tell_script};
-use crate::cases::input::{End, Input};
-use crate::cases::text::{bytes_of, number, push_lines};
+use crate::cases::answer::{Question, answer};
 use crate::cases::turns::run_in_turns;
 use crate::mounting::mount_bytes;
 use flash_volume::Leave;
+use program_trials::{
+    End, ImageFile, Input, number, push_lines, tell_call, tell_script, text_bytes,
+};
 use std::alloc::{AllocError, Global};
 use std::io;
 use std::io::Write;
 use std::sync::Wait;
 use std::thread::Threads;
-use test_support::{base_file, empty_file, file_of_format_one};
 
-/// The lines of a script that is not run yet, an image file and one that is kept beside it, and what was told.
+/// The lines of a script that is not run yet, an image file, and what was told.
 #[derive(Drop)]
 pub struct Stage {
     alloc: Global,
     script: String,
-    image: Vec<u8>,
-    kept: Vec<u8>,
+    image: ImageFile,
     told: Vec<u8>,
 }
 
@@ -27,8 +26,7 @@ impl Stage {
         Stage {
             alloc,
             script: String::new(alloc),
-            image: Vec::new(alloc),
-            kept: Vec::new(alloc),
+            image: ImageFile::new(alloc),
             told: Vec::new(alloc),
         }
     }
@@ -47,7 +45,7 @@ impl Stage {
     /// Runs the script if there is one, and then does a step. The image is what was put aside last.
     ///
     /// - `again N` runs the script so often, and tells each time that it told something else than at first;
-    /// - `turns N` does so through a gate that holds two workers before their second call, each until the other's first has answered;
+    /// - `turns N` does so with two workers whose three calls each take turns;
     /// - `run TEXT` and `parse TEXT` take a text as a script, `call WORDS` words of the program;
     /// - `empty`, `base` and `one`, of format 1, are images built by hand; `keep` keeps one, and `same` tells where another is not the same;
     /// - `change PLACE=BYTE ..`, or `PLACE+COUNT=BYTE`, and `cut LENGTH` change the image; `length` and `bytes FROM COUNT` tell what it is;
@@ -71,11 +69,11 @@ impl Stage {
             "endless" => self.read_endless(rt),
             "broken" => self.read_broken(rt, rest),
             "parse" => {
-                let text = bytes_of(self.alloc, rest)?;
+                let text = text_bytes(self.alloc, rest)?;
                 tell_script(self.alloc, text.as_slice(), &mut self.told)
             }
             "call" => tell_call(self.alloc, rest, &mut self.told),
-            _ => self.handle(verb, rest),
+            _ => self.image.handle(verb, rest, &mut self.told),
         }
     }
 
@@ -93,14 +91,14 @@ impl Stage {
             }
         }
         self.told.extend_from_slice(first.as_slice())?;
-        self.image = image;
+        self.image.bytes = image;
         self.script = String::new(self.alloc);
         Ok(())
     }
 
     // Runs the script so often, its two workers in turns.
     fn take_turns<R: Threads + Wait + Sync>(&mut self, rt: &R, times: u32) -> io::Result<()> {
-        let script = self.script.as_str().as_bytes();
+        let script = self.script.as_str();
         run_in_turns(rt, self.alloc, script, times, &mut self.told)?;
         self.script = String::new(self.alloc);
         Ok(())
@@ -108,10 +106,10 @@ impl Stage {
 
     // Runs a text as a script.
     fn run_text<R: Threads + Wait + Sync>(&mut self, rt: &R, text: &str) -> io::Result<()> {
-        let text = bytes_of(self.alloc, text)?;
+        let text = text_bytes(self.alloc, text)?;
         let (told, image) = answer_script(rt, self.alloc, text.as_slice())?;
         self.told.extend_from_slice(told.as_slice())?;
-        self.image = image;
+        self.image.bytes = image;
         Ok(())
     }
 
@@ -123,7 +121,7 @@ impl Stage {
         end: End,
     ) -> io::Result<()> {
         let mut saved = Vec::new(self.alloc);
-        let mut input = Input::new(self.image.as_slice(), end);
+        let mut input = Input::new(self.image.bytes.as_slice(), end);
         let told = answer(rt, self.alloc, question, &mut input, &mut saved)?;
         self.told.extend_from_slice(told.as_slice())?;
         if input.given > 0 {
@@ -134,10 +132,10 @@ impl Stage {
 
     // Mounts the image, and leaves the volume.
     fn mount<R: Wait>(&mut self, rt: &R, leave: Leave) -> io::Result<()> {
-        let Some(handed) = mount_bytes(rt, self.alloc, self.image.as_slice(), leave)? else {
+        let Some(handed) = mount_bytes(rt, self.alloc, self.image.bytes.as_slice(), leave)? else {
             return writeln!(self.told, "no device");
         };
-        self.image = handed.bytes;
+        self.image.bytes = handed.bytes;
         match handed.refused {
             Some(error) => writeln!(self.told, "refused {}: {error}", error.number()),
             None => Ok(()),
@@ -156,48 +154,6 @@ impl Stage {
         };
         self.ask(rt, Question::Check, End::Failed(kind))?;
         self.ask(rt, Question::Script, End::Failed(kind))
-    }
-
-    // Changes the image, or tells what it is.
-    fn handle(&mut self, verb: &str, rest: &str) -> io::Result<()> {
-        match verb {
-            "empty" => self.image = empty_file(self.alloc)?,
-            "base" => self.image = base_file(self.alloc)?,
-            "one" => self.image = file_of_format_one(self.alloc)?,
-            "keep" => self.kept = Vec::from_slice(self.alloc, self.image.as_slice())?,
-            "same" if self.kept.as_slice() == self.image.as_slice() => {}
-            "change" => self.change(rest),
-            "cut" => self.image.resize(number(rest) as usize, 0)?,
-            "length" => writeln!(self.told, "{}", self.image.len())?,
-            "bytes" => self.tell_bytes(rest)?,
-            _ => writeln!(self.told, "not so: {verb} {rest}")?,
-        }
-        Ok(())
-    }
-
-    // Puts bytes at places of the image: `PLACE=BYTE ..`, or `PLACE+COUNT=BYTE` from one on.
-    fn change(&mut self, changes: &str) {
-        for word in changes.split(' ') {
-            let (place, byte) = word.split_once('=').unwrap_or((word, ""));
-            let (first, count) = place.split_once('+').unwrap_or((place, "1"));
-            let (first, count) = (number(first) as usize, number(count) as usize);
-            if let Ok(byte) = u8::from_str_radix(byte, 16) {
-                for changed in self.image.as_mut_slice().iter_mut().skip(first).take(count) {
-                    *changed = byte;
-                }
-            }
-        }
-    }
-
-    // Tells the bytes of a part of the image: `FROM COUNT`.
-    fn tell_bytes(&mut self, part: &str) -> io::Result<()> {
-        let (from, count) = part.split_once(' ').unwrap_or((part, ""));
-        let (from, count) = (number(from) as usize, number(count) as usize);
-        write!(self.told, "bytes")?;
-        for byte in self.image.as_slice().iter().skip(from).take(count) {
-            write!(self.told, " {byte:02x}")?;
-        }
-        writeln!(self.told, "")
     }
 }
 

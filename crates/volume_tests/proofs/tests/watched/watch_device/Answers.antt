@@ -1,4 +1,4 @@
-use Rattle.volume_tests.proofs.Wrapped.{run_outside}
+use Rattle.test_support.proofs.Wrapped.{run_outside}
 use Rattle.volume_tests.proofs.tests.watched.watch_device.Goals as goal
 
 -- the blocks inside are the device's

@@ -1,13 +1,16 @@
-//! A script that meets trouble, and the same script without what was refused for it.
+//! What a script told is judged, and the script is told without what was refused.
 use crate::fault::Fault;
-use crate::judge::{Judge, Trouble, Verdict};
-use crate::play::{Told, play};
-use program_run::OpenGate;
-use program_run::status::FAILED;
+use crate::judge::{FAILED, Judge, Trouble, Verdict};
 use program_script::{Command, Script, ScriptError, Step};
 use std::alloc::{AllocError, Global};
-use std::sync::Wait;
-use std::thread::Threads;
+
+/// What a script told on its two streams, and its status.
+#[derive(Drop)]
+pub struct Told {
+    pub lines: Vec<u8>,
+    pub errors: Vec<u8>,
+    pub status: u8,
+}
 
 /// The lines of a stream, without the empty one behind the last.
 pub fn lines_of(alloc: Global, bytes: &[u8]) -> Result<Vec<&[u8]>, Fault> {
@@ -19,19 +22,13 @@ pub fn lines_of(alloc: Global, bytes: &[u8]) -> Result<Vec<&[u8]>, Fault> {
     Ok(lines)
 }
 
-/// Runs a script and judges its lines.
-pub fn try_script<R: Threads + Wait + Sync>(
-    rt: &R,
+/// Judges the lines of a script that met this trouble.
+pub fn judge_lines(
     alloc: Global,
     text: &str,
+    told: &Told,
     trouble: Trouble,
-) -> Result<(Told, Verdict), Fault> {
-    let told = play(rt, alloc, text, None, &OpenGate);
-    let verdict = judge(alloc, text, &told, trouble)?;
-    Ok((told, verdict))
-}
-
-fn judge(alloc: Global, text: &str, told: &Told, trouble: Trouble) -> Result<Verdict, Fault> {
+) -> Result<Verdict, Fault> {
     let script = parsed(alloc, text)?;
     let lines = lines_of(alloc, told.lines.as_slice())?;
     let mut rest = lines.as_slice();

@@ -15,7 +15,7 @@ pub fn push_lines(all: &mut String, line: &str) -> Result<(), AllocError> {
 }
 
 /// The bytes of a text in which `\n`, `\r` and `\t` are signs of that name, and `~` is a byte that no text has.
-pub fn bytes_of(alloc: Global, text: &str) -> Result<Vec<u8>, AllocError> {
+pub fn text_bytes(alloc: Global, text: &str) -> Result<Vec<u8>, AllocError> {
     let text = text.replace(alloc, "\\n", "\n")?;
     let text = text.as_str().replace(alloc, "\\r", "\r")?;
     let text = text.as_str().replace(alloc, "\\t", "\t")?;

@@ -6,10 +6,16 @@
 use crate::fault::Fault;
 use crate::files::{Files, tell_bytes};
 use crate::scripts::FILES;
-use program_run::status::{DONE, FAILED, REFUSED};
 use program_script::{Command, Step, Work};
 use std::alloc::Global;
 use std::fmt::Write;
+
+// The exit statuses of the program.
+pub(crate) const DONE: u8 = 0;
+
+pub(crate) const REFUSED: u8 = 1;
+
+pub(crate) const FAILED: u8 = 4;
 
 const DEVICE: &[u8] = b"refused 2 Device";
 

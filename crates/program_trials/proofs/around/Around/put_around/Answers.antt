@@ -2,9 +2,9 @@ use Rattle.std.proofs.Common.{◌≡◌, ◌∙◌, ℕ, List, ap, map}
 use Rattle.std.specs.Arc.{arc_value}
 use Rattle.device.specs.declared.faulty.Faulty.{Faulty}
 use Rattle.device.specs.declared.memory.block.MemBlock.{MemBlock}
-use Rattle.program_run.proofs.Wrapped.{run_outside}
-use Rattle.program_runs.specs.declared.recorded.Recorded.{Recorded}
-use Rattle.program_runs.proofs.around.Around.put_around.Goals as goal
+use Rattle.test_support.proofs.Wrapped.{run_outside}
+use Rattle.program_trials.specs.declared.recorded.Recorded.{Recorded}
+use Rattle.program_trials.proofs.around.Around.put_around.Goals as goal
 
 abbrev address : MemBlock → ℕ
 address block = block.address

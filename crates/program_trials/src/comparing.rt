@@ -1,7 +1,6 @@
 //! Whether a run that met trouble told the same numbers as one of what was accepted.
 use crate::fault::Fault;
-use crate::play::Told;
-use crate::trial::{is_quiet, lines_of, parsed};
+use crate::trial::{Told, is_quiet, lines_of, parsed};
 use program_script::{Command, Step, Work};
 use std::alloc::{AllocError, Global};
 

@@ -67,14 +67,14 @@ impl Around {
 pub fn inside(
     alloc: Global,
     parts: Parts<Recorded<Faulty<MemMeta>>, Recorded<Faulty<MemBlock>>>,
-) -> Result<MemDevice, Fault> {
+) -> Result<Parts<MemMeta, MemBlock>, Fault> {
     let Parts { meta, blocks } = parts;
     let mut plain = Vec::new(alloc);
     for block in blocks {
         plain.push(block.into_inner().into_inner())?;
     }
-    Ok(MemDevice::join(Parts {
+    Ok(Parts {
         meta: meta.into_inner().into_inner(),
         blocks: plain,
-    }))
+    })
 }
