@@ -1,7 +1,7 @@
 // What lies in locks and in calls, and what has no caller but here.
-ghost use Rattle.std.specs.Prelude.{◌≡◌, ◌<◌, ◌∷◌, []};
+ghost use Rattle.std.specs.Prelude.{◌≡◌, ◌<◌, []};
 
-use atomic_table::{Shared, Split, Table, TableRule};
+use atomic_table::{Seat, Shared, Split, Table, TableRule};
 use device::MemBlock;
 use nat::NodeTable;
 use rights_books::{
@@ -88,11 +88,20 @@ impl Fact<u64> for SameView {
     ghost told = { λ vs ws. vs ≡ ws };
 }
 
+// Cuts a seat in two, which have one view.
+fn split(table: &Shared<(), u64, u64, Alike>, seat: &mut Seat<(), u64>) -> Seat<(), u64>
+    requires { (seat.old.table_id ≡ table.now.table_id) × (0 < table.now.table_id.words) }
+    ensures seat { (seat.new.table_id ≡ seat.old.table_id) × (seat.new.id ≡ seat.old.id) × (seat.new.me ≡ seat.old.me) }
+    ensures second { (result.table_id ≡ seat.old.table_id) × (result.me ≡ (seat.old.me.0, [])) }
+{
+    table.split_seat::<Copied>(seat)
+}
+
 // Two seats of a table tell what its rule says of both. Nothing runs.
 #[test]
 fn two_seats_agree(rt: HostRuntime) -> Result<(), Fail> {
     let (table, mut seat) = Table::<(), u64, u64, Alike, Global>::of_words(rt.alloc(), &[0], &7)?;
-    let second = table.shared.split_seat::<Copied>(&mut seat);
+    let second = split(&table.shared, &mut seat);
     let mut one = Shown::of_seat(seat);
     let other = Shown::of_seat(second);
     agree_apart::<(), u64, u64, Alike, SameView>(&table.shared, &mut one, &other);

@@ -2,4 +2,4 @@ use Rattle.core_tests.proofs.turnstile.no_call_is_under_way_in_an_audit.Given as
 
 -- the books that were just opened
 abbrev pub ghosts-with_books : goal.ghosts-with_books
-ghosts-with_books a = record { books = a.books }
+ghosts-with_books l a = record { books = a.books }
