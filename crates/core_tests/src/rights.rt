@@ -34,7 +34,8 @@ const LAYOUT: Layout = Layout {
 
 // A table of 4 numbers of inodes and 24 others.
 #[test]
-fn the_lowest_number_goes_out_again(rt: HostRuntime) -> Result<(), Fail> {
+#[tactic(auto, using(nat::proofs::Handed::entry_first))]
+fn a_number_is_taken_and_given_back(rt: HostRuntime) -> Result<(), Fail> {
     let Opened {
         books,
         permits,
@@ -44,17 +45,16 @@ fn the_lowest_number_goes_out_again(rt: HostRuntime) -> Result<(), Fail> {
     } = Books::format(rt.alloc(), &LAYOUT)?;
     let (_permits, mut permit) = books.take_permit(permits);
     let mut table = NodeTable::<MemBlock>::new(rt.alloc(), &books, shards, 4, 28)?;
-    for number in [1u32, 1] {
-        let Ok(token) = table.new_inode(&books, &mut permit) else {
-            panic!(rt; "no inode");
-        };
-        assert!(rt; token.number() == number);
-        assert!(rt; table.locate(number) == Some((1, 0)));
-        match table.give(&books, &mut permit, token) {
-            None => {}
-            Some(_ticket) => panic!(rt; "it had no block"),
-        }
+    let Ok(token) = table.new_inode(&books, &mut permit) else {
+        panic!(rt; "no inode");
+    };
+    assert!(rt; token.number() == 1);
+    assert!(rt; table.locate(1) == Some((1, 0)));
+    match table.give(&books, &mut permit, token) {
+        None => {}
+        Some(_ticket) => panic!(rt; "it had no block"),
     }
+    assert!(rt; table.locate(1) == None);
     Ok(())
 }
 
