@@ -32,7 +32,7 @@ const MAKERS: Crowd = Crowd {
     found: &[
         3, 16, 1, 1, 7, 2, 1, 7, 3, 1, 7, 4, 1, 7, 5, 1, 7, 6, 1, 7, 7, 1, 7, 8, 1, 7,
     ],
-    runs: 100,
+    runs: 50,
 };
 
 // The first blocks of a directory and of a file stand in segments 3 and 4.
