@@ -1,6 +1,6 @@
 //! A mount that is refused: a call of the device fails, or the device holds no volume.
 use super::steps::Step::{Make, Tell};
-use super::steps::{Steps, made};
+use super::steps::{Steps, made, refused};
 use super::watched::{Watch, watch_device};
 use flash_volume::{Error, Kind, Leave, MemMeta, Parts, Stage, work_on};
 use std::alloc::Global;
@@ -18,7 +18,7 @@ const DAMAGES: [(Changes<'static>, Error); 3] = [
 ];
 
 // A mount of a device that was changed so, whose call of this number fails, if that is not 0, is refused, and hands each byte back.
-// The next one passes, where nothing was changed.
+// The next one passes, where nothing was changed. NoMemory is told only where a growth is refused.
 fn refuse<R: Wait + Abort>(
     rt: &R,
     alloc: Global,
@@ -34,23 +34,11 @@ fn refuse<R: Wait + Abort>(
     let meta = MemMeta::new(bytes);
     let parts = watch_device(alloc, Parts { meta, blocks }, &watch)?;
     watch.fuse.arm(nth, false)?;
-    let parts = match work_on(rt, alloc, parts, Leave::Discard, Steps(&[Tell], None)) {
-        Ok(done) => {
-            assert!(rt;
-                wanted == Error::NoMemory,
-                "not refused, in place of {wanted}"
-            );
-            done.parts
-        }
-        Err(fault) => {
-            assert!(rt;
-                (fault.stage, fault.error) == (Stage::Mount, wanted),
-                "{}",
-                fault.error
-            );
-            fault.parts
-        }
-    };
+    let done = work_on(rt, alloc, parts, Leave::Discard, Steps(&[Tell], None));
+    if wanted == Error::NoMemory && done.is_ok() {
+        return Ok(());
+    }
+    let parts = refused(rt, done, (Stage::Mount, wanted));
     assert!(rt;
         parts.meta.part.inner.bytes.as_slice() == kept.as_slice(),
         "at {nth}, {wanted}"
