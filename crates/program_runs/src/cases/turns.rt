@@ -22,14 +22,15 @@ pub fn run_in_turns<R: Threads + Wait + Sync>(
     for run in 0..times {
         let order = Order::of(rt, Vec::from_slice(alloc, &WORKERS)?, true);
         let next = play(rt, alloc, script, None, &order);
+        let status = next.status;
         if run == 0 {
             told.extend_from_slice(next.lines.as_slice())?;
             first = next.lines;
         } else if next.lines.as_slice() != first.as_slice() {
             told.extend_from_slice(next.lines.as_slice())?;
         }
-        if next.status != 0 {
-            writeln!(told, "status {}", next.status)?;
+        if status != 0 {
+            writeln!(told, "status {status}")?;
         }
     }
     Ok(())
