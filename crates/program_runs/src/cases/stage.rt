@@ -45,7 +45,7 @@ impl Stage {
     /// Runs the script if there is one, and then does a step. The image is what was put aside last.
     ///
     /// - `again N` runs the script so often, and tells each time that it told something else than at first;
-    /// - `turns N` does so with two workers whose three calls each take turns;
+    /// - `turns N` does so through a gate that holds two workers before their second call, each until the other's first has answered;
     /// - `run TEXT` and `parse TEXT` take a text as a script, `call WORDS` words of the program;
     /// - `empty`, `base` and `one`, of format 1, are images built by hand; `keep` keeps one, and `same` tells where another is not the same;
     /// - `change PLACE=BYTE ..`, or `PLACE+COUNT=BYTE`, and `cut LENGTH` change the image; `length` and `bytes FROM COUNT` tell what it is;
@@ -98,7 +98,7 @@ impl Stage {
 
     // Runs the script so often, its two workers in turns.
     fn take_turns<R: Threads + Wait + Sync>(&mut self, rt: &R, times: u32) -> io::Result<()> {
-        let script = self.script.as_str();
+        let script = self.script.as_str().as_bytes();
         run_in_turns(rt, self.alloc, script, times, &mut self.told)?;
         self.script = String::new(self.alloc);
         Ok(())
