@@ -1,5 +1,5 @@
 //! Calls enter and leave while another gathers all permits and audits the books. What is asserted holds under every schedule. A
-//! permit that is lost shows as a gather that never ends.
+//! permit that is lost shows as a gather that never ends. Calls that wait while the turnstile is wounded are refused.
 ghost use Rattle.std.specs.Prelude.{◌≡◌, ◌/◌};
 ghost use Rattle.rights_permits.specs.Turns.{all_permits};
 
@@ -28,6 +28,9 @@ const TURNS: u32 = 300;
 const CHANNEL: u32 = 16;
 
 const RESTS: u32 = 48;
+
+// How many wait for a permit while the turnstile is wounded.
+const WAITING: usize = 4;
 
 // The number by which a thread calls: 0 is the channel's, and those from 1 on have a rest each. None gathers and audits.
 type Caller = Option<u32>;
@@ -75,15 +78,17 @@ struct Hall<B: BooksName> {
     inside: AtomicU32,
 }
 
-// A call that changes the volume: it holds a permit for its whole length.
+// A call that changes the volume: it holds a permit for its whole length. Answers whether it got one.
 fn call<N: VolumeName, R: Wait>(
     rt: &R,
     turnstile: &Turnstile<N::Books, N::Turns>,
     hall: &Hall<N::Books>,
     number: u32,
     meet: bool,
-) {
-    let mut permit = turnstile.enter_by(rt, number);
+) -> bool {
+    let Ok(mut permit) = turnstile.enter_by(rt, number) else {
+        return false;
+    };
     hall.inside.fetch_add(1, Ordering::SeqCst);
     if meet {
         hall.together.wait(rt);
@@ -96,6 +101,7 @@ fn call<N: VolumeName, R: Wait>(
     if meet {
         hall.together.wait(rt);
     }
+    true
 }
 
 // With all permits in hand, one is lent, and then the books are audited. Tells how many calls were under way meanwhile.
@@ -123,7 +129,7 @@ fn audit<N: VolumeName, R: Wait>(
     inside
 }
 
-// What one thread of a play does. Tells how often a call was under way in an audit.
+// What one thread of a play does. Tells how often a call was under way in an audit, or got no permit.
 fn work<N: VolumeName, R: Wait>(
     rt: &R,
     turnstile: &Turnstile<N::Books, N::Turns>,
@@ -134,7 +140,8 @@ fn work<N: VolumeName, R: Wait>(
     let mut wrong = 0u32;
     for _ in 0..TURNS {
         match caller {
-            Some(number) => call::<N, R>(rt, turnstile, hall, number, meet),
+            Some(number) if call::<N, R>(rt, turnstile, hall, number, meet) => {}
+            Some(_) => wrong = wrong.saturating_add(1),
             None => wrong = wrong.saturating_add(audit::<N, R>(rt, turnstile, hall, meet)),
         }
     }
@@ -142,18 +149,38 @@ fn work<N: VolumeName, R: Wait>(
 }
 
 // A call by the rest of each number that has one, while so many permits of the channel are held. A call that had to wait for one
-// would wait for ever.
-fn serve_all<B: BooksName, J: TurnName, R: Wait>(rt: &R, turnstile: &Turnstile<B, J>, held: u32) {
+// would wait for ever. Answers whether each got one.
+fn serve_all<B: BooksName, J: TurnName, R: Wait>(
+    rt: &R,
+    turnstile: &Turnstile<B, J>,
+    held: u32,
+) -> bool {
     if held > 0 {
-        let permit = turnstile.enter(rt);
-        serve_all(rt, turnstile, held - 1);
+        let Ok(permit) = turnstile.enter(rt) else {
+            return false;
+        };
+        let served = serve_all(rt, turnstile, held - 1);
         turnstile.leave(rt, permit);
-        return;
+        return served;
     }
+    let mut served = true;
     for number in 0..RESTS {
-        let permit = turnstile.enter_by(rt, number + 1);
-        turnstile.leave_by(rt, number + 1, permit);
+        served = is_let_in(rt, turnstile, number + 1) && served;
     }
+    served
+}
+
+// Whether a call by a number gets a permit.
+fn is_let_in<B: BooksName, J: TurnName, R: Wait>(
+    rt: &R,
+    turnstile: &Turnstile<B, J>,
+    number: u32,
+) -> bool {
+    let Ok(permit) = turnstile.enter_by(rt, number) else {
+        return false;
+    };
+    turnstile.leave_by(rt, number, permit);
+    true
 }
 
 fn with_turnstile<B: BooksName + Send + Sync, J: TurnName + Send + Sync, R: Threads + Wait + Sync>(
@@ -189,11 +216,64 @@ fn with_turnstile<B: BooksName + Send + Sync, J: TurnName + Send + Sync, R: Thre
             None => 1,
         },
     );
-    serve_all(rt, &turnstile, 0);
-    serve_all(rt, &turnstile, CHANNEL);
+    let served = serve_all(rt, &turnstile, 0) && serve_all(rt, &turnstile, CHANNEL);
     let all = turnstile.gather(rt);
     turnstile.end(all);
-    Ok(wrong?)
+    let mut wrong = wrong?;
+    wrong.push(u32::from(!served))?;
+    Ok(wrong)
+}
+
+// Threads call while another has all permits, who wounds the turnstile and gives them back. Tells who got a permit all the same.
+fn wound_beside<B: BooksName + Send + Sync, J: TurnName + Send + Sync, R: Threads + Wait + Sync>(
+    rt: &R,
+    alloc: Global,
+    books: Books,
+    permits: Permits,
+    opened: OpenedTurnstile<B>,
+) -> Result<Vec<bool>, Error>
+    requires books { books ≡ B.books }
+    requires permits { permits ≡ record { book = B.books.book; count = all_permits } }
+    requires turns { opened.turns ≡ J.turns }
+    requires key { opened.key ≡ J.key }
+{
+    let (turnstile, all) = opened.named::<J>(books, permits);
+    turnstile.scatter(rt, all);
+    let together = Barrier::new(WAITING + 1);
+    let let_in = thread::map_indices(
+        rt,
+        alloc,
+        WAITING + 1,
+        &|i| {
+            if i == WAITING {
+                let all = turnstile.gather(rt);
+                let auditing = turnstile.audit(all);
+                together.wait(rt);
+                turnstile.wound(&auditing);
+                let all = turnstile.end_audit(auditing);
+                turnstile.scatter(rt, all);
+                return false;
+            }
+            together.wait(rt);
+            is_let_in(rt, &turnstile, i as u32)
+        },
+    );
+    let all = turnstile.gather(rt);
+    turnstile.end(all);
+    Ok(let_in?)
+}
+
+fn wound_books<B: BooksName + Send + Sync, R: Threads + Wait + Sync>(
+    rt: &R,
+    alloc: Global,
+    books: Books,
+    permits: Permits,
+) -> Result<Vec<bool>, Error>
+    requires books { books ≡ B.books }
+    requires permits { permits ≡ record { book = B.books.book; count = all_permits } }
+{
+    let opened = OpenedTurnstile::<B>::new(alloc)?;
+    wound_beside::<B, Brand, R>(rt, alloc, books, permits, opened)
 }
 
 fn with_books<B: BooksName + Send + Sync, R: Threads + Wait + Sync>(
@@ -226,7 +306,19 @@ fn no_call_is_under_way_in_an_audit(rt: HostRuntime) -> Result<(), Fail> {
         let (permits, dealer) = books.deal_permits(dealer);
         let (account, _) = books.deal_segment(dealer);
         let wrong = with_books::<Brand, _>(&rt, alloc, callers, meet, books, permits, account)?;
-        assert!(rt; wrong.len() == callers.len() && wrong.iter().all(|times| *times == 0));
+        assert!(rt; wrong.len() == callers.len() + 1 && wrong.iter().all(|times| *times == 0));
+    }
+    Ok(())
+}
+
+#[test]
+fn no_call_that_waited_goes_on_once_it_is_wounded(rt: HostRuntime) -> Result<(), Fail> {
+    let alloc = rt.alloc();
+    for _ in 0..TURNS {
+        let (books, dealer) = Books::open(alloc, &LAYOUT)?;
+        let (permits, _) = books.deal_permits(dealer);
+        let let_in = wound_books::<Brand, _>(&rt, alloc, books, permits)?;
+        assert!(rt; let_in.len() == WAITING + 1 && !let_in.contains(&true));
     }
     Ok(())
 }

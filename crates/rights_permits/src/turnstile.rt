@@ -1,6 +1,7 @@
 //! The turnstile: the books, and both ends of the channel of their permits.
-ghost use Rattle.std.specs.Prelude.{◌≡◌, ◌<◌, ◌+◌, ◌-◌, []};
+ghost use Rattle.std.specs.Prelude.{◌≡◌, ◌<◌, ◌+◌, ◌-◌, [], IfOk, IfErr};
 ghost use Rattle.crossbeam_channel.specs.Ends.{sends_on, receives_on};
+ghost use Rattle.geometry.specs.declared.error.Error.TheVariants.{Wounded};
 ghost use Rattle.rights_permits.specs.Turns.{all_permits, at_home, IsRing};
 
 use crate::all::{AllPermits, Auditing};
@@ -8,20 +9,24 @@ use crate::law::{Receives, Sends};
 use crate::permit::{Card, Permit};
 use crate::rests::Rests;
 use crate::token::{IdleToken, Token};
+use geometry::Error;
 use rights_books::{Books, Permits};
 use rights_names::{BooksName, TurnName};
+use std::sync::atomic::{AtomicBool, Ordering};
 use std::sync::{Mutex, Wait};
 
 const PERMITS: u32 = 64;
 
 /// The books, and the permits for the calls that change the volume. All threads share it by `&`. No call takes memory.
-/// It has one end, with all permits in hand. The rests lie behind all else, since threads write there all the time.
+/// It has one end, with all permits in hand. It may be wounded: then no call gets a permit any more. The rests lie behind all else,
+/// since threads write there all the time.
 pub struct Turnstile<B: BooksName, J: TurnName> {
     books: Books,
     sender: Sends<B>,
     receiver: Receives<B>,
     sending: Mutex<IdleToken<B, J>>,
     receiving: Mutex<IdleToken<B, J>>,
+    wounded: AtomicBool,
     rests: Rests<B, J>,
     ghost books_are: { books ≡ B.books },
     ghost sends: { IsRing J.turns J.key (sends_on sender) },
@@ -46,6 +51,7 @@ impl<B: BooksName, J: TurnName> Turnstile<B, J> {
             receiver,
             sending: Mutex::new(sending),
             receiving: Mutex::new(receiving),
+            wounded: AtomicBool::new(false),
             rests: Rests::new(),
         }
     }
@@ -58,11 +64,14 @@ impl<B: BooksName, J: TurnName> Turnstile<B, J> {
     }
 
     /// Takes a permit, with nothing in hand, and waits for one.
-    pub fn enter<R: Wait>(&self, rt: &R) -> Permit<B, J>
-        ensures hand { result.hand ≡ at_home B.books.book }
+    ///
+    /// Answers Wounded where the turnstile is wounded, also where that came about while the call waited.
+    pub fn enter<R: Wait>(&self, rt: &R) -> Result<Permit<B, J>, Error>
+        ensures hand { IfOk result (λ permit. permit.hand ≡ at_home B.books.book) }
+        ensures error { IfErr result (λ error. error ≡ Wounded) }
     {
-        let mut idle = self.receiving.lock(rt);
-        self.take_one(rt, &mut *idle)
+        let permit = self.wait_for_one(rt);
+        self.admit(rt, permit)
     }
 
     /// Gives a permit back, which has nothing in hand.
@@ -76,13 +85,17 @@ impl<B: BooksName, J: TurnName> Turnstile<B, J> {
 
     /// Takes a permit for a call on the file of this number, with nothing in hand: the one that rests there, and else it waits
     /// for one as `enter` does. The numbers from 1 to 48 have a rest.
-    pub fn enter_by<R: Wait>(&self, rt: &R, number: u32) -> Permit<B, J>
-        ensures hand { result.hand ≡ at_home B.books.book }
+    ///
+    /// Answers Wounded where the turnstile is wounded, also where that came about while the call waited.
+    pub fn enter_by<R: Wait>(&self, rt: &R, number: u32) -> Result<Permit<B, J>, Error>
+        ensures hand { IfOk result (λ permit. permit.hand ≡ at_home B.books.book) }
+        ensures error { IfErr result (λ error. error ≡ Wounded) }
     {
-        match self.rests.take(rt, number) {
+        let permit = match self.rests.take(rt, number) {
             Some(permit) => permit,
-            None => self.enter(rt),
-        }
+            None => self.wait_for_one(rt),
+        };
+        self.admit(rt, permit)
     }
 
     /// Gives a permit back, which has nothing in hand, after a call on the file of this number. It rests there for the next call
@@ -94,6 +107,18 @@ impl<B: BooksName, J: TurnName> Turnstile<B, J> {
         if let Some(back) = self.rests.put(rt, number, permit) {
             self.leave(rt, back);
         }
+    }
+
+    /// From now on no call gets a permit, those neither that wait for one: all permits are in the audit, so whoever gets one later
+    /// sees it. Who gathers still gets all.
+    pub fn wound(&self, auditing: &Auditing<B, J>) {
+        let _all = auditing;
+        self.wounded.store(true, Ordering::SeqCst);
+    }
+
+    /// Whether no call gets a permit any more.
+    pub fn is_wounded(&self) -> bool {
+        self.wounded.load(Ordering::SeqCst)
     }
 
     /// Takes all permits, with nothing in hand, and waits for them.
@@ -144,6 +169,7 @@ impl<B: BooksName, J: TurnName> Turnstile<B, J> {
             receiver: _,
             sending,
             receiving,
+            wounded: _,
             rests,
         } = self;
         let IdleToken { token: sent } = sending.into_inner();
@@ -153,6 +179,26 @@ impl<B: BooksName, J: TurnName> Turnstile<B, J> {
         token.join(&sender, received);
         rests.end(&sender, &mut token);
         token.end(sender);
+    }
+
+    fn wait_for_one<R: Wait>(&self, rt: &R) -> Permit<B, J>
+        ensures { result.hand ≡ at_home B.books.book }
+    {
+        let mut idle = self.receiving.lock(rt);
+        self.take_one(rt, &mut *idle)
+    }
+
+    // Lets a call go on with its permit, or takes that back where the turnstile is wounded.
+    fn admit<R: Wait>(&self, rt: &R, permit: Permit<B, J>) -> Result<Permit<B, J>, Error>
+        requires hand { permit.hand ≡ at_home B.books.book }
+        ensures hand { IfOk result (λ permit. permit.hand ≡ at_home B.books.book) }
+        ensures error { IfErr result (λ error. error ≡ Wounded) }
+    {
+        if self.is_wounded() {
+            self.leave(rt, permit);
+            return Err(Error::Wounded);
+        }
+        Ok(permit)
     }
 
     // Receives a permit. A receive that comes back without one is tried again.

@@ -1,0 +1,5 @@
+use Rattle.core_tests.proofs.turnstile.no_call_that_waited_goes_on_once_it_is_wounded.Given as goal
+
+-- the books that were just opened
+abbrev pub ghosts-wound_books : goal.ghosts-wound_books
+ghosts-wound_books l a = record { books = a.books }
