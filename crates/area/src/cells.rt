@@ -26,12 +26,12 @@ use device::{Block, DeviceError};
 use geometry::{Error, Owner};
 use nat::Shard;
 use pool::PoolPass;
-use rights_books::{Books, Permit};
+use rights_books::{Audit, Books, Permit};
 use rights_names::VolumeName;
 use sit::{SegmentRow, SegmentState};
 use std::marker::PhantomData;
 use tickets::{NidToken, Ticket};
-use words::{FreeSlip, StoredOpenSlip, Words};
+use words::{CheckpointSeat, FreeSlip, StoredOpenSlip, Words};
 
 /// A segment in its lock.
 #[derive(Drop)]
@@ -229,12 +229,15 @@ impl<V: VolumeName, B: Block + Drop> SegmentCell<V, B> {
         self.state.unthread();
     }
 
-    /// A checkpoint is complete that marks the segment's valid blocks.
-    pub fn keep(&mut self)
+    /// A checkpoint is complete that marks the segment's valid blocks. Only who may advance the version says so, and while an audit
+    /// has all permits.
+    pub fn keep(&mut self, seat: &CheckpointSeat, audit: &Audit)
+        requires words { seat.now.table ≡ V.Words.words }
+        requires book { audit.now.book ≡ V.Books.books.book }
         ensures state { self.new.state ≡ record self.old.state { segment = with_thread self.old.state.segment (keeping self.old.state.segment.summaries self.old.state.segment.thread) } }
         ensures number { self.new.number ≡ self.old.number }
     {
-        self.state.keep();
+        self.state.keep(seat, audit);
     }
 
     /// Takes back the ticket of one of its blocks, which is in hand, as `SegmentState::release` does. It cannot be refused.

@@ -22,19 +22,21 @@ use sit::SegmentState;
 use std::sync::Wait;
 
 /// All blocks of a main area in the order of their addresses, where no file has lodged anything: an audit of the books shows
-/// that no block is valid then. It waits for all permits, and takes no memory.
+/// that no block is valid then. It takes no memory.
 pub fn empty_area<V: VolumeName, B: Block + Drop, R: Wait>(
     rt: &R,
     area: MainArea<V, B>,
     spare: Spare<V, B>,
+    all: AllPermits<V::Books, V::Turns>,
     files: Vec<FileAccount>,
 ) -> Vec<B>
+    requires tickets { all.hand.tickets ≡ [] }
+    requires tokens { all.hand.tokens ≡ [] }
     requires files { HaveNothing V.Books.books.book files.items }
     requires every_file { vec_len files ≡ V.Numbers.geometry.files }
     ensures run { IsBlockRun B.address_of B.content_of (block_bytes V.Numbers.geometry.shape) 1 result.items }
     ensures count { vec_len result ≡ block_count V.Numbers.geometry }
 {
-    let all = area.turnstile().gather(rt);
     OwnedArea::own(rt, area, spare).empty(all, files)
 }
 

@@ -4,10 +4,12 @@ use Rattle.geometry.specs.declared.geometry.Geometry.{Geometry}
 use Rattle.geometry.specs.declared.shape.Shape.{Shape}
 use Rattle.geometry.specs.File.{Block}
 use Rattle.image.specs.Image.{Image}
+use Rattle.image.specs.Pack.{pack_body}
 use Rattle.image.specs.Reading.{read_nodes}
-use Rattle.device.specs.Disk.{Leaves}
+use Rattle.device.specs.Disk.{Leaves, LeavesOnly}
 use Rattle.packs.specs.Area.{reading_of}
-use Rattle.packs.specs.Device.{AreSettled, body_of}
+use Rattle.packs.specs.Device.{AreSettled, KeepsArea, body_of}
+use Rattle.packs.specs.Pack.{Between}
 use Rattle.packs.specs.declared.packs.Packs.{Packs}
 use Rattle.packs_format.specs.Holding.{HoldsTables}
 use Rattle.checkpoint.specs.declared.image_packs.ImagePacks.{ImagePacks}
@@ -30,3 +32,19 @@ read_with shape blocks image = record image { nodes = read_nodes shape blocks im
 abbrev pub IsInPack : {D : Type 0} → (D → List ℕ → Type 0) → Geometry → Image → List (Packs D × ℕ) → Type 0
 IsInPack {D} may_leave geometry image shown =
     (packs : Packs D) × (shown ≡ (packs, image.version) ∷ []) × (packs.geometry ≡ geometry) × Leaves may_leave packs.meta (HoldsTables geometry image)
+
+-- an image was written over packs: a crash at any moment since leaves their body or the image's as the one that counts
+abbrev pub IsWrittenOver : {D : Type 0} → (D → List ℕ) → (D → ℕ) → (D → ℕ → List ℕ → Type 0) → ImagePacks D → D → Image → Type 0
+IsWrittenOver seen moment left_since before meta image =
+    LeavesOnly moment left_since before.area.meta meta
+    (KeepsArea (seen before.area.meta) (Between (reading_of before.area.geometry) (counting_body seen before) (pack_body before.geometry.shape image)))
+
+-- the same over some packs of a volume of these numbers, which were whole
+abbrev pub WasWrittenOver : {D : Type 0} → (D → List ℕ) → (D → List ℕ → Type 0) → (D → ℕ) → (D → ℕ → List ℕ → Type 0) → Geometry → D → Image → Type 0
+WasWrittenOver {D} seen may_leave moment left_since geometry meta image =
+    (before : ImagePacks D) × AreWhole seen may_leave before × (before.geometry ≡ geometry) × IsWrittenOver seen moment left_since before meta image
+
+-- what was shown of a write is one pack, which was written so
+abbrev pub IsShownOver : {D : Type 0} → (D → List ℕ) → (D → List ℕ → Type 0) → (D → ℕ) → (D → ℕ → List ℕ → Type 0) → Geometry → Image → List (Packs D × ℕ) → Type 0
+IsShownOver {D} seen may_leave moment left_since geometry image shown =
+    (packs : Packs D) × (shown ≡ (packs, image.version) ∷ []) × WasWrittenOver seen may_leave moment left_since geometry packs.meta image

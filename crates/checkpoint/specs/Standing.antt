@@ -1,11 +1,18 @@
 -- What a meta area holds at each moment of a volume's life (Linux filesystems/f2fs, superblock and checkpoint area).
-use Rattle.std.specs.Prelude.{◌≢◌, ℕ, List, None}
+use Rattle.std.specs.Prelude.{◌≡◌, ℕ, List}
 use Rattle.geometry.specs.declared.geometry.Geometry.{Geometry}
-use Rattle.packs.specs.Pack.{picked}
-use Rattle.packs.specs.Area.{reading_of}
+use Rattle.image.specs.Image.{Image}
+use Rattle.image.specs.Rules.{IsLawful}
 use Rattle.packs_format.specs.Grammar.{HasSuper}
+use Rattle.packs_format.specs.Holding.{HoldsTables}
 
--- the superblock of these numbers, and a pack that counts
+-- a pack counts, and spells the tables of a lawful image
+pub record HoldsLawful (geometry : Geometry) (area : List ℕ) : Type 0 where
+  pub image : Image
+  pub lawful : IsLawful geometry image
+  pub tables : HoldsTables geometry image area
+
+-- the superblock of these numbers, and with it such a pack
 pub record HasVolume (geometry : Geometry) (area : List ℕ) : Type 0 where
   pub front : HasSuper geometry area
-  pub counts : picked (reading_of geometry) area ≢ None
+  pub counts : ∥ HoldsLawful geometry area ∥₁

@@ -2,9 +2,10 @@
 ghost use Rattle.std.specs.Prelude.{◌≡◌, ◌≤◌, ◌+◌, ◌^◌, ◌-◌, ◌<◌, ◌⊎◌, ◌∷◌, [], true, false, All, length, vec_capacity, OnOk, IfOk, IfErr};
 ghost use Rattle.geometry.specs.Area.{meta_bytes};
 ghost use Rattle.geometry.specs.declared.error.Error.TheVariants.{BadGeometry, Device, Wounded, Exhausted};
-ghost use Rattle.image.specs.Rules.{IsInRange};
+ghost use Rattle.image.specs.Image.{Image};
+ghost use Rattle.image.specs.Rules.{IsLawful};
 ghost use Rattle.checkpoint_image.specs.View.{taken_view};
-ghost use Rattle.checkpoint.specs.Holding.{AreWhole, IsInPack};
+ghost use Rattle.checkpoint.specs.Holding.{AreWhole, IsInPack, IsShownOver, IsWrittenOver};
 ghost use Rattle.packs_format.specs.Holding.{HoldsTables};
 ghost use Rattle.device.specs.Disk.{Leaves};
 ghost use Rattle.packs_format.specs.Grammar.{HasSuper};
@@ -22,8 +23,8 @@ use words::{CheckpointSeat, FreeSlip, Words};
 /// What a checkpoint needs: the two packs of the meta area, the right to advance the version, and with what it gives free
 /// segments back.
 ///
-/// Whatever crash comes leaves the superblock of the volume's numbers and a pack that counts. Until a pack write fails the
-/// packs are whole: it is always the same pack, and its version is complete.
+/// Whatever crash comes leaves the superblock of the volume's numbers and a pack that counts, which spells a lawful image. Until a
+/// pack write fails the packs are whole: it is always the same pack, and its version is complete.
 pub struct PacksCell<V: VolumeName, M: Meta> {
     // The version is advanced by `store` alone, once the next pack is the one that counts: so no segment that this pack no
     // longer names is free before.
@@ -60,6 +61,7 @@ impl<V: VolumeName, M: Meta> PacksCell<V, M> {
         requires words { checkpoint.table ≡ V.Words.words }
         requires whole { AreWhole M.seen M.may_leave packs }
         requires front { HasSuper V.Numbers.geometry (M.seen packs.area.meta) }
+        requires lawful { (image : Image) × IsLawful V.Numbers.geometry image × Leaves M.may_leave packs.area.meta (HoldsTables V.Numbers.geometry image) }
         requires complete { checkpoint.version ≡ packs.area.version }
         requires slips { All (λ slip. (slip.table ≡ V.Words.words) × (slip.segment < V.Numbers.geometry.segments)) kept.items }
         requires room { V.Numbers.geometry.segments ≤ vec_capacity kept }
@@ -99,31 +101,49 @@ impl<V: VolumeName, M: Meta> PacksCell<V, M> {
         }
     }
 
-    /// Writes an image as the next pack, and advances the version once it is the one that counts.
+    /// The right to advance the version.
+    pub fn seat(&self) -> &CheckpointSeat
+        ensures seat { result.now ≡ self.now.checkpoint }
+        ensures words { result.now.table ≡ V.Words.words }
+    {
+        &self.checkpoint
+    }
+
+    /// Writes an image as the next pack, and advances the version once it is the one that counts. The image borrows all permits of
+    /// the volume until then.
     ///
     /// Answers BadGeometry where the image is of a volume of another shape, and then nothing has changed; and Device where the
     /// device failed: the volume is wounded then. It takes no memory.
-    pub fn store<B: Block>(&mut self, words: &Words, taken: Taken<B>) -> Result<Stored<M, B>, Error>
+    pub fn store<B: Block>(
+        &mut self,
+        words: &Words,
+        taken: Taken<'_, B>,
+    ) -> Result<Stored<M, B>, Error>
         requires words { words.now.table ≡ V.Words.words }
+        requires permits { taken.audit.now.book ≡ V.Books.books.book }
         requires sound { self.old.wounded ≡ false }
-        requires range { IsInRange V.Numbers.geometry (taken_view taken.image) }
-        requires next { taken.image.tables.version ≡ self.old.packs.area.version + 1 }
-        ensures taken { IfOk result (λ stored. stored.taken ≡ taken) }
+        requires lawful { IsLawful V.Numbers.geometry (taken_view taken.recorded.image) }
+        requires next { taken.recorded.image.tables.version ≡ self.old.packs.area.version + 1 }
+        ensures taken { IfOk result (λ stored. stored.taken ≡ taken.entry.recorded) }
         ensures sound { OnOk result (self.new.wounded ≡ false) }
-        ensures written { IfOk result (λ stored. IsInPack M.may_leave V.Numbers.geometry (taken_view taken.image) stored.pack.shown.items) }
-        ensures complete { OnOk result (self.new.checkpoint.version ≡ taken.image.tables.version) }
-        ensures held { OnOk result (Leaves M.may_leave self.new.packs.area.meta (HoldsTables V.Numbers.geometry (taken_view taken.image))) }
+        ensures written { IfOk result (λ stored. IsInPack M.may_leave V.Numbers.geometry (taken_view taken.entry.recorded.image) stored.pack.shown.items) }
+        ensures complete { OnOk result (self.new.checkpoint.version ≡ taken.entry.recorded.image.tables.version) }
+        ensures held { OnOk result (Leaves M.may_leave self.new.packs.area.meta (HoldsTables V.Numbers.geometry (taken_view taken.entry.recorded.image))) }
+        // A crash at any moment of the call leaves the old pack or the new one, also where it fails.
+        ensures any_moment { IsWrittenOver M.seen M.moment M.left_since self.old.packs self.new.packs.area.meta (taken_view taken.entry.recorded.image) }
+        ensures shown_over { IfOk result (λ stored. IsShownOver M.seen M.may_leave M.moment M.left_since V.Numbers.geometry (taken_view taken.entry.recorded.image) stored.pack.shown.items) }
         ensures area { IfOk result (λ stored. stored.pack.shown.items ≡ (self.new.packs.area, self.new.packs.area.version) ∷ []) }
         ensures error { IfErr result (λ error. ((error ≡ BadGeometry) × (self.new.wounded ≡ false)) ⊎ ((error ≡ Device) × (self.new.wounded ≡ true))) }
-        ensures other { IfErr result (λ error. error ≡ BadGeometry → taken.image.geometry.shape ≡ V.Numbers.geometry.shape → ⊥) }
+        ensures other { IfErr result (λ error. error ≡ BadGeometry → taken.entry.recorded.image.geometry.shape ≡ V.Numbers.geometry.shape → ⊥) }
         ensures unchanged { IfErr result (λ error. error ≡ BadGeometry → self.new.packs ≡ self.old.packs) }
         // A version is complete only once its pack is on the device.
         ensures refused { IfErr result (λ error. self.new.checkpoint ≡ self.old.checkpoint) }
         ensures slips { (self.new.pass ≡ self.old.pass) × (self.new.kept ≡ self.old.kept) }
     {
+        let Taken { recorded, audit: _ } = taken;
         // A version fits its field.
-        let _version = taken.tables().version;
-        match self.packs.write(taken) {
+        let _version = recorded.tables().version;
+        match self.packs.write(recorded) {
             Ok(stored) => {
                 words.advance(&mut self.checkpoint);
                 Ok(stored)

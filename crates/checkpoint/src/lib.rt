@@ -7,6 +7,7 @@ mod cell;
 mod image_packs;
 mod opening;
 mod reading;
+mod recorded;
 mod slips;
 mod stored;
 mod taken;
@@ -14,5 +15,6 @@ mod writing;
 
 pub use cell::PacksCell;
 pub use image_packs::ImagePacks;
+pub use recorded::Recorded;
 pub use stored::Stored;
 pub use taken::Taken;

@@ -6,7 +6,7 @@ ghost use Rattle.checkpoint_image.specs.View.{taken_view};
 ghost use Rattle.packs.specs.Area.{reading_of};
 ghost use Rattle.packs.specs.Device.{body_of};
 
-use crate::Taken;
+use crate::Recorded;
 use checkpoint_image::TakenImage;
 use device::{Block, Meta};
 use geometry::Geometry;
@@ -18,7 +18,7 @@ use image::Image;
 /// write, and the version. The body that counted then is the image's.
 #[derive(Drop)]
 pub struct Stored<M: Meta, B: Block> {
-    pub(crate) taken: Taken<B>,
+    pub(crate) taken: Recorded<B>,
     pub(crate) geometry: Geometry,
     pub(crate) pack: packs::Stored<M>,
     ghost written: { All (λ entry. body_of (reading_of entry.0.geometry) M.seen entry.0
@@ -49,7 +49,7 @@ impl<M: Meta, B: Block> Stored<M, B> {
             geometry: _,
             pack: _,
         } = self;
-        let Taken { image, added: _ } = taken;
+        let Recorded { image, added: _ } = taken;
         image
     }
 }

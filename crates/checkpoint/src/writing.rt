@@ -14,7 +14,7 @@ ghost use Rattle.packs_format.specs.Grammar.{SpellsTables};
 ghost use Rattle.checkpoint.specs.Holding.{AreWhole, counting_body, read_with};
 ghost use Rattle.packs_format.specs.Holding.{HoldsTables};
 
-use crate::{ImagePacks, Stored, Taken};
+use crate::{ImagePacks, Recorded, Stored};
 use checkpoint_image::TakenImage;
 use device::{Block, Meta};
 use geometry::Error;
@@ -26,7 +26,7 @@ impl<M: Meta> ImagePacks<M> {
     /// Answers BadGeometry where the image was spelled for another shape than that of these packs, and then nothing has changed; and
     /// Device where the device failed: then it is not known which of the two packs counts, and the area has to be opened again.
     /// It takes no memory.
-    pub fn write<B: Block>(&mut self, taken: Taken<B>) -> Result<Stored<M, B>, Error>
+    pub fn write<B: Block>(&mut self, taken: Recorded<B>) -> Result<Stored<M, B>, Error>
         requires whole { AreWhole M.seen M.may_leave self.old }
         requires range { IsInRange self.old.geometry (taken_view taken.image) }
         requires next { taken.image.tables.version ≡ self.old.area.version + 1 }

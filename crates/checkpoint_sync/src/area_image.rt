@@ -1,11 +1,10 @@
 //! The image of a main area and of files.
-ghost use Rattle.std.specs.Prelude.{◌≡◌, ◌≤◌, map, vec_len, IfOk, IfErr};
+ghost use Rattle.std.specs.Prelude.{◌≡◌, ◌≤◌, [], map, vec_len, IfOk, IfErr};
 ghost use Rattle.geometry.specs.declared.error.Error.TheVariants.{NoMemory};
 ghost use Rattle.image.specs.Rules.{IsLawful};
 ghost use Rattle.rights_books.specs.Accounts.{AreFiles};
 ghost use Rattle.checkpoint_image.specs.View.{taken_view};
 ghost use Rattle.checkpoint_sync.specs.LocksHeld.{AreHeldFiles, HasTrees};
-ghost use Rattle.rights_permits.specs.Turns.{at_home};
 ghost use Rattle.checkpoint_sync.specs.TakenFrom.{IsTakenFrom};
 
 use crate::lock_area;
@@ -14,12 +13,12 @@ use checkpoint_image::{AuditedFile, TakenImage};
 use device::Block;
 use geometry::Error;
 use rights_names::VolumeName;
-use rights_permits::AllPermits;
+use rights_permits::Auditing;
 use std::alloc::Global;
 use std::sync::Wait;
 
 /// Takes an image of this version of the main area and of all files, whose nodes are written, and which nobody changes
-/// meanwhile. All permits are in hand, so no call is under way, and all locks of the main area are held until the image is
+/// meanwhile. A fresh audit has all permits, so no call is under way, and all locks of the main area are held until the image is
 /// whole. The files stay as they were.
 ///
 /// The only error is NoMemory.
@@ -28,30 +27,25 @@ pub fn take_image<V: VolumeName, B: Block + Drop, F: AuditedFile, R: Wait>(
     alloc: Global,
     area: &MainArea<V, B>,
     files: &mut Vec<F>,
-    all: AllPermits<V::Books, V::Turns>,
+    auditing: &mut Auditing<V::Books, V::Turns>,
     version: u32,
-) -> (AllPermits<V::Books, V::Turns>, Result<TakenImage, Error>)
-    requires home { all.hand ≡ at_home V.Books.books.book }
+) -> Result<TakenImage, Error>
+    requires fresh { auditing.old.audit ≡ record { book = V.Books.books.book; copies = [] } }
     requires accounts { AreFiles V.Books.books.book (map F.account files.old.items) }
     requires files { AreHeldFiles V.Numbers.geometry (map F.shown files.old.items) }
     requires every { vec_len files.old ≡ V.Numbers.geometry.files }
     requires version { 1 ≤ version }
-    ensures home { result.0.hand ≡ at_home V.Books.books.book }
     ensures accounts { map F.account files.new.items ≡ map F.account files.old.items }
     ensures files { map F.shown files.new.items ≡ map F.shown files.old.items }
-    ensures taken { IfOk result.1 (λ image. IsTakenFrom V.Numbers.geometry (map F.shown files.old.items) (taken_view image)) }
-    ensures trees { IfOk result.1 (λ image. HasTrees (taken_view image) (map F.shown files.old.items)) }
-    ensures version { IfOk result.1 (λ image. image.tables.version ≡ version) }
-    ensures geometry { IfOk result.1 (λ image. image.geometry ≡ V.Numbers.geometry) }
-    ensures lawful { IfOk result.1 (λ image. IsLawful V.Numbers.geometry (taken_view image)) }
-    ensures error { IfErr result.1 (λ error. error ≡ NoMemory) }
+    ensures taken { IfOk result (λ image. IsTakenFrom V.Numbers.geometry (map F.shown files.old.items) (taken_view image)) }
+    ensures trees { IfOk result (λ image. HasTrees (taken_view image) (map F.shown files.old.items)) }
+    ensures version { IfOk result (λ image. image.tables.version ≡ version) }
+    ensures geometry { IfOk result (λ image. image.geometry ≡ V.Numbers.geometry) }
+    ensures lawful { IfOk result (λ image. IsLawful V.Numbers.geometry (taken_view image)) }
+    ensures error { IfErr result (λ error. error ≡ NoMemory) }
 {
-    let mut held = match lock_area(rt, alloc, area) {
-        Ok(held) => held,
-        Err(error) => return (all, Err(error)),
-    };
-    let mut auditing = area.turnstile().audit(all);
-    let image = held.take_image(
+    let mut held = lock_area(rt, alloc, area)?;
+    held.take_image(
         alloc,
         area.books(),
         area.words(),
@@ -59,6 +53,5 @@ pub fn take_image<V: VolumeName, B: Block + Drop, F: AuditedFile, R: Wait>(
         &area.geometry(),
         version,
         files,
-    );
-    (area.turnstile().end_audit(auditing), image)
+    )
 }

@@ -3,6 +3,7 @@ ghost use Rattle.std.specs.Prelude.{◌≡◌, ◌⊎◌, ◌+◌, ◌≤◌, tr
 ghost use Rattle.geometry.specs.declared.error.Error.TheVariants.{Device};
 ghost use Rattle.packs_format.specs.Holding.{HoldsTables};
 ghost use Rattle.device.specs.Disk.{Leaves};
+ghost use Rattle.checkpoint.specs.Holding.{WasWrittenOver};
 ghost use Rattle.checkpoint_sync.specs.FileParts.{filed_of};
 ghost use Rattle.checkpoint_sync.specs.WrittenFiles.{AreWritten};
 ghost use Rattle.image.specs.Rules.{IsLawful};
@@ -26,7 +27,7 @@ use file_cells::FileCell;
 use file_flush::FlushBuffer;
 use geometry::{Error, Geometry};
 use rights_names::VolumeName;
-use rights_permits::AllPermits;
+use rights_permits::{AllPermits, Auditing};
 use std::alloc::Global;
 use std::sync::{Mutex, Wait};
 
@@ -53,6 +54,8 @@ pub fn write_last<V: VolumeName, M: Meta, B: Block + Drop, R: Wait>(
 ) -> Result<Last<V, B>, (Vec<Mutex<FileCell<V, B>>>, Error)>
     requires every { vec_len files ≡ V.Numbers.geometry.files }
     ensures tables { IfOk result (λ last. Leaves M.may_leave packs.new.packs.area.meta (HoldsTables V.Numbers.geometry (taken_view last.image))) }
+    // A crash at any moment of the pack write leaves the pack that was there or the new one.
+    ensures any_moment { IfOk result (λ last. WasWrittenOver M.seen M.may_leave M.moment M.left_since V.Numbers.geometry packs.new.packs.area.meta (taken_view last.image)) }
     ensures sound { OnOk result (packs.new.wounded ≡ false) }
     ensures home { IfOk result (λ last. last.all.hand ≡ at_home V.Books.books.book) }
     ensures written { IfOk result (λ last. AreWritten V.Books.books.book V.Numbers.geometry last.files.items) }
@@ -73,12 +76,21 @@ pub fn write_last<V: VolumeName, M: Meta, B: Block + Drop, R: Wait>(
         Err(error) => return Err((files, error)),
     };
     let mut all = area.turnstile().gather(rt);
-    area.end_threads(rt);
+    area.end_threads(rt, &all);
     match own_files(rt, area, &mut all.hand, files, room, &mut buffer) {
         Ok((locks, mut files)) => {
-            let (all, image) = store_image(
-                rt, alloc, area, all, &mut files, packs, version, passes,
+            let mut auditing = area.turnstile().audit(all);
+            let image = store_image(
+                rt,
+                alloc,
+                area,
+                &mut auditing,
+                &mut files,
+                packs,
+                version,
+                passes,
             );
+            let all = area.turnstile().end_audit(auditing);
             match image {
                 Ok(image) => {
                     locks.destroy_empty();
@@ -122,45 +134,47 @@ fn store_image<V: VolumeName, M: Meta, B: Block + Drop, R: Wait>(
     rt: &R,
     alloc: Global,
     area: &MainArea<V, B>,
-    all: AllPermits<V::Books, V::Turns>,
+    auditing: &mut Auditing<V::Books, V::Turns>,
     files: &mut Vec<WrittenFile<V, B>>,
     packs: &mut PacksCell<V, M>,
     version: u32,
     passes: usize,
-) -> (AllPermits<V::Books, V::Turns>, Result<TakenImage, Error>)
-    requires home { all.hand ≡ at_home V.Books.books.book }
+) -> Result<TakenImage, Error>
+    requires fresh { auditing.old.audit ≡ record { book = V.Books.books.book; copies = [] } }
     requires files { AreWritten V.Books.books.book V.Numbers.geometry files.old.items }
     requires every { vec_len files.old ≡ V.Numbers.geometry.files }
     requires sound { packs.old.wounded ≡ false }
     requires next { version ≡ packs.old.packs.area.version + 1 }
-    ensures home { result.0.hand ≡ at_home V.Books.books.book }
     ensures files { AreWritten V.Books.books.book V.Numbers.geometry files.new.items }
     ensures every { vec_len files.new ≡ V.Numbers.geometry.files }
-    ensures enough { OnOk result.1 (living files.new.items ≤ passes) }
-    ensures taken { IfOk result.1 (λ image. IsTakenFrom V.Numbers.geometry (map (λ c. filed_of c.account c.state) files.new.items) (taken_view image)) }
-    ensures lawful { IfOk result.1 (λ image. IsLawful V.Numbers.geometry (taken_view image)) }
-    ensures tables { IfOk result.1 (λ image. Leaves M.may_leave packs.new.packs.area.meta (HoldsTables V.Numbers.geometry (taken_view image))) }
-    ensures sound { OnOk result.1 (packs.new.wounded ≡ false) }
-    ensures error { IfErr result.1 IsNotWritten }
-    ensures packs { IfErr result.1 (λ error. ((packs.new.packs ≡ packs.old.packs) × (packs.new.wounded ≡ packs.old.wounded))
+    ensures enough { OnOk result (living files.new.items ≤ passes) }
+    ensures taken { IfOk result (λ image. IsTakenFrom V.Numbers.geometry (map (λ c. filed_of c.account c.state) files.new.items) (taken_view image)) }
+    ensures lawful { IfOk result (λ image. IsLawful V.Numbers.geometry (taken_view image)) }
+    ensures tables { IfOk result (λ image. Leaves M.may_leave packs.new.packs.area.meta (HoldsTables V.Numbers.geometry (taken_view image))) }
+    ensures any_moment { IfOk result (λ image. WasWrittenOver M.seen M.may_leave M.moment M.left_since V.Numbers.geometry packs.new.packs.area.meta (taken_view image)) }
+    ensures sound { OnOk result (packs.new.wounded ≡ false) }
+    ensures error { IfErr result IsNotWritten }
+    ensures packs { IfErr result (λ error. ((packs.new.packs ≡ packs.old.packs) × (packs.new.wounded ≡ packs.old.wounded))
         ⊎ ((error ≡ Device) × (packs.new.wounded ≡ true))) }
-    ensures complete { IfErr result.1 (λ _. packs.new.checkpoint ≡ packs.old.checkpoint) }
+    ensures complete { IfErr result (λ _. packs.new.checkpoint ≡ packs.old.checkpoint) }
     ensures slips { (packs.new.pass ≡ packs.old.pass) × (packs.new.kept ≡ packs.old.kept) }
 {
-    let (all, image) = take_image(rt, alloc, area, files, all, version);
+    let image = take_image(rt, alloc, area, files, auditing, version);
     tell_written(files);
-    let image = match image {
-        Ok(image) => image,
-        Err(error) => return (all, Err(error)),
-    };
+    let image = image?;
     // What was counted under the locks is not known of the files that came out of them, so they are counted again.
     let _geometry = area.geometry();
     let living = count_living(files);
     if passes < living {
-        return (all, Err(Error::PassesOut((living - passes) as u32)));
+        return Err(Error::PassesOut((living - passes) as u32));
     }
-    match packs.store::<B>(area.words(), Taken::of(image)) {
-        Ok(stored) => (all, Ok(stored.into_image())),
-        Err(error) => (all, Err(error)),
+    match packs.store::<B>(area.words(), Taken::of(&auditing.audit, image)) {
+        Ok(stored) => Ok(stored.into_image()),
+        Err(error) => {
+            if packs.is_wounded() {
+                area.turnstile().wound(auditing);
+            }
+            Err(error)
+        }
     }
 }

@@ -23,7 +23,7 @@ use geometry::{Error, Mark, Owner, State};
 use rights_books::{Audit, Books, FileAccount, Permit, SegmentAccount};
 use std::marker::Model;
 use tickets::Ticket;
-use words::{FreeSlip, OpenSlip, Seat, Standing, StoredOpenSlip, Words};
+use words::{CheckpointSeat, FreeSlip, OpenSlip, Seat, Standing, StoredOpenSlip, Words};
 
 /// One segment in its lock (Linux `filesystems/f2fs`, segment information table and segment summary area). The law, whenever
 /// the lock is free: a block's bit is set exactly where the block is not at home; each set bit has one ticket out, whose
@@ -308,10 +308,15 @@ impl<B: Block + Drop> SegmentState<B> {
         self.body.unthread();
     }
 
-    /// A checkpoint is complete that marks its valid blocks.
-    pub fn keep(&mut self)
+    /// A checkpoint is complete that marks its valid blocks. Only who may advance the version says so, and while an audit has all
+    /// permits: so none of its blocks has changed since the image was taken.
+    pub fn keep(&mut self, seat: &CheckpointSeat, audit: &Audit)
+        requires words { seat.now.table ≡ self.old.table }
+        requires book { audit.now.book ≡ self.old.book }
         ensures { self.new ≡ record self.old { segment = with_thread self.old.segment (keeping self.old.segment.summaries self.old.segment.thread) } }
     {
+        let _seat = seat;
+        let _audit = audit;
         self.body.keep();
     }
 

@@ -23,7 +23,7 @@ impl<V: VolumeName, M: Meta, B: Block + Drop> Volume<V, M, B> {
         ensures file { IfOk result (λ pass. pass.file ≡ new_file kind) }
         ensures error { IfErr result (λ error. (error ≡ Wounded) ⊎ ((error ≡ NoFile) ⊎ (error ≡ NoMemory))) }
     {
-        let mut permit = self.area.turnstile().enter(rt);
+        let mut permit = self.area.turnstile().enter(rt)?;
         let made = self.create_by(rt, &mut permit.hand, kind);
         self.area.turnstile().leave(rt, permit);
         made
@@ -38,11 +38,8 @@ impl<V: VolumeName, M: Meta, B: Block + Drop> Volume<V, M, B> {
         requires hand { hand.old ≡ at_home V.Books.books.book }
         ensures hand { hand.new ≡ hand.old }
         ensures file { IfOk result (λ pass. pass.file ≡ new_file kind) }
-        ensures error { IfErr result (λ error. (error ≡ Wounded) ⊎ ((error ≡ NoFile) ⊎ (error ≡ NoMemory))) }
+        ensures error { IfErr result (λ error. (error ≡ NoFile) ⊎ (error ≡ NoMemory)) }
     {
-        if self.is_wounded() {
-            return Err(Error::Wounded);
-        }
         let token = self.area.new_inode(rt, hand)?;
         let mut cell = self.lock_file(rt, token.number());
         let made = cell.begin(rt, self.alloc, &self.area, hand, kind, token)?;
@@ -77,7 +74,7 @@ impl<V: VolumeName, M: Meta, B: Block + Drop> Volume<V, M, B> {
             return Err(Error::TooFar);
         }
         let number = pass.number();
-        let mut permit = self.area.turnstile().enter_by(rt, number);
+        let mut permit = self.area.turnstile().enter_by(rt, number)?;
         let done = self.write_by(rt, &mut permit.hand, pass, index, bytes, now);
         self.area.turnstile().leave_by(rt, number, permit);
         done
@@ -98,11 +95,8 @@ impl<V: VolumeName, M: Meta, B: Block + Drop> Volume<V, M, B> {
         ensures hand { hand.new ≡ hand.old }
         ensures file { OnOk result (pass.new ≡ record pass.old { file = written pass.old.file index bytes.now }) }
         ensures err { OnErr result (pass.new ≡ pass.old) }
-        ensures error { IfErr result (λ error. (error ≡ Wounded) ⊎ ((error ≡ NoMemory) ⊎ ((error ≡ NoNode) ⊎ ((error ≡ NoSpace) ⊎ (error ≡ Device))))) }
+        ensures error { IfErr result (λ error. (error ≡ NoMemory) ⊎ ((error ≡ NoNode) ⊎ ((error ≡ NoSpace) ⊎ (error ≡ Device)))) }
     {
-        if self.is_wounded() {
-            return Err(Error::Wounded);
-        }
         let mut cell = self.lock_file(rt, pass.number());
         cell.write(rt, self.alloc, &self.area, hand, pass, index, bytes, now)
     }
@@ -117,31 +111,19 @@ impl<V: VolumeName, M: Meta, B: Block + Drop> Volume<V, M, B> {
         ensures error { IfErr result (λ error. error ≡ Wounded) }
     {
         let number = pass.number();
-        let mut permit = self.area.turnstile().enter_by(rt, number);
-        let done = self.cut_by(rt, &mut permit.hand, pass, length);
+        let mut permit = self.area.turnstile().enter_by(rt, number)?;
+        self.cut_by(rt, &mut permit.hand, pass, length);
         self.area.turnstile().leave_by(rt, number, permit);
-        done
+        Ok(())
     }
 
-    fn cut_by<R: Wait>(
-        &self,
-        rt: &R,
-        hand: &mut Permit,
-        pass: &mut FilePass<V>,
-        length: u32,
-    ) -> Result<(), Error>
+    fn cut_by<R: Wait>(&self, rt: &R, hand: &mut Permit, pass: &mut FilePass<V>, length: u32)
         requires hand { hand.old ≡ at_home V.Books.books.book }
         ensures hand { hand.new ≡ hand.old }
-        ensures file { OnOk result (pass.new ≡ record pass.old { file = cut_to pass.old.file length }) }
-        ensures err { OnErr result (pass.new ≡ pass.old) }
-        ensures error { IfErr result (λ error. error ≡ Wounded) }
+        ensures file { pass.new ≡ record pass.old { file = cut_to pass.old.file length } }
     {
-        if self.is_wounded() {
-            return Err(Error::Wounded);
-        }
         let mut cell = self.lock_file(rt, pass.number());
         cell.cut(rt, &self.area, hand, pass, length);
-        Ok(())
     }
 
     /// Deletes a file, and spends its pass: all that the file has is given back, its inode's number too. It takes no memory.
@@ -151,28 +133,20 @@ impl<V: VolumeName, M: Meta, B: Block + Drop> Volume<V, M, B> {
         ensures pass { IfErr result (λ fault. fault.0 ≡ pass) }
         ensures error { IfErr result (λ fault. fault.1 ≡ Wounded) }
     {
-        let mut permit = self.area.turnstile().enter(rt);
-        let done = self.delete_by(rt, &mut permit.hand, pass);
+        let mut permit = match self.area.turnstile().enter(rt) {
+            Ok(permit) => permit,
+            Err(error) => return Err((pass, error)),
+        };
+        self.delete_by(rt, &mut permit.hand, pass);
         self.area.turnstile().leave(rt, permit);
-        done
+        Ok(())
     }
 
-    fn delete_by<R: Wait>(
-        &self,
-        rt: &R,
-        hand: &mut Permit,
-        pass: FilePass<V>,
-    ) -> Result<(), (FilePass<V>, Error)>
+    fn delete_by<R: Wait>(&self, rt: &R, hand: &mut Permit, pass: FilePass<V>)
         requires hand { hand.old ≡ at_home V.Books.books.book }
         ensures hand { hand.new ≡ hand.old }
-        ensures pass { IfErr result (λ fault. fault.0 ≡ pass) }
-        ensures error { IfErr result (λ fault. fault.1 ≡ Wounded) }
     {
-        if self.is_wounded() {
-            return Err((pass, Error::Wounded));
-        }
         let mut cell = self.lock_file(rt, pass.number());
         cell.end(rt, &self.area, hand, pass);
-        Ok(())
     }
 }

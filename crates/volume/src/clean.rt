@@ -43,7 +43,7 @@ impl<V: VolumeName, M: Meta, B: Block + Drop> Volume<V, M, B> {
         ensures cleaned { IfOk result (λ c. IsCleaned V.Numbers.geometry policy now c.rows.items c.section c.moved c.gone) }
         ensures error { IfErr result (λ error. (error ≡ Wounded) ⊎ ((error ≡ NoMemory) ⊎ ((error ≡ Device) ⊎ (error ≡ NoSpace)))) }
     {
-        let mut permit = self.area.turnstile().enter(rt);
+        let mut permit = self.area.turnstile().enter(rt)?;
         let done = self.clean_by(rt, &mut permit.hand, policy, now);
         self.area.turnstile().leave(rt, permit);
         done
@@ -59,11 +59,8 @@ impl<V: VolumeName, M: Meta, B: Block + Drop> Volume<V, M, B> {
         requires hand { hand.old ≡ at_home V.Books.books.book }
         ensures hand { hand.new ≡ hand.old }
         ensures cleaned { IfOk result (λ c. IsCleaned V.Numbers.geometry policy now c.rows.items c.section c.moved c.gone) }
-        ensures error { IfErr result (λ error. (error ≡ Wounded) ⊎ ((error ≡ NoMemory) ⊎ ((error ≡ Device) ⊎ (error ≡ NoSpace)))) }
+        ensures error { IfErr result (λ error. (error ≡ NoMemory) ⊎ ((error ≡ Device) ⊎ (error ≡ NoSpace))) }
     {
-        if self.is_wounded() {
-            return Err(Error::Wounded);
-        }
         clean(rt, self.alloc, &self.area, self, hand, policy, now)
     }
 }

@@ -1,6 +1,7 @@
 //! How a volume is closed.
 ghost use Rattle.std.specs.Prelude.{◌≡◌, ◌⊎◌, ◌≤◌, vec_len, IfOk, IfErr};
 ghost use Rattle.image.specs.Files.{files as files_of};
+ghost use Rattle.checkpoint.specs.Holding.{WasWrittenOver};
 ghost use Rattle.checkpoint_image.specs.View.{taken_view};
 ghost use Rattle.image_codec.specs.Blocks.{bytes_at};
 ghost use Rattle.volume_format.specs.Mountable.{IsMountable};
@@ -17,7 +18,6 @@ use device::{Block, Meta, Parts};
 use file_cells::FilePass;
 use file_readers::Seat;
 use rights_names::VolumeName;
-use std::sync::atomic::Ordering;
 use std::sync::{Mutex, Wait};
 
 /// What a close hands back: the parts of the device, and the image that stands on them.
@@ -44,6 +44,8 @@ impl<V: VolumeName, M: Meta, B: Block + Drop> Volume<V, M, B> {
     ) -> Result<Closed<M, B>, CloseFault<V, M, B>>
         ensures mountable { IfOk result (λ closed. IsMountable M.seen M.may_leave B.address_of B.content_of V.Numbers.geometry (taken_view closed.image) closed.parts) }
         ensures files { IfOk result (λ closed. AreShown (files_of V.Numbers.geometry (taken_view closed.image) (bytes_at B.content_of closed.parts.blocks.items)) passes.items) }
+        // A crash at any moment of the pack write leaves the pack that was there or the new one.
+        ensures any_moment { IfOk result (λ closed. WasWrittenOver M.seen M.may_leave M.moment M.left_since V.Numbers.geometry closed.parts.meta (taken_view closed.image)) }
         ensures complete { IfOk result (λ closed. 64 ≤ vec_len seats) }
         ensures base { IfErr result (λ fault. fault.volume.base ≡ self.base) }
         // What lies under the locks of its files and its packs is not told.
@@ -61,7 +63,6 @@ impl<V: VolumeName, M: Meta, B: Block + Drop> Volume<V, M, B> {
             area,
             files,
             packs,
-            wounded,
             spare,
             base,
         } = self;
@@ -76,16 +77,12 @@ impl<V: VolumeName, M: Meta, B: Block + Drop> Volume<V, M, B> {
                 Ok(Closed { parts, image })
             }
             Err((files, error)) => {
-                if packs.is_wounded() {
-                    wounded.store(true, Ordering::SeqCst);
-                }
                 let packs = Mutex::new(packs);
                 let volume = Volume {
                     alloc,
                     area,
                     files,
                     packs,
-                    wounded,
                     spare,
                     base,
                 };

@@ -122,7 +122,6 @@ impl<V: VolumeName, M: Meta, B: Block + Drop> Volume<V, M, B> {
             area,
             files,
             packs,
-            wounded: _,
             spare,
             base: _,
         } = self;
@@ -145,10 +144,9 @@ pub fn empty_files<V: VolumeName, B: Block + Drop, R: Wait>(
     ensures count { vec_len result ≡ block_count V.Numbers.geometry }
 {
     let SpareCell { rows, accounts } = spare;
-    let mut permit = area.turnstile().enter(rt);
-    let accounts = give_up_files(rt, &area, &mut permit.hand, files, accounts);
-    area.turnstile().leave(rt, permit);
-    empty_area(rt, area, rows, accounts)
+    let mut all = area.turnstile().gather(rt);
+    let accounts = give_up_files(rt, &area, &mut all.hand, files, accounts);
+    empty_area(rt, area, rows, all, accounts)
 }
 
 // All that the files have is given back: their accounts, which have lodged nothing, in the order of their numbers. There is

@@ -1,20 +1,22 @@
 //! A checkpoint of the running volume.
-ghost use Rattle.std.specs.Prelude.{◌≡◌, ◌<◌, ◌⊎◌, ◌+◌, ◌∷◌, [], map, reverse, true, false, IfOk, IfErr};
+ghost use Rattle.std.specs.Prelude.{◌≡◌, ◌<◌, ◌⊎◌, ◌+◌, ◌∷◌, [], map, reverse, vec_len, true, false, IfOk, IfErr};
 ghost use Rattle.geometry.specs.declared.error.Error.TheVariants.{NoMemory, Device, NoSpace, Wounded, Exhausted};
-ghost use Rattle.image.specs.Rules.{IsInRange, IsLawful};
+ghost use Rattle.image.specs.Rules.{IsLawful};
 ghost use Rattle.checkpoint_image.specs.View.{taken_view};
 ghost use Rattle.checkpoint.specs.Files.{files_of};
-ghost use Rattle.checkpoint.specs.Holding.{IsInPack};
+ghost use Rattle.checkpoint.specs.Holding.{IsInPack, IsShownOver};
 ghost use Rattle.checkpoint_sync.specs.Lent.{shown_by};
+ghost use Rattle.checkpoint_sync.specs.WrittenFiles.{AreWritten};
 
 use crate::volume::Volume;
 use area::free_retired;
-use checkpoint::{PacksCell, Stored, Taken};
-use checkpoint_sync::take_volume;
+use checkpoint::{PacksCell, Stored};
+use checkpoint_sync::{HeldFile, flush_files, take_volume};
 use device::{Block, Meta};
 use file_cells::FilePass;
 use geometry::Error;
 use rights_names::VolumeName;
+use rights_permits::Auditing;
 use std::sync::Wait;
 
 impl<V: VolumeName, M: Meta, B: Block + Drop> Volume<V, M, B> {
@@ -31,6 +33,8 @@ impl<V: VolumeName, M: Meta, B: Block + Drop> Volume<V, M, B> {
         ensures lawful { IfOk result (λ stored. IsLawful V.Numbers.geometry (taken_view stored.taken.image)) }
         ensures files { IfOk result (λ stored. files_of stored.taken.added.items ≡ reverse (map (λ pass. shown_by pass.now) passes.now)) }
         ensures written { IfOk result (λ stored. IsInPack M.may_leave V.Numbers.geometry (taken_view stored.taken.image) stored.pack.shown.items) }
+        // A crash at any moment of the pack write leaves the pack that was there or the new one.
+        ensures any_moment { IfOk result (λ stored. IsShownOver M.seen M.may_leave M.moment M.left_since V.Numbers.geometry (taken_view stored.taken.image) stored.pack.shown.items) }
         ensures geometry { IfOk result (λ stored. stored.taken.image.geometry ≡ V.Numbers.geometry) }
         ensures later { IfOk result (λ stored. self.now.base.version < stored.taken.image.tables.version) }
         ensures error { IfErr result (λ error. (error ≡ Wounded) ⊎ ((error ≡ Exhausted) ⊎ ((error ≡ NoMemory) ⊎ ((error ≡ NoSpace) ⊎ (error ≡ Device))))) }
@@ -42,49 +46,55 @@ impl<V: VolumeName, M: Meta, B: Block + Drop> Volume<V, M, B> {
             for _ in rt.forever() {}
             unreachable!();
         }
-        let all = self.area.turnstile().gather(rt);
-        self.area.end_threads(rt);
-        let (all, taken) = take_volume(
-            rt,
-            self.alloc,
-            &self.area,
-            &self.files,
-            all,
-            version,
-            passes,
-        );
-        let stored = match taken {
-            Ok(taken) => self.store(rt, &mut packs, taken),
-            Err(error) => Err(error),
+        let mut all = self.area.turnstile().gather(rt);
+        self.area.end_threads(rt, &all);
+        let files = match flush_files(rt, self.alloc, &self.area, &self.files, &mut all.hand) {
+            Ok(files) => files,
+            Err(error) => {
+                self.area.turnstile().scatter(rt, all);
+                return Err(error);
+            }
         };
+        let mut auditing = self.area.turnstile().audit(all);
+        let stored = self.record(rt, &mut packs, files, &mut auditing, version, passes);
+        let all = self.area.turnstile().end_audit(auditing);
         self.area.turnstile().scatter(rt, all);
         stored
     }
 
-    // Writes an image as the next pack, and frees what it lets be freed.
-    fn store<R: Wait>(
+    // Takes an image, writes it as the next pack, and frees what it lets be freed.
+    fn record<R: Wait>(
         &self,
         rt: &R,
         packs: &mut PacksCell<V, M>,
-        taken: Taken<B>,
+        files: Vec<HeldFile<'_, V, B>>,
+        auditing: &mut Auditing<V::Books, V::Turns>,
+        version: u32,
+        passes: &[&FilePass<V>],
     ) -> Result<Stored<M, B>, Error>
+        requires fresh { auditing.old.audit ≡ record { book = V.Books.books.book; copies = [] } }
+        requires files { AreWritten V.Books.books.book V.Numbers.geometry files.items }
+        requires every { vec_len files ≡ V.Numbers.geometry.files }
         requires sound { packs.old.wounded ≡ false }
-        requires spelled { taken.image.geometry ≡ V.Numbers.geometry }
-        requires range { IsInRange V.Numbers.geometry (taken_view taken.image) }
-        requires next { taken.image.tables.version ≡ packs.old.packs.area.version + 1 }
-        ensures taken { IfOk result (λ stored. stored.taken ≡ taken) }
+        requires next { version ≡ packs.old.packs.area.version + 1 }
+        ensures version { IfOk result (λ stored. stored.taken.image.tables.version ≡ version) }
+        ensures lawful { IfOk result (λ stored. IsLawful V.Numbers.geometry (taken_view stored.taken.image)) }
+        ensures files { IfOk result (λ stored. files_of stored.taken.added.items ≡ reverse (map (λ pass. shown_by pass.now) passes.now)) }
         ensures written { IfOk result (λ stored. IsInPack M.may_leave V.Numbers.geometry (taken_view stored.taken.image) stored.pack.shown.items) }
-        ensures error { IfErr result (λ error. error ≡ Device) }
+        ensures any_moment { IfOk result (λ stored. IsShownOver M.seen M.may_leave M.moment M.left_since V.Numbers.geometry (taken_view stored.taken.image) stored.pack.shown.items) }
+        ensures geometry { IfOk result (λ stored. stored.taken.image.geometry ≡ V.Numbers.geometry) }
+        ensures error { IfErr result (λ error. (error ≡ NoMemory) ⊎ (error ≡ Device)) }
     {
+        let taken = take_volume(rt, self.alloc, &self.area, files, auditing, version, passes)?;
         match packs.store(self.area.words(), taken) {
             Ok(stored) => {
-                self.area.keep_marks(rt);
+                self.area.keep_marks(rt, packs.seat(), auditing);
                 free_retired(rt, &self.area, &mut packs.pass, &mut packs.kept);
                 Ok(stored)
             }
             Err(error) => {
                 if packs.is_wounded() {
-                    self.wound();
+                    self.area.turnstile().wound(auditing);
                 }
                 Err(error)
             }

@@ -13,7 +13,6 @@ use file_cells::{FileCell, FilePass};
 use geometry::{Error, Geometry};
 use rights_names::VolumeName;
 use std::alloc::Global;
-use std::sync::atomic::{AtomicBool, Ordering};
 use std::sync::{Mutex, MutexGuard, Wait};
 
 /// Of the image at which a volume was opened.
@@ -32,8 +31,6 @@ pub struct Volume<V: VolumeName, M: Meta, B: Block + Drop> {
     pub(crate) files: Vec<Mutex<FileCell<V, B>>>,
     // What a checkpoint needs.
     pub(crate) packs: Mutex<PacksCell<V, M>>,
-    // Whether a checkpoint failed while it was written: from then on nothing is changed.
-    pub(crate) wounded: AtomicBool,
     // So that leaving takes no memory.
     pub(crate) spare: Mutex<SpareCell<V, B>>,
     pub(crate) base: Base,
@@ -58,7 +55,6 @@ impl<V: VolumeName, M: Meta, B: Block + Drop> Volume<V, M, B> {
             area,
             files,
             packs: Mutex::new(packs),
-            wounded: AtomicBool::new(false),
             spare: Mutex::new(spare),
             base,
         }
@@ -87,14 +83,9 @@ impl<V: VolumeName, M: Meta, B: Block + Drop> Volume<V, M, B> {
         lock_numbered(rt, &self.files[number as usize - 1], number)
     }
 
-    /// Whether a checkpoint failed while it was written.
+    /// Whether a checkpoint failed while it was written: from then on nothing is changed, until the device is mounted again.
     pub fn is_wounded(&self) -> bool {
-        self.wounded.load(Ordering::SeqCst)
-    }
-
-    // From now on nothing is changed, until the device is mounted again.
-    pub(crate) fn wound(&self) {
-        self.wounded.store(true, Ordering::SeqCst);
+        self.area.turnstile().is_wounded()
     }
 
     /// Reads the block of a file at an index into `out`, which has a block's bytes. Answers true below the length, where an

@@ -31,6 +31,6 @@ add-requires g c =
     let every = c.requires.every in
     let long = c.args.files.now.ok.0 in
     let low : c.number.result - 1 < length files = omega arith in
-    subst (λ i. IsStateOf (taken_view i) c.find.result.now) (sym c.loop-k.invariant.0)
+    subst (λ i. IsStateOf (taken_view i) c.find.result.now) (sym c.loop-k.invariant.1)
     (state_is book geometry (taken_view c.args.image) files (c.number.result - 1) file c.find.result.now c.requires.trees (got files (c.number.result - 1) file low c.index-file.ensures) c.law.ensures
     c.find.ensures.state)

@@ -1,5 +1,6 @@
 use Rattle.std.proofs.Common.{◌≡◌, sym, subst, inr, ◌∙◌, rules}
 use Rattle.device.specs.Disk.{Leaves}
+use Rattle.checkpoint.specs.Holding.{WasWrittenOver}
 use Rattle.checkpoint_image.specs.View.{taken_view}
 use Rattle.packs_format.specs.Holding.{HoldsTables}
 use Rattle.packs_format.specs.Grammar.{HasSuper}
@@ -22,8 +23,14 @@ returns-in-Ok-clause-mountable g c =
       lawful = c.in-Ok.ensures.lawful;
     }
 
+pub returns-in-Ok-clause-any_moment : goal.returns-in-Ok-clause-any_moment
+returns-in-Ok-clause-any_moment g c =
+    let meta = g.M.Meta in
+    subst (λ m. WasWrittenOver meta.seen meta.may_leave meta.moment meta.left_since g.V.Numbers.GeometryName.geometry m (taken_view c.in-Ok.last.image)) (sym c.into_meta-meta.ensures.meta)
+    c.in-Ok.ensures.any_moment
+
 pub returns-in-Some-clause-error : goal.returns-in-Some-clause-error
 returns-in-Some-clause-error g c = rw c.of.ensures.error (search rules)
 
-pub returns-after-is_wounded-clause-error : goal.returns-after-is_wounded-clause-error
-returns-after-is_wounded-clause-error g c = rw c.of-in-Err.ensures.error (inr (search (rules, c.in-Err.ensures.error)))
+pub returns-in-Err-clause-error : goal.returns-in-Err-clause-error
+returns-in-Err-clause-error g c = rw c.of-in-Err.ensures.error (inr (search (rules, c.in-Err.ensures.error)))
