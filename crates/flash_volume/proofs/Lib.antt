@@ -1,6 +1,7 @@
 pub mod Crewed
 pub mod Dealing
 pub mod Following
+pub mod Refused
 pub mod Results
 pub mod Same
 pub mod Together

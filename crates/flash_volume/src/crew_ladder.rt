@@ -1,12 +1,13 @@
 //! A device's volume is mounted, a crew has its turns on it, and it is left: a function for each step of the mount, as for a visit.
 //! They ask for more of a device and of the names, since threads share them.
-ghost use Rattle.std.specs.Prelude.{◌≡◌, ℕ, [], IfOk, IfErr};
+ghost use Rattle.std.specs.Prelude.{◌≡◌, ◌≢◌, ◌<◌, ◌⊎◌, ℕ, [], IfOk, IfErr};
 ghost use Rattle.device.specs.Parts.{IsBlockRun};
 ghost use Rattle.flash_volume.specs.Turns.{MayBegin, WasCrewed};
 ghost use Rattle.flash_volume.specs.Visited.{VisitedFrom, VisitedOn};
-ghost use Rattle.geometry.specs.declared.error.Error.TheVariants.{NoMemory};
+ghost use Rattle.geometry.specs.Weights.{weigh};
+ghost use Rattle.geometry.specs.declared.error.Error.TheVariants.{NoMemory, Device};
 ghost use Rattle.image_codec.specs.Blocks.{bytes_at};
-ghost use Rattle.mount_reading.specs.Held.{AreSameParts, IsPartsRefusal};
+ghost use Rattle.mount_reading.specs.Held.{AreSameParts, IsPartsRefusal, KeepsBetween, KeepsPack};
 ghost use Rattle.volume.specs.Picked.{HaveNames};
 
 use crate::block::SharedBlock;
@@ -14,7 +15,7 @@ use crate::crew::{Crew, Part};
 use crate::leave::{Done, Fault};
 use crate::leaving::take_turns_and_leave;
 use crate::rights::Rights;
-use device::{Meta, Parts};
+use device::{Block, Meta, Parts};
 use mount::{Mounted, MountedQueues, mount};
 use mount_reading::OpenFault;
 use rights_names::{BooksOf, NumbersOf, PoolName, TablesName, TurnName, WordsOf};
@@ -26,7 +27,8 @@ use std::thread::Threads;
 /// Mounts the volume of a device, has the turns of a crew on it, and leaves it as the crew says. What the crew promises holds of the
 /// image that the parts had.
 ///
-/// The outer error is a refusal of the parts, as a mount's, and hands them back as they were; the inner one is a fault of the crew or
+/// The outer error is a refusal of the parts, as a mount's, and hands them back as they were: the pack that counted counts, but after
+/// Device, and where a crash left one pack or the next, a crash at any moment of the call does too. The inner one is a fault of the crew or
 /// of the close.
 pub fn visit_by_turns<
     M: Meta + Send,
@@ -47,11 +49,25 @@ where
     ensures done { IfOk result (VisitedOn M.seen B.address_of B.content_of (λ geometry base before left. WasCrewed M.seen M.may_leave B.address_of B.content_of (X.did crew geometry base (record { passes = before; readers = [] }) []) geometry left) parts) }
     ensures refused { IfErr result (λ fault. IsPartsRefusal M.seen B.address_of B.content_of parts fault.error) }
     ensures same { IfErr result (λ fault. AreSameParts M.seen B.address_of B.content_of parts fault.parts) }
+    ensures kept { IfErr result (λ fault. fault.error ≢ Device → KeepsPack M.seen parts.meta fault.parts.meta) }
+    ensures any_moment { IfErr result (λ fault. KeepsBetween M.seen M.may_leave M.moment M.left_since parts.meta fault.parts.meta) }
+    ensures device { IfErr result (λ fault. fault.error ≡ Device → (M.failed parts.meta < M.failed fault.parts.meta)
+        ⊎ (weigh B.failed parts.blocks.items < weigh B.failed fault.parts.blocks.items)) }
 {
     match mount(alloc, parts) {
-        Ok(mounted) => on_mounted::<Brand, M, B, R, X>(rt, alloc, mounted, crew),
+        Ok(mounted) => {
+            shown_law(&mounted);
+            on_mounted::<Brand, M, B, R, X>(rt, alloc, mounted, crew)
+        }
         Err(fault) => Err(fault),
     }
+}
+
+// A crash may leave what the device shows. It runs nothing: its contract is the law.
+fn shown_law<M: Meta, B: Block + Drop>(mounted: &Mounted<M, B>)
+    ensures { M.may_leave mounted.now.parts.meta (M.seen mounted.now.parts.meta) }
+{
+    let _mounted = mounted;
 }
 
 // The names ask for `Send` and `Sync` since threads share the volume that has them in its type.

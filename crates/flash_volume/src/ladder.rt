@@ -1,11 +1,12 @@
 //! A device's volume is mounted, visited and left: a function for each step of the mount, so that names are picked between them.
-ghost use Rattle.std.specs.Prelude.{◌≡◌, ℕ, IfOk, IfErr};
+ghost use Rattle.std.specs.Prelude.{◌≡◌, ◌≢◌, ◌<◌, ◌⊎◌, ℕ, IfOk, IfErr};
 ghost use Rattle.device.specs.Parts.{IsBlockRun};
 ghost use Rattle.flash_volume.specs.Visited.{VisitedFrom, VisitedOn};
 ghost use Rattle.flash_volume.specs.Worked.{WasWorked};
-ghost use Rattle.geometry.specs.declared.error.Error.TheVariants.{NoMemory};
+ghost use Rattle.geometry.specs.Weights.{weigh};
+ghost use Rattle.geometry.specs.declared.error.Error.TheVariants.{NoMemory, Device};
 ghost use Rattle.image_codec.specs.Blocks.{bytes_at};
-ghost use Rattle.mount_reading.specs.Held.{AreSameParts, IsPartsRefusal};
+ghost use Rattle.mount_reading.specs.Held.{AreSameParts, IsPartsRefusal, KeepsBetween, KeepsPack};
 ghost use Rattle.volume.specs.Picked.{HaveNames};
 
 use crate::leave::{Done, Fault, Leave};
@@ -22,7 +23,8 @@ use std::sync::Wait;
 
 /// Mounts the volume of a device, visits it, and leaves it, as `work_on`. What the visit promises holds of the image that the parts had.
 ///
-/// The outer error is a refusal of the parts, as a mount's, and hands them back as they were; the inner one is a fault of the visit or
+/// The outer error is a refusal of the parts, as a mount's, and hands them back as they were: the pack that counted counts, but after
+/// Device, and where a crash left one pack or the next, a crash at any moment of the call does too. The inner one is a fault of the visit or
 /// of the close.
 pub fn visit_volume<M: Meta, B: Block + Drop, R: Wait, X: Visit<M, B> + Drop>(
     rt: &R,
@@ -35,6 +37,10 @@ pub fn visit_volume<M: Meta, B: Block + Drop, R: Wait, X: Visit<M, B> + Drop>(
     ensures done { IfOk result (VisitedOn M.seen B.address_of B.content_of (λ geometry base before left. WasWorked M.seen M.may_leave B.address_of B.content_of (λ output after. X.did visit geometry base before output after) leave geometry left) parts) }
     ensures refused { IfErr result (λ fault. IsPartsRefusal M.seen B.address_of B.content_of parts fault.error) }
     ensures same { IfErr result (λ fault. AreSameParts M.seen B.address_of B.content_of parts fault.parts) }
+    ensures kept { IfErr result (λ fault. fault.error ≢ Device → KeepsPack M.seen parts.meta fault.parts.meta) }
+    ensures any_moment { IfErr result (λ fault. KeepsBetween M.seen M.may_leave M.moment M.left_since parts.meta fault.parts.meta) }
+    ensures device { IfErr result (λ fault. fault.error ≡ Device → (M.failed parts.meta < M.failed fault.parts.meta)
+        ⊎ (weigh B.failed parts.blocks.items < weigh B.failed fault.parts.blocks.items)) }
 {
     match mount(alloc, parts) {
         Ok(mounted) => on_mounted::<Brand, M, B, R, X>(rt, alloc, mounted, leave, visit),

@@ -11,6 +11,7 @@ ghost use Rattle.pool.specs.Pools.{first_account};
 ghost use Rattle.rights_names.specs.Names.{layout_of};
 ghost use Rattle.rights_permits.specs.Turns.{at_home};
 ghost use Rattle.mount.specs.Made.{IsMemory};
+ghost use Rattle.mount.specs.Pooled.{HasPutFree};
 
 use crate::files::lock_loaded_files;
 use crate::frames::{AreaFrames, FileFrames};
@@ -59,6 +60,7 @@ pub(crate) fn load_locks<V: VolumeName, B: Block + Drop, R: Wait>(
     ensures passes { map (λ pass. (pass.number, pass.file)) result.2.items
         ≡ image_files geometry (image_view image.now) (bytes_at B.content_of blocks.old.items) }
     ensures hand { hand.new ≡ hand.old }
+    ensures free { HasPutFree geometry (image_view image.now) pass.new }
     ensures none { length blocks.new.items ≡ 0 }
     ensures capacity { vec_capacity blocks.new ≡ vec_capacity blocks.old }
 {

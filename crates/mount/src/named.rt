@@ -1,6 +1,7 @@
 //! A volume under all its names.
 ghost use Rattle.std.specs.Prelude.{◌≡◌, ◌≤◌, [], map, length, vec_len, vec_capacity, IfOk, IfErr};
 ghost use Rattle.checkpoint.specs.Holding.{AreWhole};
+ghost use Rattle.device.specs.Disk.{Leaves};
 ghost use Rattle.device.specs.Parts.{HasSize};
 ghost use Rattle.geometry.specs.Area.{block_count, meta_bytes};
 ghost use Rattle.geometry.specs.declared.error.Error.TheVariants.{NoMemory};
@@ -9,11 +10,13 @@ ghost use Rattle.image.specs.Rules.{IsLawful};
 ghost use Rattle.image.specs.View.{image_view};
 ghost use Rattle.image_codec.specs.Blocks.{AreBlocks, bytes_at};
 ghost use Rattle.packs_format.specs.Grammar.{HasSuper};
+ghost use Rattle.packs_format.specs.Holding.{HoldsTables};
 ghost use Rattle.pool.specs.Pools.{first_account};
 ghost use Rattle.rights_names.specs.Names.{layout_of};
 ghost use Rattle.rights_permits.specs.Turns.{at_home};
 ghost use Rattle.volume.specs.Picked.{HaveNames};
 ghost use Rattle.mount.specs.Made.{IsMemory};
+ghost use Rattle.mount.specs.Pooled.{HasPutFree};
 
 use crate::frames::MountFrames;
 use crate::loading_all::VolumeMemory;
@@ -25,6 +28,7 @@ use checkpoint::{ImagePacks, PacksCell};
 use device::{Block, Meta};
 use file_cells::FilePass;
 use file_readers::Seat;
+use image::Image;
 use mount_reading::{OpenFault, OpenedDevice};
 use pool::{Pool, PoolPass};
 use rights_books::FileAccount;
@@ -128,6 +132,7 @@ fn put_together<V: VolumeName, M: Meta, B: Block + Drop, R: Wait>(
     requires nodes { AreBlocks device.packs.geometry (image_view device.image) (bytes_at B.content_of device.blocks.items) }
     requires front { HasSuper V.Numbers.geometry (M.seen device.packs.area.meta) }
     requires whole { AreWhole M.seen M.may_leave device.packs }
+    requires held { Leaves M.may_leave device.packs.area.meta (HoldsTables device.packs.geometry (image_view device.image)) }
     requires version { device.image.version ≡ device.packs.area.version }
     requires checkpoint { (checkpoint.table ≡ V.Words.words) × (checkpoint.version ≡ device.image.version) }
     ensures seats { vec_len result.1 ≡ 64 }
@@ -168,15 +173,17 @@ fn put_together<V: VolumeName, M: Meta, B: Block + Drop, R: Wait>(
         files,
     );
     area.turnstile().scatter(rt, all);
-    let packs = lock_packs(packs, checkpoint, pass, kept);
+    let packs = lock_packs(packs, &image, checkpoint, pass, kept);
     let spare = keep_rows(spare, accounts, blocks);
     let volume = Volume::of(alloc, area, files, packs, spare, base);
     (volume, seats, passes)
 }
 
-// The packs of a volume whose pool took all slips, with room to keep those that it will not take.
+// The packs of a volume whose pool has the slip of each segment that is free in its image, with room to keep those that it will not
+// take.
 fn lock_packs<V: VolumeName, M: Meta>(
     packs: ImagePacks<M>,
+    image: &Image,
     checkpoint: CheckpointSeat,
     pass: PoolPass<V::Words, V::Pool>,
     kept: Vec<FreeSlip>,
@@ -186,10 +193,14 @@ fn lock_packs<V: VolumeName, M: Meta>(
     requires words { checkpoint.table ≡ V.Words.words }
     requires whole { AreWhole M.seen M.may_leave packs }
     requires front { HasSuper V.Numbers.geometry (M.seen packs.area.meta) }
+    requires lawful { IsLawful packs.geometry (image_view image.now) }
+    requires held { Leaves M.may_leave packs.area.meta (HoldsTables packs.geometry (image_view image.now)) }
+    requires free { HasPutFree packs.geometry (image_view image.now) pass }
     requires complete { checkpoint.version ≡ packs.area.version }
     requires none { kept.items ≡ [] }
     requires room { V.Numbers.geometry.segments ≤ vec_capacity kept }
 {
+    let _image = image;
     PacksCell::of(packs, checkpoint, pass, kept)
 }
 

@@ -2,6 +2,7 @@
 use Rattle.std.proofs.Common.{[]}
 use Rattle.flash_volume.specs.Turns.{Held, WasCrewed}
 use Rattle.flash_volume.proofs.Visiting.{visited_on}
+use Rattle.flash_volume.proofs.Refused.{kept_back, moment_back}
 use Rattle.flash_volume.proofs.Results.{ok_then}
 use Rattle.flash_volume.proofs.crew_ladder.visit_by_turns.Goals as goal
 
@@ -15,3 +16,15 @@ returns-in-Ok-clause-done g c =
     (record { size = found.size; held = record { front = found.front; tables = found.image.tables; nodes = found.image.nodes }; lawful = found.lawful })
     found.parts.contents from)
     c.on_mounted.ensures.done
+
+pub returns-in-Ok-clause-kept : goal.returns-in-Ok-clause-kept
+returns-in-Ok-clause-kept g c =
+    let mounted = c.in-Ok.mounted in
+    let found = c.in-Ok.ensures in
+    kept_back g.M.Meta.seen c.args.parts.meta mounted.parts c.on_mounted.result c.on_mounted.ensures.back mounted.geometry mounted.image found.front found.image.tables
+    (found.held (g.M.Meta.seen mounted.parts.meta) c.shown_law.ensures)
+
+pub returns-in-Ok-clause-any_moment : goal.returns-in-Ok-clause-any_moment
+returns-in-Ok-clause-any_moment g c =
+    let meta = g.M.Meta in
+    moment_back meta.seen c.args.parts.meta c.in-Ok.mounted.parts c.on_mounted.result c.on_mounted.ensures.back meta.may_leave meta.moment meta.left_since c.in-Ok.ensures.any_moment

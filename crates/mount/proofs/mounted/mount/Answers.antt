@@ -26,6 +26,7 @@ invariant_of-result g c =
       blocks = subst (λ (b : ℕ → List ℕ). AreBlocks device.packs.geometry (image_view device.image) b) (sym (bytes_same address content c.args.parts.blocks.items device.blocks.items all.contents)) all.blocks;
       front = super_stays device.packs.geometry (g.M.Meta.seen c.args.parts.meta) (g.M.Meta.seen device.packs.area.meta) all.front all.area.long all.area.front;
       whole = all.packs;
+      held = all.held;
       version = all.version;
       made = c.in-Ok-new.ensures.tables;
     }
