@@ -12,6 +12,7 @@ use crate::meta::FileMeta;
 use crate::named::flag_named;
 use crate::opening::parts_over;
 use crate::reading::read_area;
+use crate::store::settle_file;
 use crate::whole::place_of;
 use device::{Block, Meta, Parts};
 use geometry::{Error, Geometry};
@@ -43,9 +44,9 @@ pub fn create_image<R: Files<File = File>>(
         .open(rt, path)?;
     lock(&file)?;
     file.set_len(file_bytes(geometry))?;
-    file.sync_all()?;
+    let settled = settle_file(&file)?;
     settle_folder(rt, path)?;
-    parts_over(alloc, geometry, area, named.as_slice(), file)
+    parts_over(alloc, geometry, area, named.as_slice(), file, settled)
 }
 
 /// Opens the image file that is there: what an earlier run wrote is settled first, and then its meta area is read, and each block
@@ -71,13 +72,13 @@ pub fn open_image<R: Files<File = File>>(
     }
     let mut file = OpenOptions::new().read(true).write(true).open(rt, path)?;
     lock(&file)?;
-    file.sync_all()?;
+    let settled = settle_file(&file)?;
     let (geometry, area) = read_area(alloc, &mut file)?;
     if file.metadata()?.len() != file_bytes(&geometry) {
         return Err(FileFault::Refused(Error::BadImage(1)));
     }
     let named = flag_named(alloc, &geometry, area.as_slice())?;
-    let parts = parts_over(alloc, &geometry, area, named.as_slice(), file)?;
+    let parts = parts_over(alloc, &geometry, area, named.as_slice(), file, settled)?;
     Ok(parts)
 }
 

@@ -3,7 +3,7 @@ ghost use Rattle.std.specs.Prelude.{◌≡◌, ◌+◌, length, true};
 ghost use Rattle.device.specs.Outcomes.{Outcome, Since, seen_is_outcome, outcome_since, since_now};
 
 use crate::kept_area::KeptArea;
-use crate::store::Store;
+use crate::store::{Asked, Settled, Store};
 use device::{DeviceError, Failures, MemMeta, Meta};
 use std::sync::Arc;
 
@@ -15,15 +15,16 @@ use std::sync::Arc;
 pub struct FileMeta<S> {
     /// What a read gives.
     pub kept: KeptArea,
-    store: Arc<S>,
+    store: Arc<Asked<S>>,
     failures: Failures,
 }
 
 impl<S: Store> FileMeta<S> {
     /// The meta area whose bytes these are, all of them settled.
-    pub fn of(kept: MemMeta, store: Arc<S>) -> FileMeta<S>
+    pub fn of(kept: MemMeta, store: Arc<Asked<S>>, settled: Settled) -> FileMeta<S>
         ensures { result.kept.area ≡ kept }
     {
+        let Settled { .. } = settled;
         FileMeta {
             kept: KeptArea {
                 area: kept,

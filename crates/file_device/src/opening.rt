@@ -11,6 +11,7 @@ use crate::fault::FileFault;
 use crate::kept::{Held, Kept};
 use crate::meta::FileMeta;
 use crate::runs::Run;
+use crate::store::{Asked, Settled};
 use crate::whole::place_of;
 use device::{Block, MemMeta, Meta, Parts};
 use geometry::Geometry;
@@ -25,6 +26,7 @@ pub(crate) fn parts_over(
     area: Vec<u8>,
     named: &[bool],
     file: File,
+    settled: Settled,
 ) -> Result<Parts<FileMeta<File>, FileBlock<File>>, FileFault>
     requires long { length area.items ≡ meta_bytes geometry.now }
     requires named { length named.now ≡ block_count geometry.now }
@@ -32,9 +34,9 @@ pub(crate) fn parts_over(
     ensures size { IfOk result (λ parts. HasSize ⟦<FileMeta<File> as Meta>⟧.seen ⟦<FileBlock<File> as Block>⟧.address_of ⟦<FileBlock<File> as Block>⟧.content_of geometry.now parts) }
     ensures read { IfOk result (λ parts. map (λ block. is_kept block.kept.held) parts.blocks.items ≡ named.now) }
 {
-    let file = Arc::new(alloc, file)?;
+    let file = Arc::new(alloc, Asked::of(file))?;
     let blocks = open_blocks(alloc, geometry, named, &file)?;
-    let meta = FileMeta::of(MemMeta::new(area), file);
+    let meta = FileMeta::of(MemMeta::new(area), file, settled);
     Ok(Parts { meta, blocks })
 }
 
@@ -43,7 +45,7 @@ fn open_blocks(
     alloc: Global,
     geometry: &Geometry,
     named: &[bool],
-    file: &Arc<File>,
+    file: &Arc<Asked<File>>,
 ) -> Result<Vec<FileBlock<File>>, FileFault>
     requires named { length named.now ≡ block_count geometry.now }
     ensures count { IfOk result (λ blocks. length blocks.items ≡ block_count geometry.now) }
@@ -65,7 +67,7 @@ fn open_block(
     geometry: &Geometry,
     named: &[bool],
     place: u32,
-    file: &Arc<File>,
+    file: &Arc<Asked<File>>,
     run: &mut Run,
 ) -> Result<FileBlock<File>, FileFault>
     requires named { length named.now ≡ block_count geometry.now }
@@ -78,7 +80,7 @@ fn open_block(
     ensures read { IfOk result (λ block. is_kept block.kept.held ≡ slice_index_or named.now place false) }
 {
     let held = if named[place as usize] {
-        run.reach(alloc, geometry, named, place, file)?;
+        run.reach(alloc, geometry, named, place, &file.store)?;
         Held::Shared(run.block(place)?)
     } else {
         Held::Zeros(geometry.shape.block_bytes())

@@ -8,19 +8,20 @@ ghost use Rattle.geometry.specs.declared.error.Error.TheVariants.{NoMemory};
 use crate::block::FileBlock;
 use crate::kept::{Held, Kept};
 use crate::meta::FileMeta;
-use crate::store::Store;
+use crate::store::{Asked, Settled, Store};
 use device::{Block, MemBlock, MemDevice, MemMeta, Meta, Parts};
 use geometry::{Error, Geometry};
 use std::alloc::Global;
 use std::sync::Arc;
 
 /// The parts of a device in memory that has the size of a geometry, each write of which goes to the store too, at the place that
-/// it has in an image file. The only error is NoMemory.
+/// it has in an image file. What the meta area holds is settled. The only error is NoMemory.
 pub fn keep_in<S: Store + Drop>(
     alloc: Global,
     device: MemDevice,
     geometry: &Geometry,
-    store: S,
+    store: Asked<S>,
+    settled: Settled,
 ) -> Result<Parts<FileMeta<S>, FileBlock<S>>, Error>
     requires size { HasSize ⟦<MemMeta as Meta>⟧.seen ⟦<MemBlock as Block>⟧.address_of ⟦<MemBlock as Block>⟧.content_of geometry.now device.parts }
     ensures size { IfOk result (λ parts. HasSize ⟦<FileMeta<S> as Meta>⟧.seen ⟦<FileBlock<S> as Block>⟧.address_of ⟦<FileBlock<S> as Block>⟧.content_of geometry.now parts) }
@@ -30,14 +31,15 @@ pub fn keep_in<S: Store + Drop>(
     ensures places { IfOk result (λ parts. All (λ block. block.kept.at ≡ block_place geometry.now block.kept.address) parts.blocks.items) }
     ensures error { IfErr result (λ error. error ≡ NoMemory) }
 {
-    wrap(alloc, device, geometry, store)
+    wrap(alloc, device, geometry, store, settled)
 }
 
 fn wrap<S: Store + Drop>(
     alloc: Global,
     device: MemDevice,
     geometry: &Geometry,
-    store: S,
+    store: Asked<S>,
+    settled: Settled,
 ) -> Result<Parts<FileMeta<S>, FileBlock<S>>, Error>
     ensures meta { IfOk result (λ parts. parts.meta.kept.area ≡ device.parts.meta) }
     ensures addresses { IfOk result (λ parts. map (λ block. block.kept.address) parts.blocks.items ≡ map ⟦<MemBlock as Block>⟧.address_of device.parts.blocks.items) }
@@ -50,7 +52,7 @@ fn wrap<S: Store + Drop>(
         Err(_) => return Err(Error::NoMemory),
     };
     let Parts { meta, blocks } = device.split();
-    let meta = FileMeta::of(meta, Arc::try_clone(&store)?);
+    let meta = FileMeta::of(meta, Arc::try_clone(&store)?, settled);
     let mut kept = Vec::with_capacity(alloc, blocks.len())?;
     for block in blocks {
         let address = block.address();

@@ -4,7 +4,8 @@ use Rattle.file_cells.specs.Pass.{Pass}
 use Rattle.geometry.specs.File.{File}
 use Rattle.tool_folder.specs.Folder.{Row}
 use Rattle.tool_files.specs.Files.{file_at, HasFolder, IsNumberFor, WasPut, WasRemoved, WasRenamed, WasWritten}
-use Rattle.tool_folder.specs.Names.{IsRowOf, Removes, Renames, Renews}
+use Rattle.tool_folder.specs.Name.{IsName}
+use Rattle.tool_folder.specs.Names.{HasNoRow, IsRowOf, Removes, Renames, Renews}
 
 -- a number that no pass has is not that of the folder
 pub past_folder : (number : ℕ) (passes : List Pass) (folder : File) → 0 < number → file_at number passes ≡ None → file_at 1 passes ≡ Some folder → 1 < number
@@ -13,10 +14,11 @@ past_folder (suc zero) passes folder some none there = let both : Some folder �
 past_folder (suc (suc n)) passes folder some none there = omega arith
 
 pub was_put : (size : ℕ) (name bytes : List ℕ) (number : ℕ) (before between after : List Pass) (rows renewed : List Row)
-    → HasFolder size before rows → IsNumberFor name number rows before → WasWritten size bytes number before between → 1 < number
+    → IsName name → HasFolder size before rows → IsNumberFor name number rows before → WasWritten size bytes number before between → 1 < number
     → Renews (record { name = name; number = number; bytes = length bytes }) rows renewed
     → HasFolder size after renewed → ((n : ℕ) → n ≢ 1 → file_at n after ≡ file_at n between) → WasPut size name bytes number before after
-was_put size name bytes number before between after rows renewed had own written past renews has others = record {
+was_put size name bytes number before between after rows renewed is_name had own written past renews has others = record {
+  is_name = is_name;
   rows = rows;
   had_folder = had;
   own = own;
@@ -46,11 +48,13 @@ was_removed size name before between after rows left row had named past removes 
 }
 
 pub was_renamed : (size : ℕ) (name to : List ℕ) (before after : List Pass) (rows renamed : List Row)
-    → HasFolder size before rows → Renames name to rows renamed → HasFolder size after renamed → ((n : ℕ) → n ≢ 1 → file_at n after ≡ file_at n before)
+    → IsName to → HasNoRow to rows → HasFolder size before rows → Renames name to rows renamed → HasFolder size after renamed → ((n : ℕ) → n ≢ 1 → file_at n after ≡ file_at n before)
     → WasRenamed size name to before after
-was_renamed size name to before after rows renamed had renames has others = record {
+was_renamed size name to before after rows renamed is_name free had renames has others = record {
   rows = rows;
   had_folder = had;
+  is_name = is_name;
+  free = free;
   renamed = renamed;
   has_folder = has;
   renames = renames;

@@ -5,6 +5,7 @@ use Rattle.geometry.specs.File.{File}
 use Rattle.image_reading.specs.Content.{all_bytes}
 use Rattle.tool_files.specs.Content.{HasBytes}
 use Rattle.tool_folder.specs.Folder.{Row, BeginsWith}
+use Rattle.tool_folder.specs.Name.{IsName}
 use Rattle.tool_folder.specs.Names.{HasNoRow, IsRowOf, Removes, Renames, Renews}
 
 -- the file of the first pass of a number
@@ -40,8 +41,9 @@ abbrev pub IsNumberFor : List ℕ → ℕ → List Row → List Pass → Type 0
 IsNumberFor name number rows passes =
     ((row : Row) × IsRowOf name rows row × (row.number ≡ number)) ⊎ (HasNoRow name rows × All (λ row. row.number ≢ number) rows × (file_at number passes ≡ None))
 
--- the folder names the file of this number so, that file has the bytes, and all other rows and files are as they were
+-- the name is one, the folder names the file of this number so, that file has the bytes, and all other rows and files are as they were
 pub record WasPut (size : ℕ) (name bytes : List ℕ) (number : ℕ) (before after : List Pass) : Type 0 where
+  pub is_name : IsName name
   pub rows : List Row
   pub had_folder : HasFolder size before rows
   pub own : IsNumberFor name number rows before
@@ -65,10 +67,12 @@ pub record WasRemoved (size : ℕ) (name : List ℕ) (before after : List Pass) 
   pub gone : file_at row.number after ≡ None
   pub others : (n : ℕ) → n ≢ 1 → n ≢ row.number → file_at n after ≡ file_at n before
 
--- the folder has another name for the file, and all files are as they were
+-- the folder has another name for the file, which no row had, and all files are as they were
 pub record WasRenamed (size : ℕ) (name to : List ℕ) (before after : List Pass) : Type 0 where
   pub rows : List Row
   pub had_folder : HasFolder size before rows
+  pub is_name : IsName to
+  pub free : HasNoRow to rows
   pub renamed : List Row
   pub has_folder : HasFolder size after renamed
   pub renames : Renames name to rows renamed

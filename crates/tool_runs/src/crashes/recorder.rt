@@ -1,6 +1,6 @@
 //! A store that records what is asked of it.
 use device::DeviceError;
-use file_device::{Settled, Store, Written};
+use file_device::Store;
 use std::alloc::{AllocError, AllocFailed, Global};
 use std::cell::RefCell;
 use std::rc::Rc;
@@ -55,16 +55,14 @@ impl Recorder {
 }
 
 impl Store for Recorder {
-    fn put<'a>(&self, at: u64, bytes: &'a [u8]) -> Result<Written<'a>, DeviceError> {
+    fn put(&self, at: u64, bytes: &[u8]) -> Result<(), DeviceError> {
         let Ok(copy) = Vec::from_slice(self.alloc, bytes) else {
             return Err(DeviceError);
         };
-        self.record(Call::Put { at, bytes: copy })?;
-        Ok(Written::claim(at, bytes))
+        self.record(Call::Put { at, bytes: copy })
     }
 
-    fn settle(&self) -> Result<Settled, DeviceError> {
-        self.record(Call::Settle)?;
-        Ok(Settled::claim())
+    fn settle(&self) -> Result<(), DeviceError> {
+        self.record(Call::Settle)
     }
 }

@@ -1,8 +1,8 @@
 //! A put that was recorded, and the states that its crashes leave.
 use super::fates::Fates;
 use super::recorder::{Call, Recorder};
-use file_device::{keep_in, read_device};
-use flash_volume::{Geometry, Leave, MemDevice, Policy, Shape, work_on, work_on_new};
+use file_device::{Asked, keep_in, read_device};
+use flash_volume::{Error, Geometry, Leave, MemDevice, Policy, Shape, work_on, work_on_new};
 use std::alloc::Global;
 use std::sync::Wait;
 use tool_files::{Clean, MakeFolder, Put};
@@ -42,7 +42,11 @@ impl Trial {
         let geometry = Geometry::new(Shape::TINY, 16, 1, 8, 32)?;
         let recorder = Recorder::new(alloc)?;
         let device = MemDevice::new(alloc, &geometry)?;
-        let parts = keep_in(alloc, device, &geometry, recorder.share()?)?;
+        let store = Asked::of(recorder.share()?);
+        let Ok(settled) = store.settle() else {
+            return Err(Fault::from(Error::Device));
+        };
+        let parts = keep_in(alloc, device, &geometry, store, settled)?;
         let made = work_on_new(rt, alloc, parts, geometry, Leave::Close, MakeFolder)?;
         let other = put_of(OTHER, OTHER_BYTES.as_slice());
         let other = work_on(rt, alloc, made.parts, Leave::Close, other)?;

@@ -67,4 +67,4 @@ returns g c =
     entries c.as_slice-held.result.now (search rules) c.in_ok-number.ensures.kept)
     c.in_ok-number.ensures.made there in
     into (WasPut size name bytes number before) (take c.write_row.new.passes.len (after ++ drop (length after) between)) after (take_at after (drop (length after) between) c.write_row.new.passes.len (search rules))
-    (was_put size name bytes number before between after rows renewed had own c.in_ok-number.ensures.written c.in_ok-number.ensures.past renews has others)
+    (was_put size name bytes number before between after rows renewed (c.is_name.ensures.yes (search rules)) had own c.in_ok-number.ensures.written c.in_ok-number.ensures.past renews has others)
