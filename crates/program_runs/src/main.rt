@@ -13,6 +13,7 @@ mod lawful;
 mod mounting;
 mod order;
 mod play;
+mod races;
 mod replaying;
 mod scene;
 mod schedules;
@@ -79,6 +80,7 @@ fn run_part<R: Runtime + Threads + Wait + Sync + Files<File = File>>(
         Part::Crashes => crashes::crash(rt, alloc, count),
         Part::Machine => replaying::replay_all(rt, alloc, count),
         Part::Schedules => schedules::run_schedules(rt, alloc, count),
+        Part::Races => races::race(rt, alloc, count),
         Part::Damage => damage::damage(rt, alloc, count),
         Part::Growths => growths::grow(rt, alloc),
     }

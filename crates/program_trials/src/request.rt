@@ -3,7 +3,7 @@ use std::convert::AsStr;
 
 /// What is printed of words that are refused.
 pub const USAGE: &str =
-    "usage: program_runs [cases | sweep | crashes | machine | schedules | damage | growths] [--count N]";
+    "usage: program_runs [cases | sweep | crashes | machine | schedules | races | damage | growths] [--count N]";
 
 /// A part of the program.
 #[derive(Clone, Copy)]
@@ -18,6 +18,8 @@ pub enum Part {
     Machine,
     /// N orders of calls side by side.
     Schedules,
+    /// N races of writers with checkpoints.
+    Races,
     /// N damaged images.
     Damage,
     /// Scripts under which a growth is refused from without.
@@ -25,12 +27,13 @@ pub enum Part {
 }
 
 /// Each part that is run where no word asks for one, in order.
-pub const PARTS: [Part; 6] = [
+pub const PARTS: [Part; 7] = [
     Part::Cases,
     Part::Sweep,
     Part::Crashes,
     Part::Machine,
     Part::Schedules,
+    Part::Races,
     Part::Damage,
 ];
 
@@ -50,6 +53,7 @@ impl Part {
             "crashes" => Some(Part::Crashes),
             "machine" => Some(Part::Machine),
             "schedules" => Some(Part::Schedules),
+            "races" => Some(Part::Races),
             "damage" => Some(Part::Damage),
             "growths" => Some(Part::Growths),
             _ => None,
@@ -63,6 +67,7 @@ impl Part {
             Part::Crashes => 20,
             Part::Machine => 20,
             Part::Schedules => 20,
+            Part::Races => 100,
             Part::Damage => 10_000,
         }
     }
