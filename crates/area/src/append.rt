@@ -49,8 +49,8 @@ impl<V: VolumeName> LogCell<V> {
 
 impl<V: VolumeName, B: Block + Drop> MainArea<V, B> {
     /// Writes the next block of a log, and gives its ticket, which is in hand from then on. The block lies in the log's open
-    /// segment, or in a hole of the one that it threads: an ordinary append of data that finds each queue empty threads the
-    /// first segment, in ascending order, that can be threaded.
+    /// segment, or in a hole of the one that it threads: an ordinary append of data that finds the ordinary queue empty threads the
+    /// first segment, in ascending order, that can be threaded, where the volume's rule lets a thread begin.
     ///
     /// Answers NoSpace where the log has no place, each queue that the call may draw on was empty, and no segment can be threaded
     /// or the append may not do so; and Device where the device failed: then the log stands at the place that it tried. After both what is in hand is as before.
@@ -81,7 +81,10 @@ impl<V: VolumeName, B: Block + Drop> MainArea<V, B> {
             let slip = &mut cell.slip;
             return segment.append(self.books(), self.words(), hand, slip, owner, now, bytes);
         }
-        if who == Who::Reserved || !log.is_data() {
+        if who == Who::Reserved
+            || !log.is_data()
+            || !self.threading.allows(self.pool(), &mut cell.pass)
+        {
             return Err(Error::NoSpace);
         }
         for number in 0..self.geometry().segments {

@@ -19,6 +19,7 @@ mod rooms;
 mod rows;
 mod segment;
 mod slips;
+mod threading;
 mod threads;
 
 pub use append::Who;
@@ -31,3 +32,4 @@ pub use opening::{lock_segments, put_slips};
 pub use rooms::{new_rooms, store_slips};
 pub use rows::SectionRow;
 pub use segment::free_segment;
+pub use threading::Threading;

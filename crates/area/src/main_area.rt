@@ -5,6 +5,7 @@ ghost use Rattle.rights_names.specs.Names.{layout_of};
 
 use crate::cells::{LogCell, SegmentCell, ShardCell};
 use crate::numbered::lock_numbered;
+use crate::threading::Threading;
 use device::Block;
 use geometry::Geometry;
 use pool::Pool;
@@ -26,6 +27,7 @@ pub struct MainArea<V: VolumeName, B: Block + Drop> {
     pub(crate) logs: Vec<Mutex<LogCell<V>>>,
     // Each node number up to this was taken when a search came by. The next search begins behind it.
     pub(crate) nodes_seen: AtomicU32,
+    pub(crate) threading: Threading,
     ghost numbers: { geometry ≡ V.Numbers.geometry },
     ghost laid: { V.Books.books.key ≡ layout_of V.Numbers.geometry },
     ghost worded: { words ≡ record { table = V.Words.words; segments = V.Numbers.geometry.segments } },
@@ -35,7 +37,7 @@ pub struct MainArea<V: VolumeName, B: Block + Drop> {
 }
 
 impl<V: VolumeName, B: Block + Drop> MainArea<V, B> {
-    /// A main area of these parts: its segments, shards and logs in the order of their numbers.
+    /// A main area of these parts: its segments, shards and logs in the order of their numbers. It threads whenever it can.
     pub fn new(
         geometry: Geometry,
         turnstile: Turnstile<V::Books, V::Turns>,
@@ -61,7 +63,16 @@ impl<V: VolumeName, B: Block + Drop> MainArea<V, B> {
             shards,
             logs,
             nodes_seen: AtomicU32::new(0),
+            threading: Threading::Whenever,
         }
+    }
+
+    /// The same main area, whose threads begin by this rule from now on.
+    pub fn with_threading(mut self, threading: Threading) -> MainArea<V, B>
+        ensures { result.threading ≡ threading }
+    {
+        self.threading = threading;
+        self
     }
 
     /// The turnstile, the words, and what lies in the locks of the segments and the shards, in the order of their numbers.
@@ -86,6 +97,7 @@ impl<V: VolumeName, B: Block + Drop> MainArea<V, B> {
             shards,
             logs: _,
             nodes_seen: _,
+            threading: _,
         } = self;
         (turnstile, words, segments, shards)
     }

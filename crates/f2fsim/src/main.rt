@@ -3,6 +3,7 @@
 
 mod saving;
 
+use flash_volume::Threading;
 use program_run::status::{FAILED, MISUSED};
 use program_run::{OpenGate, check_image, run_script, tell_files, tell_io_failure};
 use program_script::words::USAGE;
@@ -100,6 +101,7 @@ fn run_saving<R: Runtime + AllocGlobal + Threads + Wait + Sync, W: Write, E: Wri
         out,
         errors,
         saved,
+        Threading::Whenever,
         &OpenGate,
     );
     match path {

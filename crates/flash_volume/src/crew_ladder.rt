@@ -15,6 +15,7 @@ use crate::crew::{Crew, Part};
 use crate::leave::{Done, Fault};
 use crate::leaving::take_turns_and_leave;
 use crate::rights::Rights;
+use area::Threading;
 use device::{Block, Meta, Parts};
 use mount::{Mounted, MountedQueues, mount};
 use mount_reading::OpenFault;
@@ -24,8 +25,8 @@ use std::marker::Brand;
 use std::sync::Wait;
 use std::thread::Threads;
 
-/// Mounts the volume of a device, has the turns of a crew on it, and leaves it as the crew says. What the crew promises holds of the
-/// image that the parts had.
+/// Mounts the volume of a device, which threads by this rule, has the turns of a crew on it, and leaves it as the crew says. What the crew
+/// promises holds of the image that the parts had.
 ///
 /// The outer error is a refusal of the parts, as a mount's, and hands them back as they were: the pack that counted counts, but after
 /// Device, and where a crash left one pack or the next, a crash at any moment of the call does too. The inner one is a fault of the crew or
@@ -39,6 +40,7 @@ pub fn visit_by_turns<
     rt: &R,
     alloc: Global,
     parts: Parts<M, B>,
+    threading: Threading,
     crew: X,
 ) -> Result<Result<Done<M, B, X::Output>, Fault<M, B>>, OpenFault<M, B>>
 where
@@ -57,7 +59,7 @@ where
     match mount(alloc, parts) {
         Ok(mounted) => {
             shown_law(&mounted);
-            on_mounted::<Brand, M, B, R, X>(rt, alloc, mounted, crew)
+            on_mounted::<Brand, M, B, R, X>(rt, alloc, mounted, threading, crew)
         }
         Err(fault) => Err(fault),
     }
@@ -81,6 +83,7 @@ fn on_mounted<
     rt: &R,
     alloc: Global,
     mounted: Mounted<M, B>,
+    threading: Threading,
     crew: X,
 ) -> Result<Result<Done<M, B, X::Output>, Fault<M, B>>, OpenFault<M, B>>
 where
@@ -95,7 +98,7 @@ where
     ensures error { IfErr result (λ fault. fault.error ≡ NoMemory) }
 {
     match mounted.name::<BooksOf<K>, WordsOf<K>, NumbersOf<K>>() {
-        Ok(opened) => on_opened::<K, Brand, Brand, M, B, R, X>(rt, alloc, opened, crew),
+        Ok(opened) => on_opened::<K, Brand, Brand, M, B, R, X>(rt, alloc, opened, threading, crew),
         Err(fault) => Err(fault),
     }
 }
@@ -112,6 +115,7 @@ fn on_opened<
     rt: &R,
     alloc: Global,
     opened: MountedQueues<BooksOf<K>, WordsOf<K>, NumbersOf<K>, M, B>,
+    threading: Threading,
     crew: X,
 ) -> Result<Result<Done<M, B, X::Output>, Fault<M, B>>, OpenFault<M, B>>
 where
@@ -125,6 +129,7 @@ where
 {
     match opened.name::<P, T, R>(rt) {
         Ok((volume, seats, passes)) => {
+            let volume = volume.with_threading(threading);
             let rights = Rights { seats, passes };
             Ok(take_turns_and_leave(rt, alloc, volume, rights, crew))
         }

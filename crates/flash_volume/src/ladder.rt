@@ -13,6 +13,7 @@ use crate::leave::{Done, Fault, Leave};
 use crate::leaving::visit_and_leave;
 use crate::rights::Rights;
 use crate::visit::Visit;
+use area::Threading;
 use device::{Block, Meta, Parts};
 use mount::{Mounted, MountedQueues, mount};
 use mount_reading::OpenFault;
@@ -21,7 +22,8 @@ use std::alloc::Global;
 use std::marker::Brand;
 use std::sync::Wait;
 
-/// Mounts the volume of a device, visits it, and leaves it, as `work_on`. What the visit promises holds of the image that the parts had.
+/// Mounts the volume of a device, which threads by this rule, visits it, and leaves it, as `work_on`. What the visit promises holds of the
+/// image that the parts had.
 ///
 /// The outer error is a refusal of the parts, as a mount's, and hands them back as they were: the pack that counted counts, but after
 /// Device, and where a crash left one pack or the next, a crash at any moment of the call does too. The inner one is a fault of the visit or
@@ -30,6 +32,7 @@ pub fn visit_volume<M: Meta, B: Block + Drop, R: Wait, X: Visit<M, B> + Drop>(
     rt: &R,
     alloc: Global,
     parts: Parts<M, B>,
+    threading: Threading,
     leave: Leave,
     visit: X,
 ) -> Result<Result<Done<M, B, X::Output>, Fault<M, B>>, OpenFault<M, B>>
@@ -43,7 +46,7 @@ pub fn visit_volume<M: Meta, B: Block + Drop, R: Wait, X: Visit<M, B> + Drop>(
         ⊎ (weigh B.failed parts.blocks.items < weigh B.failed fault.parts.blocks.items)) }
 {
     match mount(alloc, parts) {
-        Ok(mounted) => on_mounted::<Brand, M, B, R, X>(rt, alloc, mounted, leave, visit),
+        Ok(mounted) => on_mounted::<Brand, M, B, R, X>(rt, alloc, mounted, threading, leave, visit),
         Err(fault) => Err(fault),
     }
 }
@@ -52,6 +55,7 @@ fn on_mounted<K: TablesName, M: Meta, B: Block + Drop, R: Wait, X: Visit<M, B> +
     rt: &R,
     alloc: Global,
     mounted: Mounted<M, B>,
+    threading: Threading,
     leave: Leave,
     visit: X,
 ) -> Result<Result<Done<M, B, X::Output>, Fault<M, B>>, OpenFault<M, B>>
@@ -63,7 +67,9 @@ fn on_mounted<K: TablesName, M: Meta, B: Block + Drop, R: Wait, X: Visit<M, B> +
     ensures error { IfErr result (λ fault. fault.error ≡ NoMemory) }
 {
     match mounted.name::<BooksOf<K>, WordsOf<K>, NumbersOf<K>>() {
-        Ok(opened) => on_opened::<K, Brand, Brand, M, B, R, X>(rt, alloc, opened, leave, visit),
+        Ok(opened) => on_opened::<K, Brand, Brand, M, B, R, X>(
+            rt, alloc, opened, threading, leave, visit,
+        ),
         Err(fault) => Err(fault),
     }
 }
@@ -80,6 +86,7 @@ fn on_opened<
     rt: &R,
     alloc: Global,
     opened: MountedQueues<BooksOf<K>, WordsOf<K>, NumbersOf<K>, M, B>,
+    threading: Threading,
     leave: Leave,
     visit: X,
 ) -> Result<Result<Done<M, B, X::Output>, Fault<M, B>>, OpenFault<M, B>>
@@ -90,6 +97,7 @@ fn on_opened<
 {
     match opened.name::<P, T, R>(rt) {
         Ok((volume, seats, passes)) => {
+            let volume = volume.with_threading(threading);
             let rights = Rights { seats, passes };
             Ok(visit_and_leave(rt, alloc, volume, rights, leave, visit))
         }

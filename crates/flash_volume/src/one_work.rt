@@ -14,6 +14,7 @@ use crate::leave::{Done, Fault, Leave, Stage};
 use crate::rights::Rights;
 use crate::visit::Visit;
 use crate::work::Work;
+use area::Threading;
 use device::{Block, Meta, Parts};
 use geometry::Error;
 use mount_reading::OpenFault;
@@ -24,7 +25,7 @@ use volume::Volume;
 
 /// Mounts the volume of a device, does the work on it, and leaves it. After Ok the work's promise holds between the files that the
 /// image on the parts had and those with which it ended. With `Close` the parts that come back hold a lawful image with these
-/// files and no other; with `Discard` leaving wrote nothing to them.
+/// files and no other; with `Discard` leaving wrote nothing to them. Threads begin only while the reserve is full.
 ///
 /// Each fault hands the parts back. At Mount it is a refusal of the parts, as a mount's, and they are as they were: the pack that
 /// counted counts, but after Device. At Work it
@@ -51,7 +52,14 @@ pub fn work_on<M: Meta, B: Block + Drop, R: Wait, W: Work<M, B> + Drop>(
     ensures after_fault { IfErr result (λ fault. (bytes : ℕ) × IsBlockRun B.address_of B.content_of bytes 1 fault.parts.blocks.items) }
     ensures not_closed { IfErr result (λ fault. fault.stage ≡ AtClose → IsNotClosed fault.error) }
 {
-    match visit_volume(rt, alloc, parts, leave, OneWork { work }) {
+    match visit_volume(
+        rt,
+        alloc,
+        parts,
+        Threading::WhileReserveIsFull,
+        leave,
+        OneWork { work },
+    ) {
         Ok(left) => left,
         Err(fault) => Err(unmounted(fault)),
     }

@@ -17,6 +17,7 @@ use crate::leave::{Done, Fault, Leave};
 use crate::one_work::unmounted;
 use crate::work::Work;
 use crate::works::Works;
+use area::Threading;
 use device::{Meta, Parts};
 use std::alloc::Global;
 use std::sync::Wait;
@@ -59,7 +60,7 @@ where
     ensures not_closed { IfErr result (λ fault. fault.stage ≡ AtClose → IsNotClosed fault.error) }
 {
     let works = Works::Fresh { works, leave };
-    match visit_by_turns(rt, alloc, parts, works) {
+    match visit_by_turns(rt, alloc, parts, Threading::WhileReserveIsFull, works) {
         Ok(left) => left,
         Err(fault) => Err(unmounted(fault)),
     }

@@ -1,5 +1,5 @@
 //! The pool of free slips, shared by all threads.
-ghost use Rattle.std.specs.Prelude.{◌≡◌, ◌<◌, ◌≤◌, ◌+◌, ℕ, List, ◌⊎◌, vec_len, IfOk, IfErr, IfSome, IfNone};
+ghost use Rattle.std.specs.Prelude.{◌≡◌, ◌<◌, ◌≤◌, ◌+◌, ℕ, List, ◌⊎◌, true, vec_len, IfOk, IfErr, IfSome, IfNone};
 ghost use Rattle.crossbeam_queue.specs.Passes.{ruled_capacity};
 ghost use Rattle.pool.specs.Law.{all_parts, put_ordinary, put_reserve, took_ordinary, took_reserve, WasEmpty, WasFull, Settled, HasAll};
 ghost use Rattle.pool.specs.Pools.{queue_id, split_account, shared_account, joined_account};
@@ -100,6 +100,14 @@ impl<W: WordsName, J: PoolName> Pool<W, J> {
             Ok(()) => Ok(()),
             Err(back) => Err(back.restore()),
         }
+    }
+
+    /// Whether the reserve had all four slips at one moment of the call.
+    pub fn is_reserve_full(&self, pass: &mut PoolPass<W, J>) -> bool
+        ensures unchanged { pass.new ≡ pass.old }
+        ensures full { result ≡ true → WasFull 4 pass.old.reserve }
+    {
+        self.reserve.is_full_as::<Put>(&mut pass.reserve)
     }
 
     /// A pass with one part for another holder. This one keeps the rest.

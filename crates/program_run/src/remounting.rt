@@ -53,7 +53,7 @@ pub fn run_mounted<
         out: &mut *out,
     };
     seen_law::<M>();
-    match visit_by_turns(rt, alloc, parts, script) {
+    match visit_by_turns(rt, alloc, parts, setting.threading, script) {
         Ok(left) => match left {
             Ok(done) => {
                 let Done { parts, output } = done;

@@ -1,4 +1,5 @@
 //! A script that is run, and what it told.
+use flash_volume::Threading;
 use program_run::{Gate, OpenGate, run_script};
 use program_trials::{Fault, Told, Trouble, Verdict, judge_lines};
 use std::alloc::Global;
@@ -16,7 +17,16 @@ pub fn play<R: Threads + Wait + Sync, G: Gate + Sync>(
     let mut input = text.as_bytes();
     let mut lines = Vec::new(alloc);
     let mut errors = Vec::new(alloc);
-    let status = run_script(rt, alloc, &mut input, &mut lines, &mut errors, saved, gate);
+    let status = run_script(
+        rt,
+        alloc,
+        &mut input,
+        &mut lines,
+        &mut errors,
+        saved,
+        Threading::Whenever,
+        gate,
+    );
     Told {
         lines,
         errors,

@@ -308,8 +308,7 @@ impl<B: Block + Drop> SegmentState<B> {
         self.body.unthread();
     }
 
-    /// A checkpoint is complete that marks its valid blocks. Only who may advance the version says so, and while an audit has all
-    /// permits: so none of its blocks has changed since the image was taken.
+    /// A checkpoint is complete that marks its valid blocks: none has changed since the image was taken, as an audit has all permits.
     pub fn keep(&mut self, seat: &CheckpointSeat, audit: &Audit)
         requires words { seat.now.table ≡ self.old.table }
         requires book { audit.now.book ≡ self.old.book }

@@ -6,7 +6,7 @@ ghost use Rattle.geometry.specs.File.{bytes_at};
 ghost use Rattle.geometry.specs.Shape.{block_bytes};
 
 use crate::cells::SpareCell;
-use area::{MainArea, lock_numbered};
+use area::{MainArea, Threading, lock_numbered};
 use checkpoint::PacksCell;
 use device::{Block, Meta};
 use file_cells::{FileCell, FilePass};
@@ -58,6 +58,16 @@ impl<V: VolumeName, M: Meta, B: Block + Drop> Volume<V, M, B> {
             spare: Mutex::new(spare),
             base,
         }
+    }
+
+    /// The same volume, whose ordinary appends thread used segments by this rule from now on. One that was just made threads
+    /// whenever it can.
+    pub fn with_threading(mut self, threading: Threading) -> Volume<V, M, B>
+        ensures threading { result.area.threading ≡ threading }
+        ensures base { result.base ≡ self.base }
+    {
+        self.area = self.area.with_threading(threading);
+        self
     }
 
     /// The version of the image at which the volume was opened, and how many blocks were valid in it.

@@ -1,4 +1,5 @@
 //! What the program `f2fsim` tells of an input.
+use flash_volume::Threading;
 use program_run::{OpenGate, check_image, run_script, tell_files};
 use program_trials::Input;
 use std::alloc::Global;
@@ -7,12 +8,13 @@ use std::io::Write;
 use std::sync::Wait;
 use std::thread::Threads;
 
-/// What is asked of an input: whether it is an image file, what its files are, or what it prints as a script.
+/// What is asked of an input: whether it is an image file, what its files are, or what it prints as a script whose volume threads by a
+/// rule.
 #[derive(Clone, Copy)]
 pub enum Question {
     Check,
     Files,
-    Script,
+    Script(Threading),
 }
 
 /// What is told of an input: what goes to standard output as it is, what goes to standard error behind a bar, and a status that is
@@ -29,10 +31,16 @@ pub fn answer<R: Threads + Wait + Sync>(
     let status = match question {
         Question::Check => check_image(alloc, input, &mut out, &mut errors),
         Question::Files => tell_files(rt, alloc, input, &mut out, &mut errors),
-        Question::Script => {
-            let saved = Some(saved);
-            run_script(rt, alloc, input, &mut out, &mut errors, saved, &OpenGate)
-        }
+        Question::Script(threading) => run_script(
+            rt,
+            alloc,
+            input,
+            &mut out,
+            &mut errors,
+            Some(saved),
+            threading,
+            &OpenGate,
+        ),
     };
     let errors = str::from_utf8(errors.as_slice()).unwrap_or("no text");
     for line in errors.lines() {

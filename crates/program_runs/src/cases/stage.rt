@@ -2,7 +2,7 @@
 use crate::cases::answer::{Question, answer};
 use crate::cases::turns::run_in_turns;
 use crate::mounting::mount_bytes;
-use flash_volume::Leave;
+use flash_volume::{Leave, Threading};
 use program_trials::{
     End, ImageFile, Input, number, push_lines, tell_call, tell_script, text_bytes,
 };
@@ -12,11 +12,12 @@ use std::io::Write;
 use std::sync::Wait;
 use std::thread::Threads;
 
-/// The lines of a script that is not run yet, an image file, and what was told.
+/// The lines of a script that is not run yet, the rule by which its volume threads, an image file, and what was told.
 #[derive(Drop)]
 pub struct Stage {
     alloc: Global,
     script: String,
+    threading: Threading,
     image: ImageFile,
     told: Vec<u8>,
 }
@@ -26,6 +27,7 @@ impl Stage {
         Stage {
             alloc,
             script: String::new(alloc),
+            threading: Threading::Whenever,
             image: ImageFile::new(alloc),
             told: Vec::new(alloc),
         }
@@ -46,6 +48,7 @@ impl Stage {
     ///
     /// - `again N` runs the script so often, and tells each time that it told something else than at first;
     /// - `turns N` does so through a gate that holds two workers before their second call, each until the other's first has answered;
+    /// - `careful` has threads begin only while the reserve is full, in the scripts of this case from here on;
     /// - `run TEXT` and `parse TEXT` take a text as a script, `call WORDS` words of the program;
     /// - `empty`, `base` and `one`, of format 1, are images built by hand; `keep` keeps one, and `same` tells where another is not the same;
     /// - `change PLACE=BYTE ..`, or `PLACE+COUNT=BYTE`, and `cut LENGTH` change the image; `length` and `bytes FROM COUNT` tell what it is;
@@ -61,6 +64,10 @@ impl Stage {
         }
         self.run(rt, 1)?;
         match verb {
+            "careful" => {
+                self.threading = Threading::WhileReserveIsFull;
+                Ok(())
+            }
             "run" => self.run_text(rt, rest),
             "check" => self.ask(rt, Question::Check, End::Here),
             "files" => self.ask(rt, Question::Files, End::Here),
@@ -83,9 +90,9 @@ impl Stage {
             return Ok(());
         }
         let script = self.script.as_str();
-        let (first, image) = answer_script(rt, self.alloc, script.as_bytes())?;
+        let (first, image) = answer_script(rt, self.alloc, self.threading, script.as_bytes())?;
         for _ in 1..times {
-            let (next, _) = answer_script(rt, self.alloc, script.as_bytes())?;
+            let (next, _) = answer_script(rt, self.alloc, self.threading, script.as_bytes())?;
             if next.as_slice() != first.as_slice() {
                 self.told.extend_from_slice(next.as_slice())?;
             }
@@ -107,7 +114,7 @@ impl Stage {
     // Runs a text as a script.
     fn run_text<R: Threads + Wait + Sync>(&mut self, rt: &R, text: &str) -> io::Result<()> {
         let text = text_bytes(self.alloc, text)?;
-        let (told, image) = answer_script(rt, self.alloc, text.as_slice())?;
+        let (told, image) = answer_script(rt, self.alloc, self.threading, text.as_slice())?;
         self.told.extend_from_slice(told.as_slice())?;
         self.image.bytes = image;
         Ok(())
@@ -153,7 +160,7 @@ impl Stage {
             _ => io::ErrorKind::PermissionDenied,
         };
         self.ask(rt, Question::Check, End::Failed(kind))?;
-        self.ask(rt, Question::Script, End::Failed(kind))
+        self.ask(rt, Question::Script(self.threading), End::Failed(kind))
     }
 }
 
@@ -161,10 +168,17 @@ impl Stage {
 fn answer_script<R: Threads + Wait + Sync>(
     rt: &R,
     alloc: Global,
+    threading: Threading,
     script: &[u8],
 ) -> io::Result<(Vec<u8>, Vec<u8>)> {
     let mut saved = Vec::new(alloc);
     let mut input = Input::new(script, End::Here);
-    let told = answer(rt, alloc, Question::Script, &mut input, &mut saved)?;
+    let told = answer(
+        rt,
+        alloc,
+        Question::Script(threading),
+        &mut input,
+        &mut saved,
+    )?;
     Ok((told, saved))
 }

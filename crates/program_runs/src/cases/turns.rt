@@ -1,4 +1,5 @@
 //! Scripts through a gate that holds each of two workers before its second call until the other's first one has answered.
+use flash_volume::Threading;
 use program_run::{Gate, run_script};
 use std::alloc::Global;
 use std::io::Write;
@@ -91,7 +92,16 @@ fn run_once<R: Threads + Wait + Sync>(rt: &R, alloc: Global, script: &[u8]) -> i
     let mut input = script;
     let mut told = Vec::new(alloc);
     let mut errors = Vec::new(alloc);
-    let status = run_script(rt, alloc, &mut input, &mut told, &mut errors, None, &turns);
+    let status = run_script(
+        rt,
+        alloc,
+        &mut input,
+        &mut told,
+        &mut errors,
+        None,
+        Threading::Whenever,
+        &turns,
+    );
     if status != 0 || !errors.is_empty() {
         writeln!(told, "status {status}")?;
     }
