@@ -6,7 +6,7 @@ use Rattle.words.specs.Tokens.{FreeSegment, OpenSegment}
 use Rattle.pool.specs.declared.law.Account.{Account}
 use Rattle.pool.specs.Law.{took_ordinary, took_reserve}
 use Rattle.area.specs.declared.append.Who.{Who}
-use Rattle.area.specs.declared.append.Who.TheVariants.{Ordinary, Reserved}
+use Rattle.area.specs.declared.append.Who.TheVariants.{Ordinary, Cleaning, Checkpoint}
 
 -- slips of these words, each of one of so many segments
 abbrev pub AreSlipsOf : TableId → ℕ → List FreeSegment → Type 0
@@ -32,7 +32,8 @@ pub record HaveFreed (segments count : ℕ) (old new : Account) (before after : 
 -- The pass took the slip of this segment, and nothing else: only who may draw on the reserve took it there.
 abbrev pub HasDrawn : Who → ℕ → Account → Account → Type 0
 HasDrawn Ordinary segment old new = new ≡ took_ordinary old segment
-HasDrawn Reserved segment old new = (new ≡ took_ordinary old segment) ⊎ (new ≡ took_reserve old segment)
+HasDrawn Cleaning segment old new = (new ≡ took_ordinary old segment) ⊎ (new ≡ took_reserve old segment)
+HasDrawn Checkpoint segment old new = (new ≡ took_ordinary old segment) ⊎ (new ≡ took_reserve old segment)
 
 -- A log has this open segment: the one that it had, and then its pass took nothing; or, where it had none, the one whose
 -- slip its pass took.

@@ -9,6 +9,7 @@ ghost use Rattle.area.specs.Slips.{HasDrawn, HasOpened};
 use crate::cells::LogCell;
 use crate::log::Log;
 use crate::main_area::MainArea;
+use crate::threading::Threading;
 use device::Block;
 use geometry::{Error, Owner};
 use pool::Pool;
@@ -23,11 +24,23 @@ use words::FreeSlip;
 pub enum Who {
     /// Those of the ordinary queue.
     Ordinary,
-    /// Those of the ordinary queue, then those of the reserve: for cleaning and for checkpoints.
-    Reserved,
+    /// Those of the ordinary queue, then those of the reserve.
+    Cleaning,
+    /// The same.
+    Checkpoint,
 }
 
 impl<V: VolumeName> LogCell<V> {
+    // The number of its open segment, where it has one.
+    fn open_number(&self) -> Option<u32>
+        ensures within { IfSome result (λ number. number < V.Numbers.geometry.segments) }
+    {
+        match &self.slip {
+            Some(slip) => Some(slip.segment()),
+            None => None,
+        }
+    }
+
     // The slip of a free segment, where there is one to draw on.
     fn take<R: Wait>(
         &mut self,
@@ -42,7 +55,7 @@ impl<V: VolumeName> LogCell<V> {
     {
         match who {
             Who::Ordinary => pool.take_ordinary(rt, &mut self.pass),
-            Who::Reserved => pool.take_any(rt, &mut self.pass),
+            Who::Cleaning | Who::Checkpoint => pool.take_any(rt, &mut self.pass),
         }
     }
 }
@@ -53,7 +66,7 @@ impl<V: VolumeName, B: Block + Drop> MainArea<V, B> {
     /// first segment, in ascending order, that can be threaded, where the volume's rule lets a thread begin.
     ///
     /// Answers NoSpace where the log has no place, each queue that the call may draw on was empty, and no segment can be threaded
-    /// or the append may not do so; and Device where the device failed: then the log stands at the place that it tried. After both what is in hand is as before.
+    /// or the append may not do so, or where the rule keeps what is left for the nodes that the next checkpoint writes; and Device where the device failed: then the log stands at the place that it tried. After both what is in hand is as before.
     pub fn append<R: Wait>(
         &self,
         rt: &R,
@@ -73,15 +86,20 @@ impl<V: VolumeName, B: Block + Drop> MainArea<V, B> {
     {
         let mut lock = self.lock_log(rt, log.number());
         let cell = &mut *lock;
+        if !self.keeps_node_room(who, log, cell.slip.is_some()) {
+            return Err(Error::NoSpace);
+        }
         if let Some(ticket) = self.fill_hole(rt, cell, hand, owner, now, bytes)? {
             return Ok(ticket);
         }
         if let Some(number) = self.open_segment(rt, cell, who) {
             let mut segment = self.lock_segment(rt, number);
             let slip = &mut cell.slip;
-            return segment.append(self.books(), self.words(), hand, slip, owner, now, bytes);
+            let done = segment.append(self.books(), self.words(), hand, slip, owner, now, bytes);
+            self.note_next(log, segment.state.next());
+            return done;
         }
-        if who == Who::Reserved
+        if who != Who::Ordinary
             || !log.is_data()
             || !self.threading.allows(self.pool(), &mut cell.pass)
         {
@@ -93,6 +111,40 @@ impl<V: VolumeName, B: Block + Drop> MainArea<V, B> {
             }
         }
         Err(Error::NoSpace)
+    }
+
+    /// Counts the places that are open for nodes, of a main area that was just put together.
+    pub fn count_places<R: Wait>(&self, rt: &R) {
+        self.count_places_of(rt, Log::HotNode);
+        self.count_places_of(rt, Log::WarmNode);
+        self.count_places_of(rt, Log::ColdNode);
+    }
+
+    fn count_places_of<R: Wait>(&self, rt: &R, log: Log) {
+        let cell = self.lock_log(rt, log.number());
+        if let Some(number) = cell.open_number() {
+            let segment = self.lock_segment(rt, number);
+            self.note_next(log, segment.state.next());
+        }
+    }
+
+    // Notes which place of a log's open segment is the next.
+    fn note_next(&self, log: Log, next: u32) {
+        let blocks = self.geometry().shape.segment_blocks();
+        self.node_room.note_places(log, blocks.saturating_sub(next));
+    }
+
+    // Whether the volume's rule allows an append to a log, which has a place or has not: after it the next checkpoint has to find
+    // places for the marked nodes.
+    fn keeps_node_room(&self, who: Who, log: Log, has_place: bool) -> bool {
+        match self.threading {
+            Threading::Whenever => true,
+            Threading::WhileReserveIsFull => {
+                let blocks = self.geometry().shape.segment_blocks();
+                let free = self.pool().counts();
+                self.node_room.allows(who, log, has_place, free, blocks)
+            }
+        }
     }
 
     // Writes the block in the next hole of the segment that the log threads. Where it threads none any more, it has no place.

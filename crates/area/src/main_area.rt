@@ -4,10 +4,11 @@ ghost use Rattle.std.specs.Sync.Mutex.{mutex_guard_value};
 ghost use Rattle.rights_names.specs.Names.{layout_of};
 
 use crate::cells::{LogCell, SegmentCell, ShardCell};
+use crate::node_room::{MarkedNodes, NodeRoom};
 use crate::numbered::lock_numbered;
 use crate::threading::Threading;
 use device::Block;
-use geometry::Geometry;
+use geometry::{Geometry, Kind};
 use pool::Pool;
 use rights_books::Books;
 use rights_names::VolumeName;
@@ -28,6 +29,7 @@ pub struct MainArea<V: VolumeName, B: Block + Drop> {
     // Each node number up to this was taken when a search came by. The next search begins behind it.
     pub(crate) nodes_seen: AtomicU32,
     pub(crate) threading: Threading,
+    pub(crate) node_room: NodeRoom,
     ghost numbers: { geometry ≡ V.Numbers.geometry },
     ghost laid: { V.Books.books.key ≡ layout_of V.Numbers.geometry },
     ghost worded: { words ≡ record { table = V.Words.words; segments = V.Numbers.geometry.segments } },
@@ -64,6 +66,7 @@ impl<V: VolumeName, B: Block + Drop> MainArea<V, B> {
             logs,
             nodes_seen: AtomicU32::new(0),
             threading: Threading::Whenever,
+            node_room: NodeRoom::new(),
         }
     }
 
@@ -98,8 +101,22 @@ impl<V: VolumeName, B: Block + Drop> MainArea<V, B> {
             logs: _,
             nodes_seen: _,
             threading: _,
+            node_room: _,
         } = self;
         (turnstile, words, segments, shards)
+    }
+
+    /// By which rule threads begin.
+    pub fn threading(&self) -> Threading
+        ensures { result ≡ self.now.threading }
+    {
+        self.threading
+    }
+
+    /// Counts the marked nodes of a file of this kind anew: there were at most so many before, and there are at most so many now. The
+    /// careful rule keeps segments for them.
+    pub fn recount(&self, kind: Kind, before: MarkedNodes, after: MarkedNodes) {
+        self.node_room.recount(kind, before, after);
     }
 
     /// The volume's numbers.

@@ -7,14 +7,15 @@ use pool::{Pool, PoolPass};
 use rights_names::{PoolName, WordsName};
 
 /// When an append of ordinary data that has no place and finds no free segment may thread a used one (threaded logging: Linux
-/// `filesystems/f2fs`; Lee and others, FAST 2015).
+/// `filesystems/f2fs`; Lee and others, FAST 2015), and what is kept for the next checkpoint.
 #[derive(Clone, Copy, Debug, PartialEq, Eq)]
 pub enum Threading {
-    /// Whenever a segment can be threaded.
+    /// Whenever a segment can be threaded. Nothing is kept.
     Whenever,
-    /// Only while the reserve has all its slips. What threads fill does not come free by itself, and each checkpoint draws on the
-    /// reserve for its nodes. So a volume under this rule refuses a write before it has to refuse the checkpoint, and cleaning and
-    /// checkpoints fill the reserve again.
+    /// Only while the reserve has all its slips, and a write is refused, and cleaning ends, before free segments and open places could no
+    /// longer hold the nodes that the next checkpoint writes. What threads fill does not come free by itself, and each checkpoint draws
+    /// on the reserve for its nodes. So a volume under this rule refuses a write before it has to refuse the checkpoint; cleaning and
+    /// checkpoints make room again.
     WhileReserveIsFull,
 }
 

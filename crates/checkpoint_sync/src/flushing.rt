@@ -42,7 +42,11 @@ pub fn flush_cell<V: VolumeName, B: Block + Drop, R: Wait>(
         return Ok(());
     };
     let account = &mut cell.account;
-    flush_lodged(rt, area, hand, account, file, now, buffer)
+    let done = flush_lodged(rt, area, hand, account, file, now, buffer);
+    if done.is_ok() {
+        cell.forget_marks(area);
+    }
+    done
 }
 
 // Writes each marked node of a file whose tickets and tokens are lodged in its account.

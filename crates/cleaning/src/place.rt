@@ -31,7 +31,7 @@ pub(crate) fn append_elsewhere<V: VolumeName, B: Block + Drop, R: Wait>(
     ensures err { OnErr result (hand.new ≡ hand.old) }
     ensures error { IfErr result (λ error. (error ≡ Device) ⊎ (error ≡ NoSpace)) }
 {
-    let ticket = area.append(rt, hand, log, mark.owner, now, bytes, Who::Reserved)?;
+    let ticket = area.append(rt, hand, log, mark.owner, now, bytes, Who::Cleaning)?;
     if ticket.address() == mark.address {
         // A log writes no block that is valid, and the one at the address is. So this is not reached.
         for _ in rt.forever() {}

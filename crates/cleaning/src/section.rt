@@ -1,6 +1,7 @@
 //! A section is cleaned.
 ghost use Rattle.std.specs.Prelude.{◌≡◌, ◌+◌, ◌*◌, ◌<◌, ◌≤◌, ◌⊎◌, length, vec_len, MatchOption, IfOk, IfErr};
 ghost use Rattle.geometry.specs.declared.error.Error.TheVariants.{NoMemory, NoSpace, Device};
+ghost use Rattle.area.specs.declared.threading.Threading.TheVariants.{WhileReserveIsFull};
 ghost use Rattle.geometry.specs.Shape.{block_bytes, segment_blocks};
 ghost use Rattle.rights_permits.specs.Turns.{at_home};
 ghost use Rattle.cleaning.specs.Cleaning.{IsCleaned, section_count, section_blocks};
@@ -9,7 +10,7 @@ use crate::fate::{Counts, Fate};
 use crate::keeper::Files;
 use crate::policy::{Policy, choose};
 use crate::survey::Survey;
-use area::MainArea;
+use area::{MainArea, Threading};
 use device::Block;
 use geometry::{Error, Owner};
 use rights_books::Permit;
@@ -32,7 +33,8 @@ pub struct Cleaned {
 /// chosen, in ascending order. A block that was moved or given back meanwhile counts as gone.
 ///
 /// Answers NoMemory where a growth was refused, before any block is moved, NoSpace where no segment is free for the blocks,
-/// and Device where the device failed. What was moved before a refusal stays moved.
+/// and Device where the device failed. What was moved before a refusal stays moved. Where threads begin only while the reserve is full,
+/// it ends with what it has moved in place of NoSpace, and before the next checkpoint could lack places for its nodes.
 pub fn clean<V: VolumeName, B: Block + Drop, F: Files<V>, R: Wait>(
     rt: &R,
     alloc: Global,
@@ -45,6 +47,8 @@ pub fn clean<V: VolumeName, B: Block + Drop, F: Files<V>, R: Wait>(
     requires home { hand.old ≡ at_home V.Books.books.book }
     ensures cleaned { IfOk result (λ c. IsCleaned V.Numbers.geometry policy now c.rows.items c.section c.moved c.gone) }
     ensures hand { hand.new ≡ hand.old }
+    // By the careful rule it ends early where the next checkpoint could lack places, and is not refused for want of them.
+    ensures goes_on { area.now.threading ≡ WhileReserveIsFull → IfErr result (λ error. (error ≡ NoMemory) ⊎ (error ≡ Device)) }
     ensures error { IfErr result (λ error. (error ≡ NoMemory) ⊎ ((error ≡ Device) ⊎ (error ≡ NoSpace))) }
 {
     let survey = Survey::take(rt, alloc, area)?;
@@ -94,6 +98,7 @@ fn clean_section<V: VolumeName, B: Block + Drop, F: Files<V>, R: Wait>(
     requires bytes { length bytes.old ≡ block_bytes V.Numbers.geometry.shape }
     ensures within { IfOk result (λ counts. counts.moved + counts.gone ≤ section_blocks V.Numbers.geometry) }
     ensures hand { hand.new ≡ hand.old }
+    ensures goes_on { area.now.threading ≡ WhileReserveIsFull → IfErr result (λ error. error ≡ Device) }
     ensures error { IfErr result (λ error. (error ≡ Device) ⊎ (error ≡ NoSpace)) }
 {
     let geometry = area.geometry();
@@ -124,6 +129,7 @@ fn clean_segment<V: VolumeName, B: Block + Drop, F: Files<V>, R: Wait>(
     requires bytes { length bytes.old ≡ block_bytes V.Numbers.geometry.shape }
     ensures within { IfOk result (λ counts. counts.moved + counts.gone ≤ segment_blocks V.Numbers.geometry.shape) }
     ensures hand { hand.new ≡ hand.old }
+    ensures goes_on { area.now.threading ≡ WhileReserveIsFull → IfErr result (λ error. error ≡ Device) }
     ensures error { IfErr result (λ error. (error ≡ Device) ⊎ (error ≡ NoSpace)) }
 {
     let geometry = area.geometry();
@@ -131,8 +137,11 @@ fn clean_segment<V: VolumeName, B: Block + Drop, F: Files<V>, R: Wait>(
     let mut from = 0;
     'offsets: while let Some((offset, owner)) = next_block(rt, area, number, from) {
         let address = geometry.address_of(number, offset);
-        let fate = move_named(rt, area, files, hand, address, owner, now, bytes)?;
-        counts = counts.with(fate);
+        match move_named(rt, area, files, hand, address, owner, now, bytes) {
+            Ok(fate) => counts = counts.with(fate),
+            Err(Error::NoSpace) if area.threading() == Threading::WhileReserveIsFull => break,
+            Err(error) => return Err(error),
+        }
         from = offset + 1;
     }
     Ok(counts)

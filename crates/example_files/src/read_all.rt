@@ -8,10 +8,13 @@ pub struct ReadAll;
 
 impl<M: Meta, B: Block + Drop> Work<M, B> for ReadAll {
     ghost use Rattle.std.specs.Prelude.{◌≡◌};
+    ghost use Rattle.flash_volume.specs.Worked.{IsOfCall};
 
     type Output = Vec<u8>;
     // It changes no file: the check proves that.
     ghost post = { λ work geometry before bytes after. after ≡ before };
+    // It fails only as a call on the volume does.
+    ghost failed = { λ work geometry before error. IsOfCall error };
 
     fn run<V: VolumeName, R: Wait>(
         self,

@@ -71,9 +71,21 @@ fn called<R: Runtime + AllocGlobal + Threads + Wait + Sync, W: Write, E: Write>(
             let mut file = File::open(rt, image)?;
             Ok(tell_files(rt, rt.alloc(), &mut file, out, errors))
         }
-        Ok(Words::Run { save }) => run_saving(rt, out, errors, save),
+        Ok(Words::Run { save, threading }) => match rule_named(threading) {
+            Some(rule) => run_saving(rt, out, errors, save, rule),
+            None => misused(errors),
+        },
         Err(WordsError::Usage) => misused(errors),
         Err(WordsError::NoMemory) => Err(io::Error::from(io::ErrorKind::OutOfMemory)),
+    }
+}
+
+// The rule of a name. Where none is named, volumes thread whenever they can.
+fn rule_named(name: Option<&str>) -> Option<Threading> {
+    match name {
+        None | Some("whenever") => Some(Threading::Whenever),
+        Some("while-reserve-is-full") => Some(Threading::WhileReserveIsFull),
+        Some(_) => None,
     }
 }
 
@@ -82,12 +94,13 @@ fn misused<E: Write>(errors: &mut E) -> io::Result<u8> {
     Ok(MISUSED)
 }
 
-// Runs the script on standard input. The bytes of the device, if some were put aside, become those of the file at `path`.
+// Runs the script on standard input, on volumes that thread by a rule. The bytes of the device, if some were put aside, become those of the file at `path`.
 fn run_saving<R: Runtime + AllocGlobal + Threads + Wait + Sync, W: Write, E: Write>(
     rt: &R,
     out: &mut W,
     errors: &mut E,
     path: Option<&str>,
+    threading: Threading,
 ) -> io::Result<u8> {
     let mut bytes = Vec::new(rt.alloc());
     let saved = match path {
@@ -101,7 +114,7 @@ fn run_saving<R: Runtime + AllocGlobal + Threads + Wait + Sync, W: Write, E: Wri
         out,
         errors,
         saved,
-        Threading::Whenever,
+        threading,
         &OpenGate,
     );
     match path {

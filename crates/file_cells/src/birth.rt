@@ -9,6 +9,8 @@ ghost use Rattle.rights_permits.specs.Turns.{at_home};
 ghost use Rattle.file_cells.specs.Cell.{IsCell, IsLodged};
 
 use crate::cell::FileCell;
+use crate::lodged::recount;
+use crate::marks::Marks;
 use crate::pass::FilePass;
 use area::MainArea;
 use device::Block;
@@ -33,6 +35,7 @@ impl<V: VolumeName, B: Block + Drop> FileCell<V, B> {
             number,
             account,
             state,
+            marks: Marks::NONE,
             volume: PhantomData,
         }
     }
@@ -88,6 +91,7 @@ impl<V: VolumeName, B: Block + Drop> FileCell<V, B> {
         }
         match FileState::new(alloc, area.geometry().shape, kind, token) {
             Ok(file) => {
+                recount(area, kind, &mut self.marks, Marks::BORN);
                 area.books().lodge_all(&mut self.account, hand);
                 let account = issue_file::<B, Brand>(area.books(), &mut self.account, &file);
                 let pass = FilePass::of(self.number, 0, account);
@@ -117,6 +121,7 @@ impl<V: VolumeName, B: Block + Drop> FileCell<V, B> {
         ensures number { self.new.number ≡ self.old.number }
         ensures none { self.new.account.content ≡ None }
     {
+        self.forget_marks(area);
         let file = self.take(area.books(), hand, pass);
         give_up(rt, area, hand, file);
     }
@@ -159,6 +164,7 @@ impl<V: VolumeName, B: Block + Drop> FileCell<V, B> {
             number: _,
             account,
             state,
+            marks: _,
             volume: _,
         } = self;
         match state {
@@ -181,6 +187,7 @@ impl<V: VolumeName, B: Block + Drop> FileCell<V, B> {
             number: _,
             mut account,
             state,
+            marks: _,
             volume: _,
         } = self;
         if let Some(file) = state {

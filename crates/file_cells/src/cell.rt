@@ -6,7 +6,8 @@ ghost use Rattle.geometry.specs.Path.{largest_length};
 ghost use Rattle.geometry.specs.Shape.{block_bytes};
 ghost use Rattle.rights_permits.specs.Turns.{at_home};
 
-use crate::lodged::{cut_lodged, note_file, write_lodged};
+use crate::lodged::{cut_lodged, note_file, recount, write_lodged};
+use crate::marks::Marks;
 use crate::pass::FilePass;
 use area::{MainArea, Numbered};
 use device::Block;
@@ -27,6 +28,7 @@ pub struct FileCell<V: VolumeName, B: Block + Drop> {
     pub account: FileAccount,
     /// The file, where there is one.
     pub state: Option<FileState<B>>,
+    pub(crate) marks: Marks,
     pub(crate) volume: PhantomData<V>,
 }
 
@@ -49,6 +51,15 @@ impl<V: VolumeName, B: Block + Drop> Numbered for FileCell<V, B> {
 }
 
 impl<V: VolumeName, B: Block + Drop> FileCell<V, B> {
+    /// All marked nodes of the file were written: none is counted any more.
+    pub fn forget_marks(&mut self, area: &MainArea<V, B>)
+        ensures { self.new ≡ self.old }
+    {
+        if let Some(file) = &self.state {
+            recount(area, file.kind(), &mut self.marks, Marks::NONE);
+        }
+    }
+
     /// Writes a block of the file at an index below the largest length, as `file_calls::write_block` does. After an error the file
     /// is as it was.
     pub fn write<R: Wait>(
@@ -77,7 +88,10 @@ impl<V: VolumeName, B: Block + Drop> FileCell<V, B> {
             unreachable!();
         };
         let account = &mut self.account;
-        write_lodged(rt, alloc, area, hand, account, file, index, bytes, now)?;
+        let marks = &mut self.marks;
+        write_lodged(
+            rt, alloc, area, hand, account, file, marks, index, bytes, now,
+        )?;
         note_file::<B, Brand>(area.books(), account, &mut pass.account, file);
         pass.length = file.length();
         Ok(())
@@ -134,7 +148,8 @@ impl<V: VolumeName, B: Block + Drop> FileCell<V, B> {
             unreachable!();
         };
         let account = &mut self.account;
-        cut_lodged(rt, area, hand, account, file, length);
+        let marks = &mut self.marks;
+        cut_lodged(rt, area, hand, account, file, marks, length);
         note_file::<B, Brand>(area.books(), account, &mut pass.account, file);
         pass.length = file.length();
     }

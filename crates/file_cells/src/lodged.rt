@@ -6,21 +6,60 @@ ghost use Rattle.geometry.specs.File.{written, cut_to};
 ghost use Rattle.geometry.specs.Path.{largest_length};
 ghost use Rattle.geometry.specs.Shape.{block_bytes};
 ghost use Rattle.rights_books.specs.Contents.{as_content};
-ghost use Rattle.nodes.specs.File.{file_of};
+ghost use Rattle.nodes.specs.File.{IsFile, file_of};
 ghost use Rattle.rights_permits.specs.Turns.{at_home};
 ghost use Rattle.file_cells.specs.Cell.{IsLodged};
 
+use crate::marks::{Marks, direct_node};
 use area::MainArea;
 use device::Block;
 use file_calls::{cut_blocks, give_up, write_block};
-use geometry::Error;
+use geometry::{Error, Kind, Shape};
 use nodes::FileState;
 use rights_books::{Books, FileAccount, Noted, PassAccount, Permit};
 use rights_names::VolumeName;
 use std::alloc::Global;
 use std::sync::Wait;
 
-// Writes a block of a file, as `write_block` does.
+// Counts the marked nodes of a file anew.
+pub(crate) fn recount<V: VolumeName, B: Block + Drop>(
+    area: &MainArea<V, B>,
+    kind: Kind,
+    marks: &mut Marks,
+    after: Marks,
+) {
+    area.recount(kind, marks.nodes(), after.nodes());
+    *marks = after;
+}
+
+// The same, but where a call was done.
+pub(crate) fn recount_unless<V: VolumeName, B: Block + Drop>(
+    is_done: bool,
+    area: &MainArea<V, B>,
+    kind: Kind,
+    marks: &mut Marks,
+    before: Marks,
+) {
+    if !is_done {
+        recount(area, kind, marks, before);
+    }
+}
+
+// Whether a node may be missing on the way to an index: no block stands there, nor one place before it in the same node.
+fn may_lack_path<B: Block>(file: &FileState<B>, shape: Shape, index: u32) -> bool
+    requires file { IsFile file.now }
+    requires inside { index < largest_length file.now.shape }
+{
+    if file.slot(index) != 0 {
+        return false;
+    }
+    if index == 0 {
+        return true;
+    }
+    direct_node(shape, index - 1) != direct_node(shape, index) || file.slot(index - 1) == 0
+}
+
+// Writes a block of a file, as `write_block` does. Its nodes are counted before, and no more where it is refused.
 pub(crate) fn write_lodged<V: VolumeName, B: Block + Drop, R: Wait>(
     rt: &R,
     alloc: Global,
@@ -28,6 +67,7 @@ pub(crate) fn write_lodged<V: VolumeName, B: Block + Drop, R: Wait>(
     hand: &mut Permit,
     account: &mut FileAccount,
     file: &mut FileState<B>,
+    marks: &mut Marks,
     index: u32,
     bytes: &[u8],
     now: u64,
@@ -45,9 +85,16 @@ pub(crate) fn write_lodged<V: VolumeName, B: Block + Drop, R: Wait>(
     ensures err { OnErr result (file.new ≡ file.old) }
     ensures error { IfErr result (λ error. (error ≡ NoMemory) ⊎ ((error ≡ NoNode) ⊎ ((error ≡ NoSpace) ⊎ (error ≡ Device)))) }
 {
+    let before = *marks;
+    let length = file.length().max(index.saturating_add(1));
+    let shape = area.geometry().shape;
+    let is_new = before.moves_on(shape, index) && may_lack_path(file, shape, index);
+    let after = before.after_write(shape, index, length, is_new);
+    recount(area, file.kind(), marks, after);
     area.books().unlodge_all(account, hand);
     let done = write_block(rt, alloc, area, hand, file, index, bytes, now);
     area.books().lodge_all(account, hand);
+    recount_unless(done.is_ok(), area, file.kind(), marks, before);
     done
 }
 
@@ -58,6 +105,7 @@ pub(crate) fn cut_lodged<V: VolumeName, B: Block + Drop, R: Wait>(
     hand: &mut Permit,
     account: &mut FileAccount,
     file: &mut FileState<B>,
+    marks: &mut Marks,
     length: u32,
 )
     requires hand { hand.old ≡ at_home V.Books.books.book }
@@ -69,6 +117,8 @@ pub(crate) fn cut_lodged<V: VolumeName, B: Block + Drop, R: Wait>(
     ensures hand { hand.new ≡ hand.old }
     ensures file { file_of file.new ≡ cut_to (file_of file.old) length }
 {
+    let after = marks.after_cut(area.geometry().shape, file.length());
+    recount(area, file.kind(), marks, after);
     area.books().unlodge_all(account, hand);
     cut_blocks(rt, area, hand, file, length);
     area.books().lodge_all(account, hand);

@@ -9,6 +9,8 @@ ghost use Rattle.file_cells.specs.Cell.{IsLodged};
 ghost use Rattle.file_cells.specs.Moved.{HasMovedLodged, KeepsLodged};
 
 use crate::cell::FileCell;
+use crate::lodged::{recount, recount_unless};
+use crate::marks::Marks;
 use area::MainArea;
 use cleaning::{Fate, migrate};
 use device::Block;
@@ -48,7 +50,10 @@ impl<V: VolumeName, B: Block + Drop> FileCell<V, B> {
             return Ok(Fate::Gone);
         };
         let account = &mut self.account;
-        migrate_lodged(rt, area, hand, account, file, address, owner, now, bytes)
+        let marks = &mut self.marks;
+        migrate_lodged(
+            rt, area, hand, account, file, marks, address, owner, now, bytes,
+        )
     }
 }
 
@@ -59,6 +64,7 @@ fn migrate_lodged<V: VolumeName, B: Block + Drop, R: Wait>(
     hand: &mut Permit,
     account: &mut FileAccount,
     file: &mut FileState<B>,
+    marks: &mut Marks,
     address: u32,
     owner: Owner,
     now: u64,
@@ -79,8 +85,13 @@ fn migrate_lodged<V: VolumeName, B: Block + Drop, R: Wait>(
     ensures err { OnErr result (KeepsLodged account.old account.new) }
     ensures error { IfErr result (λ error. (error ≡ Device) ⊎ (error ≡ NoSpace)) }
 {
+    let before = *marks;
+    let shape = area.geometry().shape;
+    let after = before.after_move(shape, file.number(), owner, file.length());
+    recount(area, file.kind(), marks, after);
     area.books().unlodge_all(account, hand);
     let done = migrate(rt, area, hand, file, address, owner, now, bytes);
     area.books().lodge_all(account, hand);
+    recount_unless(done.is_ok(), area, file.kind(), marks, before);
     done
 }

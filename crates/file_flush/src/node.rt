@@ -54,7 +54,7 @@ pub(crate) fn write_block<R: Wait, V: VolumeName, B: Block + Drop>(
     spell_node(area.geometry().shape, source.inode, token, block, bytes);
     let log = log_for(source.kind, block.class, false);
     let owner = Owner::Node(token.number());
-    let ticket = area.append(rt, hand, log, owner, source.now, bytes, Who::Reserved)?;
+    let ticket = area.append(rt, hand, log, owner, source.now, bytes, Who::Checkpoint)?;
     if let Some(before) = area.swap_ticket(rt, hand, token, ticket) {
         area.release(rt, hand, before);
     }

@@ -1,11 +1,13 @@
 -- Items are gone through one after the other: what is to come stands behind what came, and when nothing is left that is all. So a list
 -- is filtered, works are given passes, and the passes of works that have ended are put together.
-use Rattle.std.proofs.Common.{◌≡◌, ◌∙◌, ◌<◌, ℕ, All, Bool, true, false, List, [], ◌∷◌, ◌++◌, append-nil, append_assoc, ap, cond, filter, map, refl, subst, sym, Result, Ok}
+use Rattle.std.proofs.Common.{◌≡◌, ◌∙◌, ◌<◌, ◌+◌, ℕ, All, Bool, true, false, List, [], ◌∷◌, ◌++◌, arith, append-nil, append_assoc, ap, cond, filter, map, refl, subst, sym, Result, Ok}
 use Rattle.std.proofs.Math.ListN.{get_or-map}
-use Rattle.std.proofs.lemmas.List.{length-map}
+use Rattle.std.proofs.lemmas.List.{length-map, map-append}
 use Rattle.std.specs.List.{AllZip, flat_map}
 use Rattle.file_cells.specs.Pass.{Pass}
 use Rattle.flash_volume.specs.Beside.{AreDealt, passes_named, passes_unnamed}
+use Rattle.geometry.proofs.Weighing.{weigh-append}
+use Rattle.geometry.specs.Weights.{weigh}
 
 module _ {X : Type 0} (test : X → Bool) (taken : List X) (x : X) (rest : List X) where
   pub filtered_in : test x ≡ true → taken ++ filter test (x ∷ rest) ≡ (taken ++ x ∷ []) ++ filter test rest
@@ -27,6 +29,15 @@ dealt_more works others new files before passes left given all next is left_is s
     subst (λ (given_all : List (List Pass)). AreDealt works before given_all rest) (sym (append_assoc all (given ∷ []) more))
     (so_far (given ∷ more) rest (subst (λ (ws : List (List ℕ)). AreDealt ws passes (given ∷ more) rest) (sym next)
     (is, subst (λ (ps : List Pass). AreDealt new ps more rest) left_is dealt)))
+
+-- a work more has its passes
+pub dealt_push : {D : Type 0} (passes_of : D → List Pass) (works others new : List (List ℕ)) (files slice : List ℕ) (before passes left given : List Pass) (xs ys : List D) (x : D)
+    → others ≡ files ∷ new → slice ≡ files → given ≡ passes_named slice passes → left ≡ passes_unnamed slice passes → ys ≡ xs ++ x ∷ [] → passes_of x ≡ given
+    → DealtSo works before (map passes_of xs) others passes → DealtSo works before (map passes_of ys) new left
+dealt_push passes_of works others new files slice before passes left given xs ys x next same is left_is pushed mine so_far =
+    subst (λ (all : List (List Pass)). DealtSo works before all new left) (sym (ap (map passes_of) pushed ∙ map-append passes_of xs (x ∷ [])))
+    (dealt_more works others new files before passes left (passes_of x) (map passes_of xs) next (mine ∙ is ∙ ap (λ (fs : List ℕ). passes_named fs passes) same)
+    (left_is ∙ ap (λ (fs : List ℕ). passes_unnamed fs passes) same) so_far)
 
 pub dealt_all : (works others : List (List ℕ)) (before passes : List Pass) (all : List (List Pass)) → others ≡ [] → DealtSo works before all others passes → AreDealt works before all passes
 dealt_all works others before passes all none so_far =
@@ -101,3 +112,31 @@ module _ {E L O F : Type 0} (end_of : E → L) (what_of : L → Result O F) (bac
       → AllZip (λ end output. what_of end ≡ Ok output) (map end_of ended) outputs × (after ≡ held ++ flat_map back_of (map end_of ended))
   taken_back ended outputs held after told joined =
       (zip_mapped (λ end output. what_of end ≡ Ok output) end_of ended outputs told, joined ∙ ap (λ (ps : List Pass). held ++ ps) (sym (flat_mapped end_of back_of ended)))
+
+module _ {X : Type 0} (seats_of : X → ℕ) where
+  -- seats go out with one more
+  pub seats_dealt : (all left now taken : ℕ) (xs ys : List X) (x : X) → all ≡ left + weigh seats_of xs → left ≡ now + taken → ys ≡ xs ++ x ∷ [] → seats_of x ≡ taken
+      → all ≡ now + weigh seats_of ys
+  seats_dealt all left now taken xs ys x was took is mine =
+      let total : weigh seats_of ys ≡ weigh seats_of xs + weigh seats_of (x ∷ []) = ap (weigh seats_of) is ∙ weigh-append seats_of xs (x ∷ []) in
+      omega (arith, was, took, mine, total)
+
+  -- seats come back with one more
+  pub seats_back : (whole had now back : ℕ) (others rest : List X) (x : X) → others ≡ x ∷ rest → now ≡ had + back → back ≡ seats_of x → had + weigh seats_of others ≡ whole
+      → now + weigh seats_of rest ≡ whole
+  seats_back whole had now back others rest x next more mine was =
+      let total : weigh seats_of others ≡ seats_of x + weigh seats_of rest = ap (weigh seats_of) next in
+      omega (arith, was, more, mine, total)
+
+  pub seats_all : (whole had : ℕ) (others : List X) → others ≡ [] → had + weigh seats_of others ≡ whole → had ≡ whole
+  seats_all whole had others none was =
+      let nothing : weigh seats_of others ≡ 0 = ap (weigh seats_of) none in
+      omega (arith, was, nothing)
+
+module _ {X Y Z : Type 0} (f : X → Z) (g : Y → Z) where
+  -- one more has an image in front, and one less behind
+  pub mapped_more : (whole : List Z) (xs new : List X) (ys rest : List Y) (x : X) (y : Y) → ys ≡ y ∷ rest → new ≡ xs ++ x ∷ [] → f x ≡ g y → whole ≡ map f xs ++ map g ys
+      → whole ≡ map f new ++ map g rest
+  mapped_more whole xs new ys rest x y next is same so_far =
+      so_far ∙ ap (λ (zs : List Y). map f xs ++ map g zs) next ∙ ap (λ (z : Z). map f xs ++ z ∷ map g rest) (sym same) ∙ sym (append_assoc (map f xs) (f x ∷ []) (map g rest))
+      ∙ ap (λ (zs : List Z). zs ++ map g rest) (sym (map-append f xs (x ∷ []))) ∙ ap (λ (zs : List X). map f zs ++ map g rest) (sym is)

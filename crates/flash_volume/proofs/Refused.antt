@@ -1,26 +1,39 @@
 -- What a mount promises of what it hands back holds too where it found a volume, and what is made after it is refused for want of
 -- memory.
-use Rattle.std.proofs.Common.{◌≡◌, ◌≢◌, ℕ, List, Result, IfErr, subst, sym}
+use Rattle.std.proofs.Common.{◌≡◌, ℕ, List, Result, IfErr, subst, sym}
 use Rattle.device.specs.declared.parts.Parts.{Parts}
-use Rattle.geometry.specs.declared.error.Error.TheVariants.{Device}
+use Rattle.geometry.specs.declared.error.Error.{Error}
+use Rattle.geometry.specs.declared.error.Error.TheVariants.{NoMemory}
 use Rattle.geometry.specs.declared.geometry.Geometry.{Geometry}
 use Rattle.image.specs.Image.{Image}
 use Rattle.mount_reading.proofs.Moments.{kept_held}
-use Rattle.mount_reading.specs.Held.{KeepsBetween, KeepsPack}
+use Rattle.mount_reading.specs.Held.{AreSameParts, KeepsBetween}
 use Rattle.mount_reading.specs.declared.open.OpenFault.{OpenFault}
 use Rattle.packs_format.specs.Grammar.{HasSuper}
 use Rattle.packs_format.specs.Holding.{HoldsTables}
-use Rattle.flash_volume.proofs.Results.{err_then}
+use Rattle.flash_volume.proofs.Results.{err_both}
+use Rattle.flash_volume.specs.Refused.{HandsBack}
 
-module _ {M B O : Type 0} (seen : M → List ℕ) (old : M) (found : Parts M B) (result : Result O (OpenFault M B)) (back : IfErr result (λ fault. fault.parts ≡ found)) where
-  pub kept_back : (numbers : Geometry) (image : Image) → HasSuper numbers (seen old) → HoldsTables numbers image (seen old) → HoldsTables numbers image (seen found.meta)
-      → IfErr result (λ fault. fault.error ≢ Device → KeepsPack seen old fault.parts.meta)
-  kept_back numbers image front was now =
-      err_then result (λ fault. fault.parts ≡ found) (λ fault. fault.error ≢ Device → KeepsPack seen old fault.parts.meta)
-      (λ fault is other. subst (λ (parts : Parts M B). KeepsPack seen old parts.meta) (sym is) (kept_held seen old found.meta numbers image front was now)) back
+module _ {M B : Type 0} (seen : M → List ℕ) (may_leave : M → List ℕ → Type 0) (moment : M → ℕ) (left_since : M → ℕ → List ℕ → Type 0) (failed : M → ℕ)
+    (address_of : B → ℕ) (content_of : B → List ℕ) (block_failed : B → ℕ) (old : Parts M B) where
+  abbrev Back : Parts M B → Error → Type 0
+  Back = HandsBack seen may_leave moment left_since failed address_of content_of block_failed old
 
-  pub moment_back : (may_leave : M → List ℕ → Type 0) (moment : M → ℕ) (left_since : M → ℕ → List ℕ → Type 0) → KeepsBetween seen may_leave moment left_since old found.meta
-      → IfErr result (λ fault. KeepsBetween seen may_leave moment left_since old fault.parts.meta)
-  moment_back may_leave moment left_since between =
-      err_then result (λ fault. fault.parts ≡ found) (λ fault. KeepsBetween seen may_leave moment left_since old fault.parts.meta)
-      (λ fault is. subst (λ (parts : Parts M B). KeepsBetween seen may_leave moment left_since old parts.meta) (sym is) between) back
+  -- what is handed on
+  pub handed_on : (back left : Parts M B) (error other : Error) → left ≡ back → other ≡ error → Back back error → Back left other
+  handed_on back left error other is same handed = subst (λ (parts : Parts M B). Back parts other) (sym is) (subst (λ (e : Error). Back back e) (sym same) handed)
+
+  -- what was found, and is handed back for want of memory
+  pub found_back : {O : Type 0} (found : Parts M B) (result : Result O (OpenFault M B)) (numbers : Geometry) (image : Image)
+      → IfErr result (λ fault. fault.parts ≡ found) → IfErr result (λ fault. fault.error ≡ NoMemory) → AreSameParts seen address_of content_of old found
+      → HasSuper numbers (seen old.meta) → HoldsTables numbers image (seen old.meta) → HoldsTables numbers image (seen found.meta)
+      → KeepsBetween seen may_leave moment left_since old.meta found.meta → IfErr result (λ fault. Back fault.parts fault.error)
+  found_back found result numbers image back error same front was now between =
+      err_both result _ _ _
+      (λ fault is no_memory. handed_on found fault.parts NoMemory fault.error is no_memory (record {
+        refused = tt;
+        same = same;
+        kept = λ other. kept_held seen old.meta found.meta numbers image front was now;
+        any_moment = between;
+        device = λ is. absurd (let no = is in cc);
+      })) back error

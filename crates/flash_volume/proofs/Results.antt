@@ -21,9 +21,14 @@ err_both (Ok value) P O Q step holds too = tt
 err_both (Err error) P O Q step holds too = step error holds too
 
 -- a fault at the close tells why there was none
-pub why_not_closed : (stage : Stage) (error : Error) → (stage ≡ Work) ⊎ ((stage ≡ Close) × IsNotClosed error) → stage ≡ Close → IsNotClosed error
-why_not_closed stage error (inl at_work) at_close = absurd (let no = sym at_work ∙ at_close in cc)
+pub why_not_closed : {P : Type 0} (stage : Stage) (error : Error) → ((stage ≡ Work) × P) ⊎ ((stage ≡ Close) × IsNotClosed error) → stage ≡ Close → IsNotClosed error
+why_not_closed stage error (inl at_work) at_close = absurd (let no = sym at_work.0 ∙ at_close in cc)
 why_not_closed stage error (inr (at_close, why)) again = why
+
+-- one at the work tells why that failed
+pub why_failed : {P : Type 0} (stage : Stage) (error : Error) → ((stage ≡ Work) × P) ⊎ ((stage ≡ Close) × IsNotClosed error) → stage ≡ Work → P
+why_failed stage error (inl at_work) again = at_work.1
+why_failed stage error (inr (at_close, why)) at_work = absurd (let no = sym at_close ∙ at_work in cc)
 
 -- a stage is that of the mount, or another
 pub at_mount : (stage : Stage) → (stage ≡ Mount) ⊎ (stage ≢ Mount)

@@ -1,10 +1,12 @@
 -- What each thread answered is put together, place by place: the works, their shares, what they ended with and what they answered
 -- are lists of one length, and so each work did what it promises of its share.
-use Rattle.std.proofs.Common.{◌≡◌, ◌<◌, ℕ, suc, List, [], ◌∷◌, ◌++◌, ap, arith, get_or, length, map, refl, subst, sym, Result, Ok, IfOk, OnOk, Err}
+use Rattle.std.proofs.Common.{◌≡◌, ◌<◌, ℕ, suc, List, [], ◌∷◌, ◌++◌, ap, arith, get_or, inl, inr, length, map, refl, subst, sym, Result, Ok, IfOk, IfErr, OnOk, Err}
 use Rattle.std.specs.List.{AllZip, flat_map}
 use Rattle.file_cells.specs.Pass.{Pass}
-use Rattle.flash_volume.specs.Beside.{AreDealt, AreDoneBeside, Share}
+use Rattle.flash_volume.specs.Beside.{AreDealt, AreDoneBeside, OneEnded, OneFailed, Share}
+use Rattle.flash_volume.specs.Turns.{Lot}
 use Rattle.flash_volume.specs.declared.beside.Beside.{Beside}
+use Rattle.geometry.specs.declared.error.Error.{Error}
 use Rattle.geometry.specs.declared.geometry.Geometry.{Geometry}
 
 -- what holds of a value and of what is left, and what follows from both
@@ -30,11 +32,13 @@ module _ {J A : Type 0} (R : J → A → Type 0) where
         zip_answers jobs answers (omega arith) (λ place other within. let own = each (suc place) other (omega arith) in record { job = own.job; is = own.is; did = own.did }),
       )
 
-module _ {W S E O F : Type 0} (post : W → Geometry → List Pass → O → List Pass → Type 0) (geometry : Geometry) (work_of : S → W) (given_of : S → List Pass)
+module _ {W S E O F : Type 0} (post : W → Geometry → List Pass → O → List Pass → Type 0) (failed : W → Geometry → List Pass → F → Type 0) (geometry : Geometry) (work_of : S → W) (given_of : S → List Pass)
     (output_of : E → Result O F) (back_of : E → List Pass) where
   -- what a work with its share ended with
   abbrev pub Did : S → E → Type 0
-  Did share one = IfOk (output_of one) (λ output. post (work_of share) geometry (given_of share) output (back_of one))
+  Did share one =
+      IfOk (output_of one) (λ output. post (work_of share) geometry (given_of share) output (back_of one))
+      × IfErr (output_of one) (λ error. failed (work_of share) geometry (given_of share) error)
 
   abbrev pub Told : E → O → Type 0
   Told one output = output_of one ≡ Ok output
@@ -63,7 +67,7 @@ module _ {W S E O F : Type 0} (post : W → Geometry → List Pass → O → Lis
       let others : map work_of shares ≡ map (λ beside. beside.work) works = let is = same in cc in
       let rest = whole works shares ended outputs others did.1 told.1 in
       let held : post (work_of share) geometry (given_of share) output (back_of one) =
-      subst (λ (answer : Result O F). IfOk answer (λ o. post (work_of share) geometry (given_of share) o (back_of one))) told.0 did.0 in
+      subst (λ (answer : Result O F). IfOk answer (λ o. post (work_of share) geometry (given_of share) o (back_of one))) told.0 did.0.0 in
       record {
         all = record { given = given_of share; output = output; back = back_of one } ∷ rest.all;
         given = ap (λ (xs : List (List Pass)). given_of share ∷ xs) rest.given;
@@ -85,3 +89,19 @@ module _ {W S E O F : Type 0} (post : W → Geometry → List Pass → O → Lis
         answered = all.answered;
         joined = subst (λ (back : List Pass). after ≡ rest ++ back) (sym all.back) joined;
       }
+
+module _ {W S O : Type 0} (post : W → Geometry → List Pass → O → List Pass → Type 0) (failed : W → Geometry → List Pass → Error → Type 0) (geometry : Geometry) (work_of : S → W) (given_of : S → List Pass) where
+  -- the work whose thread ended with an error failed with it
+  pub one_failed : (works : List (Beside W)) (shares : List S) (ended : List (Lot (Result O Error))) (error : Error) → map work_of shares ≡ map (λ beside. beside.work) works
+      → AllZip (Did post failed geometry work_of given_of (λ (end : Lot (Result O Error)). end.what) (λ end. end.held.passes)) shares ended → OneEnded ended error
+      → OneFailed failed geometry works (map given_of shares) error
+  one_failed works shares [] error same did lost = absurd lost
+  one_failed works [] (one ∷ ended) error same did lost = absurd did
+  one_failed [] (share ∷ shares) (one ∷ ended) error same did lost = absurd (let no = same in cc)
+  one_failed (beside ∷ works) (share ∷ shares) (one ∷ ended) error same did (inl is) =
+      let first : work_of share ≡ beside.work = let all = same in cc in
+      inl (subst (λ (work : W). failed work geometry (given_of share) error) first
+      (subst (λ (answer : Result O Error). IfErr answer (λ e. failed (work_of share) geometry (given_of share) e)) is did.0.1))
+  one_failed (beside ∷ works) (share ∷ shares) (one ∷ ended) error same did (inr later) =
+      let others : map work_of shares ≡ map (λ beside. beside.work) works = let all = same in cc in
+      inr (one_failed works shares ended error others did.1 later)

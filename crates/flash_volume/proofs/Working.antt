@@ -4,7 +4,7 @@ use Rattle.std.proofs.Common.{◌≡◌, ◌∙◌, ℕ, List, [], ◌∷◌, su
 use Rattle.device.specs.declared.parts.Parts.{Parts}
 use Rattle.device.specs.Parts.{IsBlockRun}
 use Rattle.file_cells.specs.Pass.{Pass}
-use Rattle.flash_volume.specs.Worked.{AreLeft, EndedWith, WorkedOn}
+use Rattle.flash_volume.specs.Worked.{AreLeft, EndedWith, IsSoOf, WorkedOn}
 use Rattle.flash_volume.specs.declared.leave.Leave.{Leave}
 use Rattle.flash_volume.specs.declared.leave.Leave.TheVariants.{Close, Discard}
 use Rattle.geometry.specs.File.{File}
@@ -34,3 +34,10 @@ module _ {M B : Type 0} (seen : M → List ℕ) (may_leave : M → List ℕ → 
       → (bytes : ℕ) × IsBlockRun address_of content_of bytes 1 left.blocks.items
   left_run Close geometry passes left closed = (_, closed.mountable.size.run)
   left_run Discard geometry passes left given_up = (_, given_up.size.run)
+
+module _ {M B : Type 0} (seen : M → List ℕ) (address_of : B → ℕ) (content_of : B → List ℕ) (so : Geometry → List Pass → Type 0) where
+  pub so_on_new : (geometry : Geometry) (parts : Parts M B) (on : IsSoOf seen address_of content_of parts so) → on.geometry ≡ geometry
+      → files on.geometry on.image (bytes_at content_of parts.blocks.items) ≡ [] → so geometry []
+  so_on_new geometry parts on same no_file =
+      subst (λ (numbers : Geometry). so numbers []) same
+      (subst (λ (before : List Pass). so on.geometry before) (no_pass on.before (on.began ∙ no_file)) on.is_so)

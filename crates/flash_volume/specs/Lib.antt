@@ -1,4 +1,5 @@
 pub mod Beside
+pub mod Refused
 pub mod Turns
 pub mod Visited
 pub mod Worked

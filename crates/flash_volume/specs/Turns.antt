@@ -1,5 +1,5 @@
 -- What a crew owes: each of its turns says what is done beside it, and what is owed once that has been done.
-use Rattle.std.specs.Prelude.{ℕ, List, [], All, Option, Result, map}
+use Rattle.std.specs.Prelude.{◌≡◌, ◌⊎◌, ℕ, List, [], All, Option, Result, map}
 use Rattle.std.specs.List.{AllZip}
 use Rattle.file_cells.specs.Pass.{Pass}
 use Rattle.file_readers.specs.Reader.{SnapshotOf}
@@ -11,12 +11,15 @@ use Rattle.flash_volume.specs.declared.leave.Leave.{Leave}
 use Rattle.flash_volume.specs.declared.crew.Turn.{Turn}
 use Rattle.flash_volume.specs.declared.crew.Turn.TheVariants.{Beside, Over}
 use Rattle.geometry.specs.File.{Block}
+use Rattle.geometry.specs.declared.error.Error.{Error}
+use Rattle.geometry.specs.declared.error.Error.TheVariants.{NoMemory}
 use Rattle.geometry.specs.declared.geometry.Geometry.{Geometry}
 use Rattle.image.specs.Image.{Image}
 
--- the passes and the readers that a crew has of a volume, or one of its parts
+-- what a crew has of a volume, or one of its parts: passes, how many seats, and readers
 pub record Held : Type 0 where
   pub passes : List Pass
+  pub seats : ℕ
   pub readers : List (Option SnapshotOf)
 
 -- a part and what it is lent, or what it did and what it hands back
@@ -24,33 +27,40 @@ pub record Lot (T : Type 0) : Type 0 where
   pub what : T
   pub held : Held
 
--- a crew may have its first turn, whatever image is mounted: with the passes of its files, and no reader
+-- what a crew has at first: these passes, all seats, and no reader
+abbrev pub at_first : List Pass → Held
+at_first passes = record { passes = passes; seats = 64; readers = [] }
+
+-- a crew may have its first turn, whatever image is mounted: with the passes of its files
 abbrev pub MayBegin : {D : Type 0} → (Geometry → Held → List (Lot D) → Type 0) → Type 0
 MayBegin fits =
     (geometry : Geometry) (image : Image) (blocks : ℕ → Block) (before : List Pass) → ArePassesOf geometry image blocks before
-    → fits geometry (record { passes = before; readers = [] }) []
+    → fits geometry (at_first before) []
 
 module _ {C P D O : Type 0} (part_fits : P → Held → Type 0) (part_did : P → Held → D → Held → Type 0) (fits : C → Held → List (Lot D) → Type 0)
-    (did : C → Held → List (Lot D) → O → Leave → List Pass → Type 0) where
+    (did : C → Held → List (Lot D) → O → Leave → List Pass → Type 0) (failed : C → Held → List (Lot D) → Error → Type 0) where
   -- these parts ended so
   abbrev pub AreEnded : List (Lot P) → List (Lot D) → Type 0
   AreEnded parts ended = AllZip (λ part end. part_did part.what part.held end.what end.held) parts ended
 
   -- Parts may be done with what they are lent. However they end, the crew may go on with what it has kept, and what it does then
-  -- keeps this promise.
-  pub record Asks (promise : O → Leave → List Pass → Type 0) (crew : C) (parts : List (Lot P)) (kept : Held) : Type 0 where
+  -- keeps this promise, and fails only so.
+  pub record Asks (promise : O → Leave → List Pass → Type 0) (failing : Error → Type 0) (crew : C) (parts : List (Lot P)) (kept : Held) : Type 0 where
     pub may_run : All (λ part. part_fits part.what part.held) parts
     pub may_go_on : (ended : List (Lot D)) → AreEnded parts ended → fits crew kept ended
     pub keeps : (ended : List (Lot D)) → AreEnded parts ended → (output : O) (leave : Leave) (after : List Pass)
         → did crew kept ended output leave after → promise output leave after
+    pub may_fail : (ended : List (Lot D)) → AreEnded parts ended → (error : Error) → failed crew kept ended error → failing error
 
   -- a turn keeps this promise: the crew is done with the passes that it has, or asks for parts
-  abbrev pub Keeps : {W : Type 0} → (W → Lot P) → (O → Leave → List Pass → Type 0) → Turn C W O → Held → Type 0
-  Keeps lot_of promise (Over output leave) held = promise output leave held.passes
-  Keeps lot_of promise (Beside crew duties) held = Asks promise crew (map lot_of duties.items) held
+  abbrev pub Keeps : {W : Type 0} → (W → Lot P) → (O → Leave → List Pass → Type 0) → (Error → Type 0) → Turn C W O → Held → Type 0
+  Keeps lot_of promise failing (Over output leave) held = promise output leave held.passes
+  Keeps lot_of promise failing (Beside crew duties) held = Asks promise failing crew (map lot_of duties.items) held
 
--- a crew did its turns, which promise this of what it answers, how the volume is to be left, and its passes, and it was left so
-abbrev pub WasCrewed : {M B O : Type 0} → (M → List ℕ) → (M → List ℕ → Type 0) → (B → ℕ) → (B → List ℕ) → (O → Leave → List Pass → Type 0) → Geometry
+-- A crew did its turns, which promise this of what it answers, how the volume is to be left, and its passes, and it was left so; or
+-- they failed for want of memory, or as the crew may.
+abbrev pub WasCrewed : {M B O : Type 0} → (M → List ℕ) → (M → List ℕ → Type 0) → (B → ℕ) → (B → List ℕ) → (O → Leave → List Pass → Type 0) → (Error → Type 0) → Geometry
     → Result (Done M B O) (Fault M B) → Type 0
-WasCrewed seen may_leave address_of content_of promise geometry result =
-    (leave : Leave) × WasWorked seen may_leave address_of content_of (λ output after. promise output leave after) leave geometry result
+WasCrewed seen may_leave address_of content_of promise failing geometry result =
+    (leave : Leave)
+    × WasWorked seen may_leave address_of content_of (λ output after. promise output leave after) (λ error. (error ≡ NoMemory) ⊎ failing error) leave geometry result

@@ -14,6 +14,7 @@ use Rattle.flash_volume.specs.declared.leave.Leave.TheVariants.{Close, Discard}
 use Rattle.flash_volume.specs.declared.leave.Stage.TheVariants.{Work as AtWork, Close as AtClose}
 use Rattle.geometry.specs.File.{Block}
 use Rattle.geometry.specs.declared.error.Error.{Error}
+use Rattle.geometry.specs.declared.error.Error.TheVariants.{BadGeometry, NoPack, BadImage, PassesOut, SeatsOut}
 use Rattle.geometry.specs.declared.geometry.Geometry.{Geometry}
 use Rattle.image.specs.Files.{files}
 use Rattle.image.specs.Image.{Image}
@@ -26,6 +27,15 @@ use Rattle.volume_format.specs.Mountable.{IsMountable}
 -- why a volume is not closed: something of so many seats or of the passes was not handed in, or no checkpoint was written
 abbrev pub IsNotClosed : Error → Type 0
 IsNotClosed error = ((seats : ℕ) × IsLeftOut seats error) ⊎ IsNotWritten error
+
+-- why a call on a volume ends: not as a mount does or a close
+abbrev pub IsOfCall : Error → Type 0
+IsOfCall BadGeometry = ⊥
+IsOfCall NoPack = ⊥
+IsOfCall (BadImage fault) = ⊥
+IsOfCall (PassesOut count) = ⊥
+IsOfCall (SeatsOut count) = ⊥
+IsOfCall other = Unit {0}
 
 -- the passes of the same files
 abbrev pub AreSamePasses : List Pass → List Pass → Type 0
@@ -54,12 +64,12 @@ module _ {M B : Type 0} (seen : M → List ℕ) (may_leave : M → List ℕ → 
     pub kept : promise after
     pub left_so : AreLeft leave geometry after left
 
-  -- Work was done, which promises this of what it answers and of the passes that it ends with, and its volume was left; or it was
-  -- refused, or the close was, and nothing more was written.
-  pub record WasWorked {O : Type 0} (promise : O → List Pass → Type 0) (leave : Leave) (geometry : Geometry) (result : Result (Done M B O) (Fault M B)) : Type 0 where
+  -- Work was done, which promises this of what it answers and of the passes that it ends with, and its volume was left; or it
+  -- failed so, or the close was refused, and nothing more was written.
+  pub record WasWorked {O : Type 0} (promise : O → List Pass → Type 0) (failing : Error → Type 0) (leave : Leave) (geometry : Geometry) (result : Result (Done M B O) (Fault M B)) : Type 0 where
     pub done : IfOk result (λ done. EndedWith (promise done.output) leave geometry done.parts)
     pub given_up : IfErr result (λ fault. AreGivenUp geometry fault.parts)
-    pub cause : IfErr result (λ fault. (fault.stage ≡ AtWork) ⊎ ((fault.stage ≡ AtClose) × IsNotClosed fault.error))
+    pub cause : IfErr result (λ fault. ((fault.stage ≡ AtWork) × failing fault.error) ⊎ ((fault.stage ≡ AtClose) × IsNotClosed fault.error))
 
   -- work began with the passes of the files of this image over these blocks, and ended
   pub record WorkedFrom (promise : Geometry → List Pass → List Pass → Type 0) (geometry : Geometry) (image : Image) (blocks : ℕ → Block) (leave : Leave) (left : Parts M B) : Type 0 where
@@ -73,3 +83,13 @@ module _ {M B : Type 0} (seen : M → List ℕ) (may_leave : M → List ℕ → 
     pub image : Image
     pub held : HoldsLawfulVolume seen address_of content_of geometry image parts
     pub worked : WorkedFrom promise geometry image (bytes_at content_of parts.blocks.items) leave left
+
+module _ {M B : Type 0} (seen : M → List ℕ) (address_of : B → ℕ) (content_of : B → List ℕ) where
+  -- this is so of the passes of the files of the lawful image that these parts hold, with which work began
+  pub record IsSoOf (parts : Parts M B) (so : Geometry → List Pass → Type 0) : Type 0 where
+    pub geometry : Geometry
+    pub image : Image
+    pub held : HoldsLawfulVolume seen address_of content_of geometry image parts
+    pub before : List Pass
+    pub began : map (λ pass. (pass.number, pass.file)) before ≡ files geometry image (bytes_at content_of parts.blocks.items)
+    pub is_so : so geometry before

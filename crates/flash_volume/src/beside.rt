@@ -1,7 +1,9 @@
 //! One of the works that are done side by side, and what each of them is given.
-ghost use Rattle.std.specs.Prelude.{◌≡◌, [], map, IfOk, OnOk};
+ghost use Rattle.std.specs.Prelude.{◌≡◌, ◌+◌, [], map, vec_len, IfOk, IfErr, OnOk};
 ghost use Rattle.file_cells.specs.Pass.{Pass};
 ghost use Rattle.flash_volume.specs.Beside.{AreDealt, is_named, passes_named, passes_unnamed};
+ghost use Rattle.geometry.specs.Weights.{weigh};
+ghost use Rattle.geometry.specs.declared.error.Error.TheVariants.{NoMemory};
 
 use crate::crew::Duty;
 use crate::lent::Lent;
@@ -44,6 +46,8 @@ pub(crate) fn deal<'v, V: VolumeName, B: Block + Drop, W: Drop>(
 ) -> Result<Vec<Duty<'v, V, B, OneBeside<W>>>, Error>
     ensures works { IfOk result (λ duties. map (λ duty. duty.part.work) duties.items ≡ map (λ beside. beside.work) works.items) }
     ensures passes { IfOk result (λ duties. AreDealt (map (λ beside. beside.files.items) works.items) rights.old.passes.items (map (λ duty. duty.lent.passes) duties.items) rights.new.passes.items) }
+    ensures seats { IfOk result (λ duties. vec_len rights.old.seats ≡ vec_len rights.new.seats + weigh (λ duty. duty.lent.seats) duties.items) }
+    ensures error { IfErr result (λ error. error ≡ NoMemory) }
 {
     let each = match works.len() {
         0 => 0,
@@ -53,7 +57,7 @@ pub(crate) fn deal<'v, V: VolumeName, B: Block + Drop, W: Drop>(
     for beside in works {
         let Beside { work, files } = beside;
         let passes = take_passes(alloc, &mut rights.passes, files.as_slice())?;
-        let seats = take_seats(alloc, &mut rights.seats, each)?;
+        let seats = take_seats(&mut rights.seats, each)?;
         let part = OneBeside { work };
         let lent = Lent::new(Rights { seats, passes }, Vec::new(alloc));
         duties.push(Duty { part, lent })?;
@@ -69,6 +73,7 @@ fn take_passes<V: VolumeName>(
 ) -> Result<Vec<FilePass<V>>, Error>
     ensures taken { IfOk result (λ taken. taken.items ≡ passes_named files.now passes.old.items) }
     ensures rest { OnOk result (passes.new.items ≡ passes_unnamed files.now passes.old.items) }
+    ensures error { IfErr result (λ error. error ≡ NoMemory) }
 {
     let mut taken = Vec::new(alloc);
     let mut rest = Vec::new(alloc);
@@ -90,16 +95,11 @@ fn is_among(files: &[u32], number: u32) -> bool
 }
 
 // Takes so many seats out of the others, as far as there are so many.
-fn take_seats<V: VolumeName>(
-    alloc: Global,
-    seats: &mut Vec<Seat<V>>,
-    count: usize,
-) -> Result<Vec<Seat<V>>, Error> {
-    let mut taken = Vec::new(alloc);
-    for _ in 0..count {
-        if let Some(seat) = seats.pop() {
-            taken.push(seat)?;
-        }
-    }
+fn take_seats<V: VolumeName>(seats: &mut Vec<Seat<V>>, count: usize) -> Result<Vec<Seat<V>>, Error>
+    ensures seats { IfOk result (λ taken. vec_len seats.old ≡ vec_len seats.new + vec_len taken) }
+    ensures error { IfErr result (λ error. error ≡ NoMemory) }
+{
+    let rest = seats.len().saturating_sub(count);
+    let taken = seats.split_off(rest)?;
     Ok(taken)
 }

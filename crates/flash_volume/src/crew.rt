@@ -59,10 +59,11 @@ pub trait Part<M: Meta, B: Block + Drop> {
 
 /// What is done with a volume that was mounted, over any device, turn by turn: between the turns parts of it are done side by side.
 pub trait Crew<M: Meta, B: Block + Drop> {
-    ghost use Rattle.std.specs.Prelude.{List, map, IfOk};
+    ghost use Rattle.std.specs.Prelude.{List, map, IfOk, IfErr};
     ghost use Rattle.file_cells.specs.Pass.{Pass};
     ghost use Rattle.flash_volume.specs.Turns.{Held, Keeps, Lot};
     ghost use Rattle.flash_volume.specs.declared.leave.Leave.{Leave};
+    ghost use Rattle.geometry.specs.declared.error.Error.{Error as Reason};
     ghost use Rattle.geometry.specs.declared.geometry.Geometry.{Geometry};
     ghost use Rattle.volume.specs.declared.volume.Base.{Base};
 
@@ -79,6 +80,9 @@ pub trait Crew<M: Meta, B: Block + Drop> {
     // parts ended, and then what it answers, how the volume is to be left, and the passes that it ends with.
     ghost did: { Self → Geometry → Base → Held → List (Lot Self.Part.Done) → Self.Output → Leave → List Pass → Type 0 };
 
+    // Why the crew may end with an error from here on, of the same. Any may be, unless it says which.
+    ghost failed: { Self → Geometry → Base → Held → List (Lot Self.Part.Done) → Reason → Type 0 } = { λ _ _ _ _ _ _. Unit {0} };
+
     /// Has a turn, in this thread alone. It is told how the parts ended that its last turn asked for, and takes out of `ended` what it
     /// keeps of them. An error ends it all, as that of a work.
     fn turn<'v, V: VolumeName, R: Wait>(
@@ -90,12 +94,15 @@ pub trait Crew<M: Meta, B: Block + Drop> {
         ended: &mut Vec<Ended<'v, V, B, <Self::Part as Part<M, B>>::Done>>,
     ) -> Result<Turn<Self, Duty<'v, V, B, Self::Part>, Self::Output>, Error>
         requires { fits self V.Numbers.geometry lent.old (map (λ end. record { what = end.done; held = end.lent }) ended.old.items) }
-        ensures { IfOk result (λ turn. Keeps
+        ensures done { IfOk result (λ turn. Keeps
             (λ part. Self.Part.fits part V.Numbers.geometry)
             (λ part. Self.Part.did part V.Numbers.geometry)
             (λ crew. fits crew V.Numbers.geometry)
             (λ crew. did crew V.Numbers.geometry volume.now.base)
+            (λ crew. failed crew V.Numbers.geometry volume.now.base)
             (λ duty. record { what = duty.part; held = duty.lent })
             (did self V.Numbers.geometry volume.now.base lent.old (map (λ end. record { what = end.done; held = end.lent }) ended.old.items))
-            turn lent.new) };
+            (failed self V.Numbers.geometry volume.now.base lent.old (map (λ end. record { what = end.done; held = end.lent }) ended.old.items))
+            turn lent.new) }
+        ensures refused { IfErr result (failed self V.Numbers.geometry volume.now.base lent.old (map (λ end. record { what = end.done; held = end.lent }) ended.old.items)) };
 }

@@ -1,13 +1,12 @@
 //! A device's volume is mounted, a crew has its turns on it, and it is left: a function for each step of the mount, as for a visit.
 //! They ask for more of a device and of the names, since threads share them.
-ghost use Rattle.std.specs.Prelude.{◌≡◌, ◌≢◌, ◌<◌, ◌⊎◌, ℕ, [], IfOk, IfErr};
+ghost use Rattle.std.specs.Prelude.{◌≡◌, ℕ, [], IfOk, IfErr};
 ghost use Rattle.device.specs.Parts.{IsBlockRun};
-ghost use Rattle.flash_volume.specs.Turns.{MayBegin, WasCrewed};
+ghost use Rattle.flash_volume.specs.Refused.{HandsBack};
+ghost use Rattle.flash_volume.specs.Turns.{MayBegin, WasCrewed, at_first};
 ghost use Rattle.flash_volume.specs.Visited.{VisitedFrom, VisitedOn};
-ghost use Rattle.geometry.specs.Weights.{weigh};
-ghost use Rattle.geometry.specs.declared.error.Error.TheVariants.{NoMemory, Device};
+ghost use Rattle.geometry.specs.declared.error.Error.TheVariants.{NoMemory};
 ghost use Rattle.image_codec.specs.Blocks.{bytes_at};
-ghost use Rattle.mount_reading.specs.Held.{AreSameParts, IsPartsRefusal, KeepsBetween, KeepsPack};
 ghost use Rattle.volume.specs.Picked.{HaveNames};
 
 use crate::block::SharedBlock;
@@ -48,13 +47,8 @@ where
     <X::Part as Part<M, B>>::Done: Send,
     requires run { (bytes : ℕ) × IsBlockRun B.address_of B.content_of bytes 1 parts.blocks.items }
     requires fits { MayBegin (X.fits crew) }
-    ensures done { IfOk result (VisitedOn M.seen B.address_of B.content_of (λ geometry base before left. WasCrewed M.seen M.may_leave B.address_of B.content_of (X.did crew geometry base (record { passes = before; readers = [] }) []) geometry left) parts) }
-    ensures refused { IfErr result (λ fault. IsPartsRefusal M.seen B.address_of B.content_of parts fault.error) }
-    ensures same { IfErr result (λ fault. AreSameParts M.seen B.address_of B.content_of parts fault.parts) }
-    ensures kept { IfErr result (λ fault. fault.error ≢ Device → KeepsPack M.seen parts.meta fault.parts.meta) }
-    ensures any_moment { IfErr result (λ fault. KeepsBetween M.seen M.may_leave M.moment M.left_since parts.meta fault.parts.meta) }
-    ensures device { IfErr result (λ fault. fault.error ≡ Device → (M.failed parts.meta < M.failed fault.parts.meta)
-        ⊎ (weigh B.failed parts.blocks.items < weigh B.failed fault.parts.blocks.items)) }
+    ensures done { IfOk result (VisitedOn M.seen B.address_of B.content_of (λ geometry base before left. WasCrewed M.seen M.may_leave B.address_of B.content_of (X.did crew geometry base (at_first before) []) (X.failed crew geometry base (at_first before) []) geometry left) parts) }
+    ensures handed_back { IfErr result (λ fault. HandsBack M.seen M.may_leave M.moment M.left_since M.failed B.address_of B.content_of B.failed parts fault.parts fault.error) }
 {
     match mount(alloc, parts) {
         Ok(mounted) => {
@@ -93,7 +87,7 @@ where
     requires words { mounted.words ≡ K.words }
     requires geometry { mounted.geometry ≡ K.geometry }
     requires fits { MayBegin (X.fits crew) }
-    ensures done { IfOk result (VisitedFrom (λ geometry base before left. WasCrewed M.seen M.may_leave B.address_of B.content_of (X.did crew geometry base (record { passes = before; readers = [] }) []) geometry left) mounted.geometry mounted.image (bytes_at B.content_of mounted.parts.blocks.items)) }
+    ensures done { IfOk result (VisitedFrom (λ geometry base before left. WasCrewed M.seen M.may_leave B.address_of B.content_of (X.did crew geometry base (at_first before) []) (X.failed crew geometry base (at_first before) []) geometry left) mounted.geometry mounted.image (bytes_at B.content_of mounted.parts.blocks.items)) }
     ensures back { IfErr result (λ fault. fault.parts ≡ mounted.parts) }
     ensures error { IfErr result (λ fault. fault.error ≡ NoMemory) }
 {
@@ -123,13 +117,13 @@ where
     <X::Part as Part<M, B>>::Done: Send,
     requires named { HaveNames opened.queues opened.channel P.ordinary P.reserve T.turns T.key }
     requires fits { MayBegin (X.fits crew) }
-    ensures done { IfOk result (VisitedFrom (λ geometry base before left. WasCrewed M.seen M.may_leave B.address_of B.content_of (X.did crew geometry base (record { passes = before; readers = [] }) []) geometry left) opened.named.mounted.geometry opened.named.mounted.image (bytes_at B.content_of opened.named.mounted.parts.blocks.items)) }
+    ensures done { IfOk result (VisitedFrom (λ geometry base before left. WasCrewed M.seen M.may_leave B.address_of B.content_of (X.did crew geometry base (at_first before) []) (X.failed crew geometry base (at_first before) []) geometry left) opened.named.mounted.geometry opened.named.mounted.image (bytes_at B.content_of opened.named.mounted.parts.blocks.items)) }
     ensures back { IfErr result (λ fault. fault.parts ≡ opened.named.mounted.parts) }
     ensures error { IfErr result (λ fault. fault.error ≡ NoMemory) }
 {
     match opened.name::<P, T, R>(rt) {
         Ok((volume, seats, passes)) => {
-            let volume = volume.with_threading(threading);
+            let volume = volume.with_threading(rt, threading);
             let rights = Rights { seats, passes };
             Ok(take_turns_and_leave(rt, alloc, volume, rights, crew))
         }

@@ -1,12 +1,11 @@
 //! A device's volume is mounted, visited and left: a function for each step of the mount, so that names are picked between them.
-ghost use Rattle.std.specs.Prelude.{◌≡◌, ◌≢◌, ◌<◌, ◌⊎◌, ℕ, IfOk, IfErr};
+ghost use Rattle.std.specs.Prelude.{◌≡◌, ℕ, IfOk, IfErr};
 ghost use Rattle.device.specs.Parts.{IsBlockRun};
+ghost use Rattle.flash_volume.specs.Refused.{HandsBack};
 ghost use Rattle.flash_volume.specs.Visited.{VisitedFrom, VisitedOn};
 ghost use Rattle.flash_volume.specs.Worked.{WasWorked};
-ghost use Rattle.geometry.specs.Weights.{weigh};
-ghost use Rattle.geometry.specs.declared.error.Error.TheVariants.{NoMemory, Device};
+ghost use Rattle.geometry.specs.declared.error.Error.TheVariants.{NoMemory};
 ghost use Rattle.image_codec.specs.Blocks.{bytes_at};
-ghost use Rattle.mount_reading.specs.Held.{AreSameParts, IsPartsRefusal, KeepsBetween, KeepsPack};
 ghost use Rattle.volume.specs.Picked.{HaveNames};
 
 use crate::leave::{Done, Fault, Leave};
@@ -37,13 +36,8 @@ pub fn visit_volume<M: Meta, B: Block + Drop, R: Wait, X: Visit<M, B> + Drop>(
     visit: X,
 ) -> Result<Result<Done<M, B, X::Output>, Fault<M, B>>, OpenFault<M, B>>
     requires run { (bytes : ℕ) × IsBlockRun B.address_of B.content_of bytes 1 parts.blocks.items }
-    ensures done { IfOk result (VisitedOn M.seen B.address_of B.content_of (λ geometry base before left. WasWorked M.seen M.may_leave B.address_of B.content_of (λ output after. X.did visit geometry base before output after) leave geometry left) parts) }
-    ensures refused { IfErr result (λ fault. IsPartsRefusal M.seen B.address_of B.content_of parts fault.error) }
-    ensures same { IfErr result (λ fault. AreSameParts M.seen B.address_of B.content_of parts fault.parts) }
-    ensures kept { IfErr result (λ fault. fault.error ≢ Device → KeepsPack M.seen parts.meta fault.parts.meta) }
-    ensures any_moment { IfErr result (λ fault. KeepsBetween M.seen M.may_leave M.moment M.left_since parts.meta fault.parts.meta) }
-    ensures device { IfErr result (λ fault. fault.error ≡ Device → (M.failed parts.meta < M.failed fault.parts.meta)
-        ⊎ (weigh B.failed parts.blocks.items < weigh B.failed fault.parts.blocks.items)) }
+    ensures done { IfOk result (VisitedOn M.seen B.address_of B.content_of (λ geometry base before left. WasWorked M.seen M.may_leave B.address_of B.content_of (λ output after. X.did visit geometry base before output after) (λ error. X.failed visit geometry base before error) leave geometry left) parts) }
+    ensures handed_back { IfErr result (λ fault. HandsBack M.seen M.may_leave M.moment M.left_since M.failed B.address_of B.content_of B.failed parts fault.parts fault.error) }
 {
     match mount(alloc, parts) {
         Ok(mounted) => on_mounted::<Brand, M, B, R, X>(rt, alloc, mounted, threading, leave, visit),
@@ -62,7 +56,7 @@ fn on_mounted<K: TablesName, M: Meta, B: Block + Drop, R: Wait, X: Visit<M, B> +
     requires books { mounted.books ≡ K.books }
     requires words { mounted.words ≡ K.words }
     requires geometry { mounted.geometry ≡ K.geometry }
-    ensures done { IfOk result (VisitedFrom (λ geometry base before left. WasWorked M.seen M.may_leave B.address_of B.content_of (λ output after. X.did visit geometry base before output after) leave geometry left) mounted.geometry mounted.image (bytes_at B.content_of mounted.parts.blocks.items)) }
+    ensures done { IfOk result (VisitedFrom (λ geometry base before left. WasWorked M.seen M.may_leave B.address_of B.content_of (λ output after. X.did visit geometry base before output after) (λ error. X.failed visit geometry base before error) leave geometry left) mounted.geometry mounted.image (bytes_at B.content_of mounted.parts.blocks.items)) }
     ensures back { IfErr result (λ fault. fault.parts ≡ mounted.parts) }
     ensures error { IfErr result (λ fault. fault.error ≡ NoMemory) }
 {
@@ -91,13 +85,13 @@ fn on_opened<
     visit: X,
 ) -> Result<Result<Done<M, B, X::Output>, Fault<M, B>>, OpenFault<M, B>>
     requires named { HaveNames opened.queues opened.channel P.ordinary P.reserve T.turns T.key }
-    ensures done { IfOk result (VisitedFrom (λ geometry base before left. WasWorked M.seen M.may_leave B.address_of B.content_of (λ output after. X.did visit geometry base before output after) leave geometry left) opened.named.mounted.geometry opened.named.mounted.image (bytes_at B.content_of opened.named.mounted.parts.blocks.items)) }
+    ensures done { IfOk result (VisitedFrom (λ geometry base before left. WasWorked M.seen M.may_leave B.address_of B.content_of (λ output after. X.did visit geometry base before output after) (λ error. X.failed visit geometry base before error) leave geometry left) opened.named.mounted.geometry opened.named.mounted.image (bytes_at B.content_of opened.named.mounted.parts.blocks.items)) }
     ensures back { IfErr result (λ fault. fault.parts ≡ opened.named.mounted.parts) }
     ensures error { IfErr result (λ fault. fault.error ≡ NoMemory) }
 {
     match opened.name::<P, T, R>(rt) {
         Ok((volume, seats, passes)) => {
-            let volume = volume.with_threading(threading);
+            let volume = volume.with_threading(rt, threading);
             let rights = Rights { seats, passes };
             Ok(visit_and_leave(rt, alloc, volume, rights, leave, visit))
         }

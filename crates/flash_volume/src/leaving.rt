@@ -1,5 +1,5 @@
 //! A volume is worked on, and left.
-ghost use Rattle.std.specs.Prelude.{◌≡◌, [], IfOk, IfErr};
+ghost use Rattle.std.specs.Prelude.{◌≡◌, [], IfOk, IfErr, vec_len};
 ghost use Rattle.flash_volume.specs.Turns.{WasCrewed};
 ghost use Rattle.flash_volume.specs.Worked.{AreClosed, AreGivenUp, AreLeft, IsNotClosed, WasWorked};
 ghost use Rattle.flash_volume.specs.declared.leave.Stage.TheVariants.{Close as AtClose};
@@ -26,7 +26,7 @@ pub(crate) fn visit_and_leave<V: VolumeName, M: Meta, B: Block + Drop, R: Wait, 
     leave: Leave,
     visit: X,
 ) -> Result<Done<M, B, X::Output>, Fault<M, B>>
-    ensures { WasWorked M.seen M.may_leave B.address_of B.content_of (λ output after. X.did visit V.Numbers.geometry volume.base rights.passes.items output after) leave V.Numbers.geometry result }
+    ensures { WasWorked M.seen M.may_leave B.address_of B.content_of (λ output after. X.did visit V.Numbers.geometry volume.base rights.passes.items output after) (λ error. X.failed visit V.Numbers.geometry volume.base rights.passes.items error) leave V.Numbers.geometry result }
 {
     let mut rights = rights;
     match visit.visit(rt, alloc, &volume, &mut rights) {
@@ -59,8 +59,8 @@ pub(crate) fn take_turns_and_leave<
 where
     X::Part: Send + Drop,
     <X::Part as Part<M, B>>::Done: Send,
-    requires { X.fits crew V.Numbers.geometry (record { passes = rights.passes.items; readers = [] }) [] }
-    ensures { WasCrewed M.seen M.may_leave B.address_of B.content_of (X.did crew V.Numbers.geometry volume.base (record { passes = rights.passes.items; readers = [] }) []) V.Numbers.geometry result }
+    requires { X.fits crew V.Numbers.geometry (record { passes = rights.passes.items; seats = vec_len rights.seats; readers = [] }) [] }
+    ensures { WasCrewed M.seen M.may_leave B.address_of B.content_of (X.did crew V.Numbers.geometry volume.base (record { passes = rights.passes.items; seats = vec_len rights.seats; readers = [] }) []) (X.failed crew V.Numbers.geometry volume.base (record { passes = rights.passes.items; seats = vec_len rights.seats; readers = [] }) []) V.Numbers.geometry result }
 {
     match take_turns(rt, alloc, &volume, rights, crew) {
         Ok((rights, output, leave)) => match leave_volume(rt, volume, rights, leave) {

@@ -1,5 +1,5 @@
 //! What a crew has of a volume, or one of its parts.
-ghost use Rattle.std.specs.Prelude.{◌≡◌, []};
+ghost use Rattle.std.specs.Prelude.{◌≡◌, [], vec_len};
 
 use crate::rights::Rights;
 use device::Block;
@@ -17,6 +17,7 @@ pub struct Lent<'v, V: VolumeName, B: Block + Drop> {
 }
 
 impl<'v, V: VolumeName, B: Block + Drop> Model for Lent<'v, V, B> {
+    ghost use Rattle.std.specs.Prelude.{vec_len};
     ghost use Rattle.std.specs.Coded.{codes};
     ghost use Rattle.geometry.specs.File.{blocks_code};
     ghost use Rattle.file_readers.specs.Reader.{segments_code};
@@ -26,13 +27,13 @@ impl<'v, V: VolumeName, B: Block + Drop> Model for Lent<'v, V, B> {
 
     ghost coded = { Prim.hlevel (codes, blocks_code, segments_code) };
 
-    ghost view = { λ l. record { passes = l.rights.passes.items; readers = l.readers.items } };
+    ghost view = { λ l. record { passes = l.rights.passes.items; seats = vec_len l.rights.seats; readers = l.readers.items } };
 }
 
 impl<'v, V: VolumeName, B: Block + Drop> Lent<'v, V, B> {
     /// These rights and readers.
     pub fn new(rights: Rights<V>, readers: Vec<Option<Reader<'v, V, B>>>) -> Lent<'v, V, B>
-        ensures { result ≡ record { passes = rights.passes.items; readers = readers.entry.items } }
+        ensures { result ≡ record { passes = rights.passes.items; seats = vec_len rights.seats; readers = readers.entry.items } }
     {
         Lent { rights, readers }
     }
@@ -40,6 +41,7 @@ impl<'v, V: VolumeName, B: Block + Drop> Lent<'v, V, B> {
     /// The rights, and the readers.
     pub fn split(self) -> (Rights<V>, Vec<Option<Reader<'v, V, B>>>)
         ensures passes { result.0.passes.items ≡ self.entry.passes }
+        ensures seats { vec_len result.0.seats ≡ self.entry.seats }
         ensures readers { result.1.items ≡ self.entry.readers }
     {
         let Lent { rights, readers } = self;
@@ -49,7 +51,7 @@ impl<'v, V: VolumeName, B: Block + Drop> Lent<'v, V, B> {
     /// Takes all that is here, and leaves nothing.
     pub fn take(&mut self, alloc: Global) -> Lent<'v, V, B>
         ensures taken { result ≡ self.old }
-        ensures none { self.new ≡ record { passes = []; readers = [] } }
+        ensures none { self.new ≡ record { passes = []; seats = 0; readers = [] } }
     {
         let nothing = Rights {
             seats: Vec::new(alloc),

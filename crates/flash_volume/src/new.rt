@@ -1,7 +1,7 @@
 //! A volume is made, worked on and left.
 ghost use Rattle.std.specs.Prelude.{◌≡◌, ◌≢◌, ◌⊎◌, ℕ, [], IfOk, IfErr};
 ghost use Rattle.device.specs.Parts.{HasSize, IsBlockRun};
-ghost use Rattle.flash_volume.specs.Beside.{AreDoneBeside};
+ghost use Rattle.flash_volume.specs.Beside.{AreDoneBeside, HaveFailed};
 ghost use Rattle.flash_volume.specs.Worked.{AreGivenUp, EndedWith, IsNotClosed};
 ghost use Rattle.flash_volume.specs.declared.leave.Stage.TheVariants.{Format as AtFormat, Mount as AtMount, Work as AtWork, Close as AtClose};
 ghost use Rattle.geometry.specs.declared.error.Error.TheVariants.{NoMemory, Device};
@@ -38,6 +38,7 @@ pub fn work_on_new<M: Meta, B: Block + Drop, R: Wait, W: Work<M, B> + Drop>(
     ensures again { IfOk result (λ done. (bytes : ℕ) × IsBlockRun B.address_of B.content_of bytes 1 done.parts.blocks.items) }
     ensures early { IfErr result (λ fault. (fault.stage ≡ AtFormat) ⊎ (fault.stage ≡ AtMount) → (fault.error ≡ NoMemory) ⊎ (fault.error ≡ Device)) }
     ensures size_back { IfErr result (λ fault. HasSize M.seen B.address_of B.content_of geometry fault.parts) }
+    ensures failed { IfErr result (λ fault. fault.stage ≡ AtWork → W.failed work geometry [] fault.error) }
     ensures not_closed { IfErr result (λ fault. fault.stage ≡ AtClose → IsNotClosed fault.error) }
 {
     match format(alloc, parts, geometry) {
@@ -74,6 +75,7 @@ where
     ensures again { IfOk result (λ done. (bytes : ℕ) × IsBlockRun B.address_of B.content_of bytes 1 done.parts.blocks.items) }
     ensures early { IfErr result (λ fault. (fault.stage ≡ AtFormat) ⊎ (fault.stage ≡ AtMount) → (fault.error ≡ NoMemory) ⊎ (fault.error ≡ Device)) }
     ensures size_back { IfErr result (λ fault. HasSize M.seen B.address_of B.content_of geometry fault.parts) }
+    ensures failed { IfErr result (λ fault. fault.stage ≡ AtWork → HaveFailed W.failed geometry works.items [] fault.error) }
     ensures not_closed { IfErr result (λ fault. fault.stage ≡ AtClose → IsNotClosed fault.error) }
 {
     match format(alloc, parts, geometry) {

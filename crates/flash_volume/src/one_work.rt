@@ -1,12 +1,10 @@
 //! One work is done on a device's volume.
-ghost use Rattle.std.specs.Prelude.{◌≡◌, ◌≢◌, ◌<◌, ◌⊎◌, ℕ, IfOk, IfErr};
+ghost use Rattle.std.specs.Prelude.{◌≡◌, ◌≢◌, ℕ, IfOk, IfErr};
 ghost use Rattle.device.specs.Parts.{IsBlockRun};
-ghost use Rattle.flash_volume.specs.Worked.{AreGivenUp, IsNotClosed, WorkedOn};
-ghost use Rattle.flash_volume.specs.declared.leave.Stage.TheVariants.{Format as AtFormat, Mount as AtMount, Close as AtClose};
-ghost use Rattle.geometry.specs.Weights.{weigh};
-ghost use Rattle.geometry.specs.declared.error.Error.TheVariants.{Device};
+ghost use Rattle.flash_volume.specs.Refused.{HandsBack};
+ghost use Rattle.flash_volume.specs.Worked.{AreGivenUp, IsNotClosed, IsSoOf, WorkedOn};
+ghost use Rattle.flash_volume.specs.declared.leave.Stage.TheVariants.{Format as AtFormat, Mount as AtMount, Work as AtWork, Close as AtClose};
 ghost use Rattle.geometry.specs.declared.geometry.Geometry.{Geometry};
-ghost use Rattle.mount_reading.specs.Held.{AreSameParts, IsPartsRefusal, KeepsBetween, KeepsPack};
 ghost use Rattle.packs_format.specs.Grammar.{HasSuper};
 
 use crate::ladder::visit_volume;
@@ -28,9 +26,8 @@ use volume::Volume;
 /// files and no other; with `Discard` leaving wrote nothing to them. Threads begin only while the reserve is full.
 ///
 /// Each fault hands the parts back. At Mount it is a refusal of the parts, as a mount's, and they are as they were: the pack that
-/// counted counts, but after Device. At Work it
-/// is the work's own error, and at Close PassesOut or SeatsOut where a right is missing, or a refusal of the last checkpoint:
-/// then the volume is given up, and a mount finds what the last checkpoint has.
+/// counted counts, but after Device. At Work it is the error with which the work ended, and at Close PassesOut or SeatsOut where a
+/// right is missing, or a refusal of the last checkpoint: then the volume is given up, and a mount finds what the last checkpoint has.
 pub fn work_on<M: Meta, B: Block + Drop, R: Wait, W: Work<M, B> + Drop>(
     rt: &R,
     alloc: Global,
@@ -42,14 +39,10 @@ pub fn work_on<M: Meta, B: Block + Drop, R: Wait, W: Work<M, B> + Drop>(
     ensures done { IfOk result (λ done. WorkedOn M.seen M.may_leave B.address_of B.content_of (λ geometry before after. W.post work geometry before done.output after) parts leave done.parts) }
     ensures again { IfOk result (λ done. (bytes : ℕ) × IsBlockRun B.address_of B.content_of bytes 1 done.parts.blocks.items) }
     ensures stage { IfErr result (λ fault. fault.stage ≢ AtFormat) }
-    ensures refused { IfErr result (λ fault. fault.stage ≡ AtMount → IsPartsRefusal M.seen B.address_of B.content_of parts fault.error) }
-    ensures same { IfErr result (λ fault. fault.stage ≡ AtMount → AreSameParts M.seen B.address_of B.content_of parts fault.parts) }
-    ensures kept { IfErr result (λ fault. fault.stage ≡ AtMount → fault.error ≢ Device → KeepsPack M.seen parts.meta fault.parts.meta) }
-    ensures any_moment { IfErr result (λ fault. fault.stage ≡ AtMount → KeepsBetween M.seen M.may_leave M.moment M.left_since parts.meta fault.parts.meta) }
-    ensures device { IfErr result (λ fault. fault.stage ≡ AtMount → fault.error ≡ Device → (M.failed parts.meta < M.failed fault.parts.meta)
-        ⊎ (weigh B.failed parts.blocks.items < weigh B.failed fault.parts.blocks.items)) }
+    ensures handed_back { IfErr result (λ fault. fault.stage ≡ AtMount → HandsBack M.seen M.may_leave M.moment M.left_since M.failed B.address_of B.content_of B.failed parts fault.parts fault.error) }
     ensures given_up { IfErr result (λ fault. fault.stage ≢ AtMount → (geometry : Geometry) × HasSuper geometry (M.seen parts.meta) × AreGivenUp M.seen M.may_leave B.address_of B.content_of geometry fault.parts) }
     ensures after_fault { IfErr result (λ fault. (bytes : ℕ) × IsBlockRun B.address_of B.content_of bytes 1 fault.parts.blocks.items) }
+    ensures failed { IfErr result (λ fault. fault.stage ≡ AtWork → IsSoOf M.seen B.address_of B.content_of parts (λ geometry before. W.failed work geometry before fault.error)) }
     ensures not_closed { IfErr result (λ fault. fault.stage ≡ AtClose → IsNotClosed fault.error) }
 {
     match visit_volume(
@@ -89,6 +82,8 @@ impl<M: Meta, B: Block + Drop, W: Work<M, B> + Drop> Visit<M, B> for OneWork<W> 
     type Output = W::Output;
 
     ghost did = { λ one geometry base before output after. W.post one.work geometry before output after };
+
+    ghost failed = { λ one geometry base before error. W.failed one.work geometry before error };
 
     fn visit<V: VolumeName, R: Wait>(
         self,

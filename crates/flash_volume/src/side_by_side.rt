@@ -1,13 +1,11 @@
 //! Works are done side by side on a device's volume.
-ghost use Rattle.std.specs.Prelude.{◌≡◌, ◌≢◌, ◌<◌, ◌⊎◌, ℕ, IfOk, IfErr};
+ghost use Rattle.std.specs.Prelude.{◌≡◌, ◌≢◌, ℕ, IfOk, IfErr};
 ghost use Rattle.device.specs.Parts.{IsBlockRun};
-ghost use Rattle.flash_volume.specs.Beside.{AreDoneBeside};
-ghost use Rattle.flash_volume.specs.Worked.{AreGivenUp, IsNotClosed, WorkedOn};
-ghost use Rattle.flash_volume.specs.declared.leave.Stage.TheVariants.{Format as AtFormat, Mount as AtMount, Close as AtClose};
-ghost use Rattle.geometry.specs.Weights.{weigh};
-ghost use Rattle.geometry.specs.declared.error.Error.TheVariants.{Device};
+ghost use Rattle.flash_volume.specs.Beside.{AreDoneBeside, HaveFailed};
+ghost use Rattle.flash_volume.specs.Refused.{HandsBack};
+ghost use Rattle.flash_volume.specs.Worked.{AreGivenUp, IsNotClosed, IsSoOf, WorkedOn};
+ghost use Rattle.flash_volume.specs.declared.leave.Stage.TheVariants.{Format as AtFormat, Mount as AtMount, Work as AtWork, Close as AtClose};
 ghost use Rattle.geometry.specs.declared.geometry.Geometry.{Geometry};
-ghost use Rattle.mount_reading.specs.Held.{AreSameParts, IsPartsRefusal, KeepsBetween, KeepsPack};
 ghost use Rattle.packs_format.specs.Grammar.{HasSuper};
 
 use crate::beside::Beside;
@@ -49,14 +47,10 @@ where
     ensures done { IfOk result (λ done. WorkedOn M.seen M.may_leave B.address_of B.content_of (λ geometry before after. AreDoneBeside W.post geometry works.items before done.output.items after) parts leave done.parts) }
     ensures again { IfOk result (λ done. (bytes : ℕ) × IsBlockRun B.address_of B.content_of bytes 1 done.parts.blocks.items) }
     ensures stage { IfErr result (λ fault. fault.stage ≢ AtFormat) }
-    ensures refused { IfErr result (λ fault. fault.stage ≡ AtMount → IsPartsRefusal M.seen B.address_of B.content_of parts fault.error) }
-    ensures same { IfErr result (λ fault. fault.stage ≡ AtMount → AreSameParts M.seen B.address_of B.content_of parts fault.parts) }
-    ensures kept { IfErr result (λ fault. fault.stage ≡ AtMount → fault.error ≢ Device → KeepsPack M.seen parts.meta fault.parts.meta) }
-    ensures any_moment { IfErr result (λ fault. fault.stage ≡ AtMount → KeepsBetween M.seen M.may_leave M.moment M.left_since parts.meta fault.parts.meta) }
-    ensures device { IfErr result (λ fault. fault.stage ≡ AtMount → fault.error ≡ Device → (M.failed parts.meta < M.failed fault.parts.meta)
-        ⊎ (weigh B.failed parts.blocks.items < weigh B.failed fault.parts.blocks.items)) }
+    ensures handed_back { IfErr result (λ fault. fault.stage ≡ AtMount → HandsBack M.seen M.may_leave M.moment M.left_since M.failed B.address_of B.content_of B.failed parts fault.parts fault.error) }
     ensures given_up { IfErr result (λ fault. fault.stage ≢ AtMount → (geometry : Geometry) × HasSuper geometry (M.seen parts.meta) × AreGivenUp M.seen M.may_leave B.address_of B.content_of geometry fault.parts) }
     ensures after_fault { IfErr result (λ fault. (bytes : ℕ) × IsBlockRun B.address_of B.content_of bytes 1 fault.parts.blocks.items) }
+    ensures failed { IfErr result (λ fault. fault.stage ≡ AtWork → IsSoOf M.seen B.address_of B.content_of parts (λ geometry before. HaveFailed W.failed geometry works.items before fault.error)) }
     ensures not_closed { IfErr result (λ fault. fault.stage ≡ AtClose → IsNotClosed fault.error) }
 {
     let works = Works::Fresh { works, leave };

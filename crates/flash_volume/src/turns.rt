@@ -1,6 +1,7 @@
 //! A crew's turns, and its parts side by side between them.
-ghost use Rattle.std.specs.Prelude.{◌≡◌, [], All, IfOk, map};
+ghost use Rattle.std.specs.Prelude.{◌≡◌, ◌⊎◌, [], All, IfOk, IfErr, map, vec_len};
 ghost use Rattle.std.specs.List.{AllZip};
+ghost use Rattle.geometry.specs.declared.error.Error.TheVariants.{NoMemory};
 
 use crate::block::SharedBlock;
 use crate::crew::{Crew, Duty, Ended, Part, Turn};
@@ -75,8 +76,9 @@ pub(crate) fn take_turns<
 where
     X::Part: Send + Drop,
     <X::Part as Part<M, B>>::Done: Send,
-    requires { X.fits crew V.Numbers.geometry (record { passes = rights.passes.items; readers = [] }) [] }
-    ensures { IfOk result (λ over. X.did crew V.Numbers.geometry volume.now.base (record { passes = rights.passes.items; readers = [] }) [] over.1 over.2 over.0.passes.items) }
+    requires { X.fits crew V.Numbers.geometry (record { passes = rights.passes.items; seats = vec_len rights.seats; readers = [] }) [] }
+    ensures done { IfOk result (λ over. X.did crew V.Numbers.geometry volume.now.base (record { passes = rights.passes.items; seats = vec_len rights.seats; readers = [] }) [] over.1 over.2 over.0.passes.items) }
+    ensures refused { IfErr result (λ error. (error ≡ NoMemory) ⊎ X.failed crew V.Numbers.geometry volume.now.base (record { passes = rights.passes.items; seats = vec_len rights.seats; readers = [] }) [] error) }
 {
     let mut crew = crew;
     let mut lent = Lent::new(rights, Vec::new(alloc));

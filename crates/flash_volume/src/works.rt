@@ -1,6 +1,9 @@
 //! Works that are done side by side on one volume: a crew of one turn to deal, and one to take back.
-ghost use Rattle.std.specs.Prelude.{◌≡◌, ◌++◌, Ok, IfOk, OnOk};
+ghost use Rattle.std.specs.Prelude.{◌≡◌, ◌+◌, ◌⊎◌, ◌++◌, Ok, IfOk, IfErr, OnOk, map, vec_len};
 ghost use Rattle.std.specs.List.{AllZip, flat_map};
+ghost use Rattle.flash_volume.specs.Beside.{OneEnded};
+ghost use Rattle.geometry.specs.Weights.{weigh};
+ghost use Rattle.geometry.specs.declared.error.Error.TheVariants.{NoMemory};
 
 use crate::beside::{Beside, deal};
 use crate::crew::{Crew, Duty, Ended, Part, Turn};
@@ -30,11 +33,12 @@ pub(crate) struct OneBeside<W> {
 }
 
 impl<M: Meta, B: Block + Drop, W: Work<M, B> + Drop> Part<M, B> for OneBeside<W> {
-    ghost use Rattle.std.specs.Prelude.{IfOk};
+    ghost use Rattle.std.specs.Prelude.{IfOk, IfErr};
 
     type Done = Result<W::Output, Error>;
 
-    ghost did = { λ one geometry before done after. IfOk done (λ output. W.post one.work geometry before.passes output after.passes) };
+    ghost did = { λ one geometry before done after. IfOk done (λ output. W.post one.work geometry before.passes output after.passes)
+        × IfErr done (λ error. W.failed one.work geometry before.passes error) };
 
     fn run<'v, V: VolumeName, R: Wait>(
         self,
@@ -48,8 +52,8 @@ impl<M: Meta, B: Block + Drop, W: Work<M, B> + Drop> Part<M, B> for OneBeside<W>
 }
 
 impl<M: Meta, B: Block + Drop, W: Work<M, B> + Drop> Crew<M, B> for Works<W> {
-    ghost use Rattle.std.specs.Prelude.{map, IfOk};
-    ghost use Rattle.flash_volume.specs.Beside.{WorksDid};
+    ghost use Rattle.std.specs.Prelude.{map, IfOk, IfErr};
+    ghost use Rattle.flash_volume.specs.Beside.{WorksDid, WorksFailed};
     ghost use Rattle.flash_volume.specs.Turns.{Keeps};
 
     type Part = OneBeside<W>;
@@ -57,6 +61,8 @@ impl<M: Meta, B: Block + Drop, W: Work<M, B> + Drop> Crew<M, B> for Works<W> {
     type Output = Vec<W::Output>;
 
     ghost did = { λ works geometry base held ended outputs leave after. WorksDid W.post works geometry held ended outputs.items leave after };
+
+    ghost failed = { λ works geometry base held ended error. WorksFailed W.failed works geometry held ended error };
 
     fn turn<'v, V: VolumeName, R: Wait>(
         self,
@@ -66,14 +72,18 @@ impl<M: Meta, B: Block + Drop, W: Work<M, B> + Drop> Crew<M, B> for Works<W> {
         lent: &mut Lent<'v, V, B>,
         ended: &mut Vec<Ended<'v, V, B, Result<W::Output, Error>>>,
     ) -> Result<Turn<Works<W>, Duty<'v, V, B, OneBeside<W>>, Vec<W::Output>>, Error>
-        ensures { IfOk result (λ turn. Keeps
+        ensures done { IfOk result (λ turn. Keeps
             (λ one held. Unit {0})
-            (λ one before done after. IfOk done (λ output. W.post one.work V.Numbers.geometry before.passes output after.passes))
+            (λ one before done after. IfOk done (λ output. W.post one.work V.Numbers.geometry before.passes output after.passes)
+            × IfErr done (λ error. W.failed one.work V.Numbers.geometry before.passes error))
             (λ works held ended. Unit {0})
             (λ works held ended outputs leave after. WorksDid W.post works V.Numbers.geometry held ended outputs.items leave after)
+            (λ works held ended error. WorksFailed W.failed works V.Numbers.geometry held ended error)
             (λ duty. record { what = duty.part; held = duty.lent })
             (λ outputs leave after. WorksDid W.post self V.Numbers.geometry lent.old (map (λ end. record { what = end.done; held = end.lent }) ended.old.items) outputs.items leave after)
+            (WorksFailed W.failed self V.Numbers.geometry lent.old (map (λ end. record { what = end.done; held = end.lent }) ended.old.items))
             turn lent.new) }
+        ensures refused { IfErr result (WorksFailed W.failed self V.Numbers.geometry lent.old (map (λ end. record { what = end.done; held = end.lent }) ended.old.items)) }
     {
         match self {
             Works::Fresh { works, leave } => {
@@ -100,6 +110,8 @@ fn take_back<V: VolumeName, B: Block + Drop, O: Drop>(
 ) -> Result<Vec<O>, Error>
     ensures outputs { IfOk result (λ outputs. AllZip (λ end output. end.done ≡ Ok output) ended.entry.items outputs.items) }
     ensures passes { OnOk result (rights.new.passes.items ≡ rights.old.passes.items ++ flat_map (λ end. end.lent.passes) ended.entry.items) }
+    ensures seats { OnOk result (vec_len rights.new.seats ≡ vec_len rights.old.seats + weigh (λ end. end.lent.seats) ended.entry.items) }
+    ensures refused { IfErr result (λ error. (error ≡ NoMemory) ⊎ OneEnded (map (λ end. record { what = end.done; held = end.lent }) ended.entry.items) error) }
 {
     let mut outputs = Vec::new(alloc);
     for end in ended {

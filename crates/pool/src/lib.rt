@@ -15,4 +15,4 @@ mod slip;
 pub use law::{Account, Tally};
 pub use opened::Opened;
 pub use pass::PoolPass;
-pub use pool::Pool;
+pub use pool::{Pool, SlipCounts};

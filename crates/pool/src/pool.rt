@@ -10,7 +10,15 @@ use crate::slip::StoredSlip;
 use rights_names::{PoolName, WordsName};
 use std::marker::PhantomData;
 use std::sync::Wait;
+use std::sync::atomic::{AtomicU32, Ordering};
 use words::FreeSlip;
+
+/// About how many slips the queues of a pool have.
+#[derive(Clone, Copy, Debug, PartialEq, Eq)]
+pub struct SlipCounts {
+    pub ordinary: u32,
+    pub reserve: u32,
+}
 
 /// The slips of the free segments: a reserve of four, and an ordinary queue. All threads share it by `&`. No call takes
 /// memory, and each may wait for another thread's call to end.
@@ -18,6 +26,9 @@ use words::FreeSlip;
 pub struct Pool<W: WordsName, J: PoolName> {
     ordinary: Queue<W>,
     reserve: Queue<W>,
+    // How many slips each queue has. A slip is counted before it is put, and until it was taken.
+    in_ordinary: AtomicU32,
+    in_reserve: AtomicU32,
     names: PhantomData<J>,
     ghost ordinary_is: { queue_id ordinary ≡ J.ordinary },
     ghost reserve_is: { queue_id reserve ≡ J.reserve },
@@ -33,6 +44,8 @@ impl<W: WordsName, J: PoolName> Pool<W, J> {
         Pool {
             ordinary,
             reserve,
+            in_ordinary: AtomicU32::new(0),
+            in_reserve: AtomicU32::new(0),
             names: PhantomData,
         }
     }
@@ -45,6 +58,7 @@ impl<W: WordsName, J: PoolName> Pool<W, J> {
         ensures empty { IfNone result (WasEmpty pass.old.ordinary) }
     {
         let slip = self.ordinary.pop_as::<Taken, R>(rt, &mut pass.ordinary)?;
+        self.in_ordinary.fetch_sub(1, Ordering::Relaxed);
         Some(slip.restore())
     }
 
@@ -55,6 +69,7 @@ impl<W: WordsName, J: PoolName> Pool<W, J> {
         ensures empty { IfNone result (WasEmpty pass.old.reserve) }
     {
         let slip = self.reserve.pop_as::<Taken, R>(rt, &mut pass.reserve)?;
+        self.in_reserve.fetch_sub(1, Ordering::Relaxed);
         Some(slip.restore())
     }
 
@@ -90,15 +105,21 @@ impl<W: WordsName, J: PoolName> Pool<W, J> {
             × WasFull J.ordinary.slots pass.old.ordinary) }
     {
         let slip = StoredSlip::store(slip);
+        self.in_reserve.fetch_add(1, Ordering::Relaxed);
         let Err(slip) = self.reserve.push_as::<Put, R>(rt, &mut pass.reserve, slip) else {
             return Ok(());
         };
+        self.in_reserve.fetch_sub(1, Ordering::Relaxed);
+        self.in_ordinary.fetch_add(1, Ordering::Relaxed);
         match self
             .ordinary
             .push_as::<Put, R>(rt, &mut pass.ordinary, slip)
         {
             Ok(()) => Ok(()),
-            Err(back) => Err(back.restore()),
+            Err(back) => {
+                self.in_ordinary.fetch_sub(1, Ordering::Relaxed);
+                Err(back.restore())
+            }
         }
     }
 
@@ -108,6 +129,15 @@ impl<W: WordsName, J: PoolName> Pool<W, J> {
         ensures full { result ≡ true → WasFull 4 pass.old.reserve }
     {
         self.reserve.is_full_as::<Put>(&mut pass.reserve)
+    }
+
+    /// How many slips the ordinary queue and the reserve have, about: one that is on its way is counted too. No promise rests on
+    /// it.
+    pub fn counts(&self) -> SlipCounts {
+        SlipCounts {
+            ordinary: self.in_ordinary.load(Ordering::Relaxed),
+            reserve: self.in_reserve.load(Ordering::Relaxed),
+        }
     }
 
     /// A pass with one part for another holder. This one keeps the rest.

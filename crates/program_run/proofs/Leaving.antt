@@ -3,7 +3,7 @@ use Rattle.std.proofs.Common.{◌≡◌, ◌⊎◌, ◌<◌, ◌-◌, ℕ, List,
 use Rattle.std.specs.Io.KnownBytes.{Appends}
 use Rattle.device.specs.declared.parts.Parts.{Parts}
 use Rattle.file_cells.specs.Pass.{Pass}
-use Rattle.flash_volume.specs.Turns.{Lot}
+use Rattle.flash_volume.specs.Turns.{Lot, at_first}
 use Rattle.flash_volume.specs.Visited.{ArePassesOf, base_of}
 use Rattle.flash_volume.specs.Worked.{AreClosed, AreGivenUp, AreLeft as DoorLeft}
 use Rattle.flash_volume.specs.declared.leave.Leave.{Leave}
@@ -50,7 +50,7 @@ module _ {M B : Type 0} (seen : M → List ℕ) (may_leave : M → List ℕ → 
   -- a script's crew was run, and its volume was left
   pub went_with_script : {L W E : Type 0} (text_of : W → List ℕ) (image : Image) (blocks : ℕ → Block) (steps : List Step) (carried : Carried) (before after : List Pass) (halt : Halt) (leave : Leave)
       (left : Left M B L) (old new : Option (List ℕ)) → ArePassesOf geometry image blocks before
-      → RanScript {W = W} {E = E} text_of steps None carried geometry (base_of image) (record { passes = before; readers = [] }) [] halt leave after old new
+      → RanScript {W = W} {E = E} text_of steps None carried geometry (base_of image) (at_first before) [] halt leave after old new
       → DoorLeft seen may_leave address_of content_of leave geometry after left.parts → left.run ≡ halt.run → left.carried ≡ halt.carried
       → WentOnWith seen address_of content_of geometry image blocks steps carried left old new
   went_with_script text_of image blocks steps carried before after halt leave left old new began script door same_run same_carried = record {

@@ -65,7 +65,7 @@ enum Pause<D> {
 
 impl<'s, 'g, 'o, M: Meta, B: Block + Drop, G: Gate, O: Write> Crew<M, B>
     for Script<'s, 'g, 'o, G, O> {
-    ghost use Rattle.std.specs.Prelude.{◌≡◌, ℕ, map, IfOk, Result, Vec};
+    ghost use Rattle.std.specs.Prelude.{◌≡◌, ℕ, map, IfErr, IfOk, Result, Vec};
     ghost use Rattle.std.specs.declared.alloc.Global.{Global};
     ghost use Rattle.std.specs.declared.io.Error.{Error as IoError};
     ghost use Rattle.flash_volume.specs.Turns.{Keeps};
@@ -83,6 +83,9 @@ impl<'s, 'g, 'o, M: Meta, B: Block + Drop, G: Gate, O: Write> Crew<M, B>
     ghost did = { λ script geometry base held ended output leave after. (output.out.ghost_name ≡ script.out.ghost_name)
         × HasHalted (λ text. text.items) script.steps.now script.begun script.carried geometry base held ended output.halt leave after (O.contents script.out.now) (O.contents output.out.now) };
 
+    // What goes wrong is told by the halt.
+    ghost failed = { λ script geometry base held ended error. ⊥ };
+
     fn turn<'v, V: VolumeName, R: Wait>(
         self,
         rt: &R,
@@ -92,16 +95,19 @@ impl<'s, 'g, 'o, M: Meta, B: Block + Drop, G: Gate, O: Write> Crew<M, B>
         ended: &mut Vec<Ended<'v, V, B, io::Result<Vec<u8>>>>,
     ) -> Result<Turn<Script<'s, 'g, 'o, G, O>, Duty<'v, V, B, Hand<'s, G>>, Ran<'o, O>>, Error>
         requires { MayGoOn (λ text. text.items) self.steps.now self.begun V.Numbers.geometry lent.old (map (λ end. record { what = end.done; held = end.lent }) ended.old.items) }
-        ensures { IfOk result (λ turn. Keeps {D = Result (Vec ℕ Global) IoError}
+        ensures done { IfOk result (λ turn. Keeps {D = Result (Vec ℕ Global) IoError}
             (λ hand held. AreInOrder V.Numbers.geometry.files held.passes)
             (λ hand before done after. IfOk done (λ text. IsDone V.Numbers.geometry hand before text.items after))
             (λ script held ended. MayGoOn (λ text. text.items) script.steps.now script.begun V.Numbers.geometry held ended)
             (λ script held ended output leave after. (output.out.ghost_name ≡ script.out.ghost_name)
             × HasHalted (λ text. text.items) script.steps.now script.begun script.carried V.Numbers.geometry volume.now.base held ended output.halt leave after (O.contents script.out.now) (O.contents output.out.now))
+            (λ script held ended error. ⊥)
             (λ duty. record { what = duty.part; held = duty.lent })
             (λ output leave after. (output.out.ghost_name ≡ self.entry.out.ghost_name)
             × HasHalted (λ text. text.items) self.entry.steps.now self.entry.begun self.entry.carried V.Numbers.geometry volume.now.base lent.old (map (λ end. record { what = end.done; held = end.lent }) ended.old.items) output.halt leave after (O.contents self.entry.out.now) (O.contents output.out.now))
+            (λ error. ⊥)
             turn lent.new) }
+        ensures refused { IfErr result (λ error. ⊥) }
     {
         let Script {
             steps,

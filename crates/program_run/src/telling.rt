@@ -76,6 +76,9 @@ impl<'a, M: Meta, B: Block + Drop, O: Write> Visit<M, B> for TellFiles<'a, O> {
         × OnOk output.told (Appends (O.contents tell.out.now) (O.contents output.out.now) (lines_of geometry.shape (map (λ pass. (pass.number, pass.file)) before) ++ total_line base.total))
         × IfErr output.told (λ stop. names_line stop ≡ false) };
 
+    // What goes wrong is told by the output.
+    ghost failed = { λ tell geometry base before error. ⊥ };
+
     fn visit<V: VolumeName, R: Wait>(
         self,
         rt: &R,

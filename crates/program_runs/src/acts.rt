@@ -1,6 +1,6 @@
 //! Calls of a volume that a seed picks, each of them replayed on the core machine.
 use device::{Block, Fuse, Meta};
-use flash_volume::{FilePass, Kind, Policy, Rights, Volume, VolumeName, Work};
+use flash_volume::{FilePass, Kind, Policy, Rights, Visit, Volume, VolumeName};
 use geometry::Error;
 use program_trials::{Chance, Fault, Machine, Recorder, data_block};
 use std::alloc::Global;
@@ -20,10 +20,12 @@ pub struct Acts<'a> {
     pub crowded: bool,
 }
 
-impl<M: Meta, B: Block + Drop> Work<M, B> for Acts<'_> {
+impl<M: Meta, B: Block + Drop> Visit<M, B> for Acts<'_> {
     type Output = Result<(), Fault>;
 
-    fn run<V: VolumeName, R: Wait>(
+    ghost did = { λ acts geometry base before output after. Unit {0} };
+
+    fn visit<V: VolumeName, R: Wait>(
         self,
         rt: &R,
         alloc: Global,

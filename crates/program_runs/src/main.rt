@@ -18,6 +18,7 @@ mod replaying;
 mod scene;
 mod schedules;
 mod sweep;
+mod users;
 
 use program_run::status::{DONE, FAILED, MISUSED, REFUSED};
 use program_trials::{Fault, PARTS, Part, Request, USAGE, read_request};
@@ -81,6 +82,7 @@ fn run_part<R: Runtime + Threads + Wait + Sync + Files<File = File>>(
         Part::Machine => replaying::replay_all(rt, alloc, count),
         Part::Schedules => schedules::run_schedules(rt, alloc, count),
         Part::Races => races::race(rt, alloc, count),
+        Part::Users => users::use_volumes(rt, alloc, count),
         Part::Damage => damage::damage(rt, alloc, count),
         Part::Growths => growths::grow(rt, alloc),
     }

@@ -15,6 +15,8 @@ pub struct Nothing;
 impl<M: Meta, B: Block + Drop> Work<M, B> for Nothing {
     type Output = ();
 
+    ghost failed = { λ work geometry before error. ⊥ };
+
     fn run<V: VolumeName, R: Wait>(
         self,
         _rt: &R,

@@ -4,7 +4,7 @@ use crate::acts::Acts;
 use crate::mounting::Nothing;
 use device::MemDevice;
 use file_device::read_device;
-use flash_volume::{Leave, Stage, work_on, work_on_new};
+use flash_volume::{Leave, Stage, Threading, visit_volume, work_on_new};
 use geometry::{Error, Geometry, Shape};
 use program_trials::{Around, Chance, Counts, Fault, Machine, bytes_of, inside, tear};
 use std::alloc::{AllocError, Global};
@@ -108,7 +108,17 @@ fn work<R: Wait>(
         count: CALLS,
         crowded,
     };
-    let parts = match work_on(rt, alloc, parts, leave, acts) {
+    // A crowded volume threads whenever it can, so that many holes are filled.
+    let threading = if crowded {
+        Threading::Whenever
+    } else {
+        Threading::WhileReserveIsFull
+    };
+    let visited = match visit_volume(rt, alloc, parts, threading, leave, acts) {
+        Ok(visited) => visited,
+        Err(_refused) => return Err(Fault::Wrong(String::from_str(alloc, "a mount is refused")?)),
+    };
+    let parts = match visited {
         Ok(done) => {
             done.output?;
             done.parts
@@ -116,7 +126,7 @@ fn work<R: Wait>(
         Err(fault) => {
             let is_refused = matches!(fault.error, Error::Device | Error::Wounded | Error::NoSpace);
             let closes = fault.stage == Stage::Close && is_refused;
-            machine.must(closes, "a volume that can't be mounted or closed")?;
+            machine.must(closes, "a volume that can't be closed")?;
             fault.parts
         }
     };

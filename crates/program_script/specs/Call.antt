@@ -7,11 +7,14 @@ use Rattle.program_script.specs.declared.words.Words.TheVariants.{Run, Check, Fi
 abbrev pub save : Rule
 save = record (new_rule (codes "save")) { long = Some (codes "save") }
 
+abbrev pub threading : Rule
+threading = record (new_rule (codes "threading")) { long = Some (codes "threading") }
+
 abbrev pub image : Rule
 image = record (new_rule (codes "image")) { required = true }
 
 abbrev pub run : App
-run = with_rule (new_app (codes "run")) save
+run = with_rule (with_rule (new_app (codes "run")) save) threading
 
 -- a subcommand that works on an image file
 abbrev pub of_image : Text → App
@@ -20,7 +23,7 @@ of_image name = with_rule (new_app name) image
 abbrev pub bare : App
 bare = record { top = record (new_app (codes "f2fsim")).top { subcommand_required = true }; subs = [] }
 
--- `run [--save PATH]`, `check IMAGE` or `files IMAGE`
+-- `run [--save PATH] [--threading RULE]`, `check IMAGE` or `files IMAGE`
 abbrev pub program : App
 program = with_subcommand (with_subcommand (with_subcommand bare run.top) (of_image (codes "check")).top) (of_image (codes "files")).top
 
@@ -30,7 +33,8 @@ AsksForImage name path met = (option_map (λ p. p.0) met ≡ Some name) × (opti
 
 -- the subcommand that was met asks for this
 abbrev pub AsksFor : Words → Option (Text × List Row) → Type 0
-AsksFor (Run path) met =
+AsksFor (Run path rule) met =
     (option_map (λ p. p.0) met ≡ Some (codes "run")) × (option_and_then (λ p. first_of (codes "save") p.1) met ≡ option_map (λ s. s.now) path)
+    × (option_and_then (λ p. first_of (codes "threading") p.1) met ≡ option_map (λ s. s.now) rule)
 AsksFor (Check path) met = AsksForImage (codes "check") path.now met
 AsksFor (Files path) met = AsksForImage (codes "files") path.now met

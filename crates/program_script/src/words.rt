@@ -15,12 +15,19 @@ pub const USAGE: &str = "usage: f2fsim run [--save PATH] | check IMAGE";
 /// What the program is to do.
 #[derive(Clone, Copy, Debug, PartialEq, Eq)]
 pub enum Words<'a> {
-    /// Runs a script, and saves the bytes of the device at a path.
-    Run { save: Option<&'a str> },
+    /// Runs a script on a volume that threads by a rule of this name, and saves the bytes of the device at a path.
+    Run {
+        save: Option<&'a str>,
+        threading: Option<&'a str>,
+    },
     /// Checks an image file.
-    Check { image: &'a str },
+    Check {
+        image: &'a str,
+    },
     /// Tells the files of an image file.
-    Files { image: &'a str },
+    Files {
+        image: &'a str,
+    },
 }
 
 /// Why the words of a call are refused.
@@ -59,6 +66,7 @@ fn parsed<'a, S: AsStr>(alloc: Global, words: &'a [S]) -> Result<Option<Words<'a
     if let Some(run) = matches.subcommand_matches("run") {
         return Ok(Some(Words::Run {
             save: run.get_str("save"),
+            threading: run.get_str("threading"),
         }));
     }
     if let Some(check) = matches.subcommand_matches("check")
@@ -86,7 +94,9 @@ fn with_run<'a>(alloc: Global) -> Result<Command<'a>, AllocError>
     ensures { IfOk result (λ command. app_of command ≡ with_subcommand bare run.top) }
 {
     let save = Arg::new(alloc, "save").long("save");
+    let threading = Arg::new(alloc, "threading").long("threading");
     let run = Command::new(alloc, "run").arg(save)?;
+    let run = run.arg(threading)?;
     Command::new(alloc, "f2fsim")
         .subcommand_required(true)
         .subcommand(run)

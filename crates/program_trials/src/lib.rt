@@ -25,6 +25,7 @@ mod telling;
 mod text;
 mod torn;
 mod trial;
+mod user;
 mod ways;
 
 pub use around::{Around, inside};
@@ -47,3 +48,4 @@ pub use telling::{tell_call, tell_script};
 pub use text::{number, push_lines, text_bytes};
 pub use torn::{Filling, Written, is_told, tear};
 pub use trial::{Told, judge_lines, without};
+pub use user::{Deed, User};

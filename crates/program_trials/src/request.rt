@@ -3,7 +3,7 @@ use std::convert::AsStr;
 
 /// What is printed of words that are refused.
 pub const USAGE: &str =
-    "usage: program_runs [cases | sweep | crashes | machine | schedules | races | damage | growths] [--count N]";
+    "usage: program_runs [cases | sweep | crashes | machine | schedules | races | users | damage | growths] [--count N]";
 
 /// A part of the program.
 #[derive(Clone, Copy)]
@@ -20,6 +20,8 @@ pub enum Part {
     Schedules,
     /// N races of writers with checkpoints.
     Races,
+    /// N users of volumes, who make room where a write finds none.
+    Users,
     /// N damaged images.
     Damage,
     /// Scripts under which a growth is refused from without.
@@ -27,13 +29,14 @@ pub enum Part {
 }
 
 /// Each part that is run where no word asks for one, in order.
-pub const PARTS: [Part; 7] = [
+pub const PARTS: [Part; 8] = [
     Part::Cases,
     Part::Sweep,
     Part::Crashes,
     Part::Machine,
     Part::Schedules,
     Part::Races,
+    Part::Users,
     Part::Damage,
 ];
 
@@ -54,6 +57,7 @@ impl Part {
             "machine" => Some(Part::Machine),
             "schedules" => Some(Part::Schedules),
             "races" => Some(Part::Races),
+            "users" => Some(Part::Users),
             "damage" => Some(Part::Damage),
             "growths" => Some(Part::Growths),
             _ => None,
@@ -68,6 +72,7 @@ impl Part {
             Part::Machine => 20,
             Part::Schedules => 20,
             Part::Races => 100,
+            Part::Users => 30,
             Part::Damage => 10_000,
         }
     }

@@ -7,12 +7,12 @@ use Rattle.std.proofs.lemmas.List.{append_assoc, append-nil, length-append}
 use Rattle.std.specs.Cmp.{unsigned_tied}
 use Rattle.std.specs.FinMap.{FinMap, get, insert, get-insert, get-retain_keys, nat_cmp-IsAntisymmetric}
 use Rattle.std.specs.Ordering.{nat_cmp}
-use Rattle.geometry.specs.File.{File, Block, written, cut_to}
+use Rattle.geometry.specs.File.{File, Block, bytes_at, written, cut_to}
 use Rattle.geometry.specs.Shape.{block_bytes}
 use Rattle.geometry.specs.declared.shape.Shape.{Shape}
 use Rattle.geometry.specs.declared.shape.Shape.TheVariants.{Tiny, Kernel}
 use Rattle.image_reading.specs.Content.{front_bytes}
-use Rattle.tool_files.specs.Content.{HasBytes}
+use Rattle.tool_files.specs.Content.{HasBytes, IsBlockSet}
 
 pub block_some : (shape : Shape) → 0 < block_bytes shape
 block_some Tiny = lit< tt
@@ -59,12 +59,21 @@ writing_begins size bytes file some = record {
   spelled = sym (append-nil bytes);
 }
 
--- a block is written, which begins with what was left in front
-pub writing_goes_on : (size : ℕ) (bytes rest front behind block : List ℕ) (file : File) (index : ℕ) → Writing size bytes rest file index
-    → rest ≡ front ++ behind → 0 < length front → length front ≤ size → (length front < size → behind ≡ []) → block ≡ front ++ replicate (size - length front) 0
-    → Writing size bytes behind (written file index block) (index + 1)
-writing_goes_on size bytes rest front behind block file index writing cut some fits last is = record {
+-- a block that is written is set
+pub block_written : (size : ℕ) (file : File) (index : ℕ) (block : Block) → index ≤ file.length → IsBlockSet size index block file (written file index block)
+block_written size file index block reaches = record {
   reaches = omega arith;
+  here = ap (λ o. unwrap_or o (replicate size 0)) (got file.blocks index block);
+  front = λ n few. front_written size file index block n few;
+}
+
+-- a block is set, which begins with what was left in front
+pub writing_goes_on : (size : ℕ) (bytes rest front behind block : List ℕ) (file after : File) (index : ℕ) → Writing size bytes rest file index
+    → IsBlockSet size index block file after
+    → rest ≡ front ++ behind → 0 < length front → length front ≤ size → (length front < size → behind ≡ []) → block ≡ front ++ replicate (size - length front) 0
+    → Writing size bytes behind after (index + 1)
+writing_goes_on size bytes rest front behind block file after index writing set cut some fits last is = record {
+  reaches = let below = set.reaches in omega arith;
   zeros = size - length front;
   in_last_block = omega arith;
   at_the_end = λ more. elim (cases_lt (length front) size) [
@@ -73,8 +82,8 @@ writing_goes_on size bytes rest front behind block file index writing cut some f
   ];
   spelled =
       ap (λ ys. ys ++ behind)
-      (ap (front_bytes size (written file index block)) (add-one index)
-      ∙ ap₂ (λ (xs ys : List ℕ). xs ++ ys) (front_written size file index block index (omega arith)) (ap (λ o. unwrap_or o (replicate size 0)) (got file.blocks index block) ∙ is))
+      (ap (front_bytes size after) (add-one index)
+      ∙ ap₂ (λ (xs ys : List ℕ). xs ++ ys) (set.front index (omega arith)) (set.here ∙ is))
       ∙ moved (cases_lt (length front) size);
 }
   where

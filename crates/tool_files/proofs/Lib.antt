@@ -1,7 +1,10 @@
 mod Contents
-mod Got
+mod Kept
+mod Left
 mod Many
+mod Named
 mod Places
 mod Rows
+mod Shown
 mod Updates
 mod Works

@@ -5,7 +5,7 @@ use Rattle.std.proofs.lemmas.List.Elements.{All-cons, All-head, All-nil, All-tai
 use Rattle.std.specs.Option.{is_none}
 use Rattle.file_cells.specs.Pass.{Pass}
 use Rattle.tool_files.specs.Files.{file_at, IsNumberFor, IsPlace, IsThere}
-use Rattle.tool_folder.specs.Folder.{Row, IsRow}
+use Rattle.tool_folder.specs.Folder.{Row}
 use Rattle.tool_folder.specs.Names.{HasNoRow, IsRowOf, IsRowPlace}
 use Rattle.tool_folder.specs.Rows.{row_of}
 use Rattle.tool_folder.specs.declared.entry.Entry.{Entry}
@@ -49,12 +49,13 @@ pub number_for : (name : List ℕ) (number : ℕ) (rows : List Row) (passes : Li
 number_for name number rows passes (Some place) here no_name kept made there = inl (kept name here)
 number_for name number rows passes None here no_name kept made there = inr (no_name, no_row_of number passes rows made there, made)
 
-pub is_row_of : (name : List ℕ) (rows : List Row) (row : Row) → All IsRow rows → IsRowOf name rows row → IsRow row
-is_row_of name [] row all named = absurd named
-is_row_of name (r ∷ rows) row all named =
+-- what holds of all rows holds of that of a name
+pub row_of_all : (P : Row → Type 0) (name : List ℕ) (rows : List Row) (row : Row) → All P rows → IsRowOf name rows row → P row
+row_of_all P name [] row all named = absurd named
+row_of_all P name (r ∷ rows) row all named =
     elim named [
-      | inl h ↦ subst IsRow h.1 (All-head IsRow r rows all)
-      | inr h ↦ is_row_of name rows row (All-tail IsRow r rows all) h.1
+      | inl h ↦ subst P h.1 (All-head P r rows all)
+      | inr h ↦ row_of_all P name rows row (All-tail P r rows all) h.1
     ]
 
 -- of an option that is known

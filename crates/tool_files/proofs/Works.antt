@@ -3,7 +3,7 @@ use Rattle.std.proofs.Common.{◌≡◌, ◌≢◌, ◌∙◌, ◌<◌, ℕ, zer
 use Rattle.file_cells.specs.Pass.{Pass}
 use Rattle.geometry.specs.File.{File}
 use Rattle.tool_folder.specs.Folder.{Row}
-use Rattle.tool_files.specs.Files.{file_at, HasFolder, IsNumberFor, WasPut, WasRemoved, WasRenamed, WasWritten}
+use Rattle.tool_files.specs.Files.{file_at, HasFolder, IsNumberFor, WasDeleted, WasPut, WasRemoved, WasRenamed, WasWritten}
 use Rattle.tool_folder.specs.Name.{IsName}
 use Rattle.tool_folder.specs.Names.{HasNoRow, IsRowOf, Removes, Renames, Renews}
 
@@ -45,6 +45,19 @@ was_removed size name before between after rows left row had named past removes 
   removes = removes;
   gone = others row.number (λ e. omega arith) ∙ gone;
   others = λ n not_folder other. others n not_folder ∙ deleted n other;
+}
+
+pub was_deleted : (size : ℕ) (name : List ℕ) (before after : List Pass) (rows : List Row) (row : Row)
+    → HasFolder size before rows → IsRowOf name rows row → 1 < row.number → file_at row.number after ≡ None
+    → ((n : ℕ) → n ≢ row.number → file_at n after ≡ file_at n before) → WasDeleted size name before after
+was_deleted size name before after rows row had named past gone deleted = record {
+  rows = rows;
+  had_folder = had;
+  row = row;
+  named = named;
+  has_folder = record { folder = had.folder; here = deleted 1 (λ e. omega arith) ∙ had.here; spelled = had.spelled };
+  gone = gone;
+  others = deleted;
 }
 
 pub was_renamed : (size : ℕ) (name to : List ℕ) (before after : List Pass) (rows renamed : List Row)

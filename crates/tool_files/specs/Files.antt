@@ -67,6 +67,16 @@ pub record WasRemoved (size : ℕ) (name : List ℕ) (before after : List Pass) 
   pub gone : file_at row.number after ≡ None
   pub others : (n : ℕ) → n ≢ 1 → n ≢ row.number → file_at n after ≡ file_at n before
 
+-- the name's file is gone from the passes, and all others are as they were, so the folder still has the name
+pub record WasDeleted (size : ℕ) (name : List ℕ) (before after : List Pass) : Type 0 where
+  pub rows : List Row
+  pub had_folder : HasFolder size before rows
+  pub row : Row
+  pub named : IsRowOf name rows row
+  pub has_folder : HasFolder size after rows
+  pub gone : file_at row.number after ≡ None
+  pub others : (n : ℕ) → n ≢ row.number → file_at n after ≡ file_at n before
+
 -- the folder has another name for the file, which no row had, and all files are as they were
 pub record WasRenamed (size : ℕ) (name to : List ℕ) (before after : List Pass) : Type 0 where
   pub rows : List Row

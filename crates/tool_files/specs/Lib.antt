@@ -1,3 +1,5 @@
 pub mod Content
 pub mod Files
+pub mod Kept
+pub mod Left
 pub mod Many

@@ -1,10 +1,11 @@
 //! Bytes to whole blocks of a file, and back.
-ghost use Rattle.std.specs.Prelude.{◌≡◌, ◌<◌, ◌≤◌, ◌-◌, ◌++◌, ◌⊎◌, length, replicate, IfOk, IfErr, OnOk};
+ghost use Rattle.std.specs.Prelude.{◌≡◌, ◌<◌, ◌≤◌, ◌-◌, ◌++◌, ◌⊎◌, length, replicate, true, IfOk, IfErr, OnOk};
+ghost use Rattle.flash_volume.specs.Worked.{IsOfCall};
 ghost use Rattle.geometry.specs.File.{bytes_at};
 ghost use Rattle.geometry.specs.Shape.{block_bytes};
 ghost use Rattle.geometry.specs.declared.error.Error.TheVariants.{Device, NoMemory};
 ghost use Rattle.image_reading.specs.Content.{all_bytes};
-ghost use Rattle.tool_files.specs.Content.{HasBytes};
+ghost use Rattle.tool_files.specs.Content.{HasBytes, IsBlockSet};
 
 use device::{Block, Meta};
 use file_cells::FilePass;
@@ -51,20 +52,30 @@ fn read_block<V: VolumeName, M: Meta, B: Block + Drop, R: Wait>(
     Ok(())
 }
 
+/// Which blocks of a file are written.
+#[derive(Clone, Copy, Debug, PartialEq, Eq)]
+pub(crate) enum Blocks {
+    All,
+    /// Those that have other bytes, or are not there.
+    Changed,
+}
+
 /// A file becomes these bytes, with zeros behind them to the end of the last block. What the file is after an error is not said.
 ///
-/// Answers TooFar where the bytes are more than a file has room for, and else what a write or a cut of the volume answers.
+/// Answers TooFar where the bytes are more than a file has room for, and else what a read, a write or a cut of the volume answers.
 pub(crate) fn write_all<V: VolumeName, M: Meta, B: Block + Drop, R: Wait>(
     rt: &R,
     alloc: Global,
     volume: &Volume<V, M, B>,
     pass: &mut FilePass<V>,
     bytes: &[u8],
+    blocks: Blocks,
     now: u64,
 ) -> Result<(), Error>
     ensures bytes { OnOk result (HasBytes (block_bytes V.Numbers.geometry.shape) bytes.now pass.new.file) }
     ensures number { pass.new.number ≡ pass.old.number }
     ensures kind { pass.new.file.kind ≡ pass.old.file.kind }
+    ensures error { IfErr result IsOfCall }
 {
     let size = volume.geometry().shape.block_bytes() as usize;
     let mut index = 0u32;
@@ -72,7 +83,16 @@ pub(crate) fn write_all<V: VolumeName, M: Meta, B: Block + Drop, R: Wait>(
     while !rest.is_empty() {
         let (front, behind) = rest.split_at(size.min(rest.len()));
         let block = padded(alloc, front, size)?;
-        volume.write(rt, pass, index, block.as_slice(), now)?;
+        write_block(
+            rt,
+            alloc,
+            volume,
+            pass,
+            index,
+            block.as_slice(),
+            blocks,
+            now,
+        )?;
         let Some(next) = index.checked_add(1) else {
             return Err(Error::TooFar);
         };
@@ -80,6 +100,51 @@ pub(crate) fn write_all<V: VolumeName, M: Meta, B: Block + Drop, R: Wait>(
         rest = behind;
     }
     volume.cut(rt, pass, index)
+}
+
+// A block of a file, or the one behind its last, becomes these bytes. Where only changed blocks are written, it is read before.
+fn write_block<V: VolumeName, M: Meta, B: Block + Drop, R: Wait>(
+    rt: &R,
+    alloc: Global,
+    volume: &Volume<V, M, B>,
+    pass: &mut FilePass<V>,
+    index: u32,
+    block: &[u8],
+    blocks: Blocks,
+    now: u64,
+) -> Result<(), Error>
+    requires reaches { index ≤ pass.old.file.length }
+    requires block { length block.now ≡ block_bytes V.Numbers.geometry.shape }
+    ensures set { OnOk result (IsBlockSet (block_bytes V.Numbers.geometry.shape) index block.now pass.old.file pass.new.file) }
+    ensures number { pass.new.number ≡ pass.old.number }
+    ensures kind { pass.new.file.kind ≡ pass.old.file.kind }
+    ensures error { IfErr result IsOfCall }
+{
+    if blocks == Blocks::Changed && has_block(rt, alloc, volume, pass, index, block)? {
+        return Ok(());
+    }
+    volume.write(rt, pass, index, block, now)
+}
+
+// Whether a file has these bytes as its block at an index. Answers NoMemory, or Device where the device failed.
+fn has_block<V: VolumeName, M: Meta, B: Block + Drop, R: Wait>(
+    rt: &R,
+    alloc: Global,
+    volume: &Volume<V, M, B>,
+    pass: &FilePass<V>,
+    index: u32,
+    block: &[u8],
+) -> Result<bool, Error>
+    requires block { length block.now ≡ block_bytes V.Numbers.geometry.shape }
+    ensures below { IfOk result (λ has. has ≡ true → index < pass.now.file.length) }
+    ensures bytes { IfOk result (λ has. has ≡ true → bytes_at (block_bytes V.Numbers.geometry.shape) pass.now.file index ≡ block.now) }
+    ensures error { IfErr result (λ error. (error ≡ NoMemory) ⊎ (error ≡ Device)) }
+{
+    let mut held = vec![in alloc; 0u8; block.len()]?;
+    if !volume.read(rt, pass, index, held.as_mut_slice())? {
+        return Ok(false);
+    }
+    Ok(held.as_slice() == block)
 }
 
 // The bytes, with zeros behind them to this length.

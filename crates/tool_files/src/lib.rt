@@ -1,15 +1,17 @@
 //! Named files of bytes on a volume: what each command of the tool does with them, as work over the front door.
 //!
-//! The folder (`tool_folder`) is the file of number 1. No call but `Clean` writes a checkpoint, so that what a piece of work did is
-//! seen by a later run whole, once the volume is closed, or not at all.
+//! The folder (`tool_folder`) is the file of number 1. No call but `Clean` and `MakeRoom` writes a checkpoint, so that what a piece of
+//! work did is seen by a later run whole, once the volume is closed, or not at all.
 #![tactic(auto)]
 
 mod content;
 mod law;
+mod room;
 mod tidy;
 mod walk;
 mod work;
 
-pub use law::put_get_law;
+pub use law::{file_law, put_get_law, put_kept_law};
+pub use room::MakeRoom;
 pub use tidy::{Clean, Tidied};
-pub use work::{MakeFolder, NewFile, Put, PutAll, Remove, Rename};
+pub use work::{DeleteFile, MakeFolder, NewFile, Put, PutAll, Remove, Rename};

@@ -27,11 +27,14 @@ pub struct Clean {
 
 impl<M: Meta, B: Block + Drop> Work<M, B> for Clean {
     ghost use Rattle.std.specs.Prelude.{◌≡◌};
+    ghost use Rattle.flash_volume.specs.Worked.{IsOfCall};
 
     type Output = Tidied;
 
     // No file is changed.
     ghost post = { λ work geometry before tidied after. after ≡ before };
+
+    ghost failed = { λ work geometry before error. IsOfCall error };
 
     fn run<V: VolumeName, R: Wait>(
         self,

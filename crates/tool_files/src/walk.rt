@@ -1,12 +1,13 @@
 //! The files of the passes, and the folder among them.
 ghost use Rattle.std.specs.Prelude.{◌≡◌, ◌≢◌, ◌<◌, ◌⊎◌, ℕ, List, None, All, length, map, true, IfOk, IfErr, IfSome, IfNone, OnOk};
+ghost use Rattle.flash_volume.specs.Worked.{IsOfCall};
 ghost use Rattle.geometry.specs.Shape.{block_bytes};
 ghost use Rattle.geometry.specs.declared.error.Error.TheVariants.{Device, NoMemory};
 ghost use Rattle.tool_files.specs.Files.{file_at, HasFolder, IsPlace, IsThere};
 ghost use Rattle.tool_folder.specs.Folder.{Row, IsRow};
 ghost use Rattle.tool_folder.specs.Rows.{row_of};
 
-use crate::content::{read_all, write_all};
+use crate::content::{Blocks, read_all, write_all};
 use device::{Block, Meta};
 use file_cells::FilePass;
 use geometry::Error;
@@ -62,8 +63,8 @@ pub(crate) fn read_folder<V: VolumeName, M: Meta, B: Block + Drop, R: Wait>(
     }
 }
 
-/// The folder becomes these rows, and no other file changes. What it is after an error is not said. The answers are those of
-/// `write_all`; NoFile where there is no folder's file.
+/// The folder becomes these rows, and no other file changes. Its blocks that are as they were are not written. What it is after an error
+/// is not said. The answers are those of `write_all`; NoFile where there is no folder's file.
 pub(crate) fn write_folder<V: VolumeName, M: Meta, B: Block + Drop, R: Wait>(
     rt: &R,
     alloc: Global,
@@ -75,12 +76,21 @@ pub(crate) fn write_folder<V: VolumeName, M: Meta, B: Block + Drop, R: Wait>(
     requires rows { All IsRow (map row_of entries.now) }
     ensures folder { OnOk result (HasFolder (block_bytes V.Numbers.geometry.shape) passes.new (map row_of entries.now)) }
     ensures others { (n : ℕ) → n ≢ 1 → file_at n passes.new ≡ file_at n passes.old }
+    ensures error { IfErr result IsOfCall }
 {
     match place_of(passes, FOLDER) {
         Some(place) => {
             let bytes = encode(alloc, entries)?;
             let pass = &mut passes[place];
-            write_all(rt, alloc, volume, pass, bytes.as_slice(), now)
+            write_all(
+                rt,
+                alloc,
+                volume,
+                pass,
+                bytes.as_slice(),
+                Blocks::Changed,
+                now,
+            )
         }
         None => Err(Error::NoFile),
     }

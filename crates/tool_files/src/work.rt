@@ -8,5 +8,5 @@ mod rename;
 pub use make_folder::MakeFolder;
 pub use put::Put;
 pub use put_all::{NewFile, PutAll};
-pub use remove::Remove;
+pub use remove::{DeleteFile, Remove};
 pub use rename::Rename;

@@ -1,12 +1,16 @@
-//! Crashes in the middle of a put: each state that an image file can be left in, mounted again.
+//! Crashes in the middle of a put and of a removal: each state that an image file can be left in, mounted again.
 //!
-//! The store under the volume records each call of a put. A crash may come after any of them; what was written since the last settle is
-//! then kept, lost, torn or garbage. Each image made so is mounted: the other file must have its bytes, and the file that was put
-//! those from before or from after. That the test sees a bad state is seen where no settle counts.
+//! The store under the volume records each call. A crash may come after any of them; what was written since the last settle is then kept,
+//! lost, torn or garbage. Each image made so is mounted: the other file must have its bytes, and the file that was put those from before
+//! or from after. That the test sees a bad state is seen where no settle counts. A removal that deletes the file first may leave its
+//! name too, and then a next one takes it away.
 mod fates;
 mod recorder;
+mod removal;
+mod scene;
 mod trial;
 
+use removal::Removal;
 use std::io::Write;
 use std::sync::Wait;
 use tool_words::Fault;
@@ -25,8 +29,30 @@ pub fn try_states<R: AllocGlobal + Wait, O: Write>(
     writeln!(out, "one put makes {} calls of its store", trial.calls())?;
     tell(out, "as settled", counts)?;
     tell(out, "as if no settle counted", unsettled)?;
-    let is_good = counts.bad == 0 && counts.old > 0 && counts.new > 0 && unsettled.bad > 0;
-    Ok(u8::from(!is_good))
+    let is_put = counts.bad == 0 && counts.old > 0 && counts.new > 0 && unsettled.bad > 0;
+    let is_removed = try_removal(rt, picks, out)?;
+    Ok(u8::from(!is_put || !is_removed))
+}
+
+// Tries all states of a removal, and answers whether none is bad, and each other kind is there.
+fn try_removal<R: AllocGlobal + Wait, O: Write>(
+    rt: &R,
+    picks: u64,
+    out: &mut O,
+) -> Result<bool, Fault> {
+    let removal = Removal::record(rt)?;
+    let left = removal.count(rt, picks)?;
+    writeln!(
+        out,
+        "one removal, the file first, makes {} calls of its store",
+        removal.calls()
+    )?;
+    writeln!(
+        out,
+        "as settled: {} states have the file, {} its name alone, {} neither, {} are bad",
+        left.file, left.name, left.neither, left.bad
+    )?;
+    Ok(left.bad == 0 && left.file > 0 && left.name > 0 && left.neither > 0)
 }
 
 fn tell<O: Write>(out: &mut O, of: &str, counts: Counts) -> Result<(), Fault> {

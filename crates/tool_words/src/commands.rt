@@ -1,11 +1,13 @@
 //! What each command does.
+use crate::asking::{ask_to_put, ask_to_remove, ask_to_rename};
 use crate::check::check;
 use crate::command_line::{Numbers, Task, Words};
 use crate::draw::draw;
 use crate::fault::Fault;
 use crate::folders::dump;
-use crate::image_run::{image_length, now, open_volume, put_making_room, read_image, run};
+use crate::image_run::{image_length, now, open_volume, read_image, run};
 use crate::importing::import;
+use crate::making_room::{put_making_room, remove_making_room, rename_making_room};
 use crate::screen::Screen;
 use crate::stat::{list, stat};
 use crate::svg::draw_svg;
@@ -39,19 +41,8 @@ pub fn obey<R: Runtime + AllocGlobal + Wait + Files<File = File>, I: Read, O: Wr
             told?;
         }
         Task::Get { name, number } => get(rt, image, name, number, out)?,
-        Task::Remove { name } => run(rt, image, Leave::Close, Remove { name, now: now(rt) })??,
-        Task::Rename { name, to } => {
-            run(
-                rt,
-                image,
-                Leave::Close,
-                Rename {
-                    name,
-                    to,
-                    now: now(rt),
-                },
-            )??;
-        }
+        Task::Remove { name } => remove(rt, image, name)?,
+        Task::Rename { name, to } => rename(rt, image, name, to)?,
         Task::List { json } => list(rt, image, json, out)?,
         Task::Clean { background } => clean(rt, screen, image, background, out, errors)?,
         Task::Stat { json } => stat(rt, image, json, out)?,
@@ -105,6 +96,7 @@ fn put<R: Runtime + AllocGlobal + Wait + Files<File = File>, I: Read, O: Write>(
     // No file is as long as the image.
     let mut bytes = Vec::new(rt.alloc());
     input.by_ref().take(length).read_to_end(&mut bytes)?;
+    ask_to_put(rt, image)?;
     if bytes.len() as u64 >= length {
         return Err(Fault::TooLong);
     }
@@ -116,6 +108,35 @@ fn put<R: Runtime + AllocGlobal + Wait + Files<File = File>, I: Read, O: Write>(
     };
     let (_parts, number) = put_making_room(rt, parts, work)?;
     writeln!(out, "file {} has {} bytes: {name}", number?, bytes.len())?;
+    Ok(())
+}
+
+fn remove<R: Runtime + AllocGlobal + Wait + Files<File = File>>(
+    rt: &R,
+    image: &str,
+    name: &str,
+) -> Result<(), Fault> {
+    ask_to_remove(rt, image, name)?;
+    let parts = open_image(rt, rt.alloc(), image)?;
+    let work = Remove { name, now: now(rt) };
+    remove_making_room(rt, parts, work)??;
+    Ok(())
+}
+
+fn rename<R: Runtime + AllocGlobal + Wait + Files<File = File>>(
+    rt: &R,
+    image: &str,
+    name: &str,
+    to: &str,
+) -> Result<(), Fault> {
+    ask_to_rename(rt, image, name, to)?;
+    let parts = open_image(rt, rt.alloc(), image)?;
+    let work = Rename {
+        name,
+        to,
+        now: now(rt),
+    };
+    rename_making_room(rt, parts, work)??;
     Ok(())
 }
 

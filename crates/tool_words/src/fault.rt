@@ -16,6 +16,10 @@ const MISUSED: u8 = 2;
 /// A file or a stream failed, or there was no memory.
 const FAILED: u8 = 4;
 
+/// What is said where a file is gone and its name is not.
+const NAME_STAYS: &str =
+    "the file is gone, and its name stays in the folder; rm another file, then this name again";
+
 /// Why the program stops.
 #[derive(Debug, Drop)]
 pub enum Fault {
@@ -39,6 +43,8 @@ pub enum Fault {
     Volume(Error),
     /// A command on names was refused.
     Name(Refusal),
+    /// A file was deleted, and then its name could not be removed.
+    NameStays(Error),
 }
 
 impl From<FileFault> for Fault {
@@ -118,6 +124,7 @@ impl Fault {
             Fault::Image(error) => writeln!(errors, "the image file: {error}"),
             Fault::Volume(error) => writeln!(errors, "{error}; {}", advice(*error)),
             Fault::Name(refusal) => writeln!(errors, "{refusal}; {}", name_advice(*refusal)),
+            Fault::NameStays(error) => writeln!(errors, "{error}; {NAME_STAYS}"),
             other => writeln!(errors, "{}", other.text()),
         };
         self.status()
@@ -141,11 +148,15 @@ impl Fault {
         match self {
             Fault::NoWords => MISUSED,
             Fault::Stream(_) | Fault::Image(_) | Fault::Busy => FAILED,
-            Fault::Volume(Error::NoMemory) => FAILED,
-            Fault::Volume(Error::Device) => FAILED,
+            Fault::Volume(error) | Fault::NameStays(error) if is_failure(*error) => FAILED,
             _ => REFUSED,
         }
     }
+}
+
+// Whether the device failed, or there was no memory.
+fn is_failure(error: Error) -> bool {
+    matches!(error, Error::NoMemory | Error::Device)
 }
 
 // What can be done about a refusal of a volume.
@@ -178,7 +189,7 @@ fn name_advice(refusal: Refusal) -> &'static str {
         Refusal::BadName => "give another name",
         Refusal::NoSuchFile => "ls shows what there is",
         Refusal::LostFile =>
-            "another program deleted it; ls shows 0 blocks at its name: rm that name first",
+            "another program deleted it, or an rm was cut off; ls tells its name: rm that name first",
         Refusal::NameTaken => "rm that file first, or give another name",
     }
 }

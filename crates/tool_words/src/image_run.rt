@@ -1,10 +1,7 @@
 //! Work on the volume of an image file.
-ghost use Rattle.std.specs.Prelude.{ℕ, IfOk};
-ghost use Rattle.device.specs.Parts.{IsBlockRun};
-
 use crate::fault::Fault;
 use file_device::{FileBlock, FileMeta, open_image};
-use flash_volume::{Block, Error, Geometry, Leave, Meta, Parts, Policy, Stage, Work, work_on};
+use flash_volume::{Geometry, Leave, Work, work_on};
 use image::Image;
 use image_reading::FileSource;
 use packs_format::ReadImage;
@@ -13,11 +10,7 @@ use std::fs::{File, Files};
 use std::io::Read;
 use std::sync::Wait;
 use std::time::{Clock, SystemTime};
-use tool_files::{Clean, Put};
-use tool_reading::{OpenVolume, Refusal};
-
-/// The most sections that are cleaned to make room.
-const MOST_SECTIONS: u32 = 4096;
+use tool_reading::OpenVolume;
 
 /// Does work on the volume of an image file, and leaves it. The file is locked meanwhile.
 pub fn run<
@@ -27,33 +20,6 @@ pub fn run<
     let parts = open_image(rt, rt.alloc(), image)?;
     let done = work_on(rt, rt.alloc(), parts, leave, work)?;
     Ok(done.output)
-}
-
-/// Puts a file. Where the log is full the volume is cleaned, and then it is tried once more. The parts come back.
-pub fn put_making_room<M: Meta + Drop, B: Block + Drop, R: AllocGlobal + Wait>(
-    rt: &R,
-    parts: Parts<M, B>,
-    put: Put<'_>,
-) -> Result<(Parts<M, B>, Result<u32, Refusal>), Fault>
-    requires run { (bytes : ℕ) × IsBlockRun B.address_of B.content_of bytes 1 parts.blocks.items }
-    ensures run { IfOk result (λ done. (bytes : ℕ) × IsBlockRun B.address_of B.content_of bytes 1 done.0.blocks.items) }
-{
-    match work_on(rt, rt.alloc(), parts, Leave::Close, put) {
-        Ok(done) => Ok((done.parts, done.output)),
-        Err(fault) => {
-            if fault.stage != Stage::Work || fault.error != Error::NoSpace {
-                return Err(Fault::from(fault));
-            }
-            let clean = Clean {
-                policy: Policy::Foreground,
-                most: MOST_SECTIONS,
-                now: put.now,
-            };
-            let cleaned = work_on(rt, rt.alloc(), fault.parts, Leave::Close, clean)?;
-            let done = work_on(rt, rt.alloc(), cleaned.parts, Leave::Close, put)?;
-            Ok((done.parts, done.output))
-        }
-    }
 }
 
 /// The bytes of an image file. Answers NotAFile where it is no ordinary file: a pipe would keep who opens it waiting.

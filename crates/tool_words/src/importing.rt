@@ -1,12 +1,14 @@
 //! The files of a folder of the system are put.
-ghost use Rattle.std.specs.Prelude.{ℕ, IfOk};
+ghost use Rattle.std.specs.Prelude.{ℕ, ◌<◌, IfOk, IfSome};
 ghost use Rattle.device.specs.Parts.{IsBlockRun};
 
+use crate::asking::ask_to_put;
 use crate::fault::Fault;
-use crate::image_run::{image_length, now, put_making_room};
+use crate::image_run::{image_length, now};
+use crate::making_room::put_making_room;
 use crate::screen::Screen;
 use file_device::open_image;
-use flash_volume::{Block, Leave, Meta, Parts, Stage, work_on};
+use flash_volume::{Block, Error, Leave, Meta, Parts, Stage, work_on};
 use std::alloc::{AllocError, Global};
 use std::cell::Cell;
 use std::fs;
@@ -32,6 +34,7 @@ pub fn import<R: Runtime + AllocGlobal + Wait + Files<File = File>, O: Write, E:
 ) -> Result<(), Fault> {
     let names = names_in(rt, folder)?;
     let most = image_length(rt, image)?;
+    ask_to_put(rt, image)?;
     let parts = open_image(rt, rt.alloc(), image)?;
     screen.tell(errors, "import", folder);
     let done = import_all(rt, parts, folder, names.as_slice(), most, out, errors);
@@ -153,7 +156,7 @@ fn put_front<M: Meta + Drop, B: Block + Drop, R: Runtime + AllocGlobal + Wait, O
     }
 }
 
-// Puts the files in front by one work, and answers how many: it ends before the first that is refused.
+// Puts the files in front by one work, and answers how many. Where the work is refused the volume is as it was, and fewer are put.
 fn put_at_once<M: Meta + Drop, B: Block + Drop, R: Runtime + AllocGlobal + Wait>(
     rt: &R,
     parts: Parts<M, B>,
@@ -162,47 +165,40 @@ fn put_at_once<M: Meta + Drop, B: Block + Drop, R: Runtime + AllocGlobal + Wait>
     requires run { (bytes : ℕ) × IsBlockRun B.address_of B.content_of bytes 1 parts.blocks.items }
     ensures run { IfOk result (λ done. (bytes : ℕ) × IsBlockRun B.address_of B.content_of bytes 1 done.0.blocks.items) }
 {
-    let count = Cell::new(0usize);
     let now = now(rt);
-    let work = PutAll {
-        files,
-        count: &count,
-        now,
-    };
-    let fault = match work_on(rt, rt.alloc(), parts, Leave::Close, work) {
-        Ok(done) => return Ok((done.parts, count.get())),
-        Err(fault) => fault,
-    };
-    if fault.stage != Stage::Work {
-        return Err(Fault::from(fault));
+    let mut parts = parts;
+    let mut most = files.len();
+    while most > 0 {
+        let (front, _behind) = files.split_at(most);
+        let count = Cell::new(0usize);
+        let work = PutAll {
+            files: front,
+            count: &count,
+            now,
+        };
+        let fault = match work_on(rt, rt.alloc(), parts, Leave::Close, work) {
+            Ok(done) => return Ok((done.parts, count.get())),
+            Err(fault) => fault,
+        };
+        let Some(fewer) = fewer_than(most, fault.stage, fault.error, count.get()) else {
+            return Err(Fault::from(fault));
+        };
+        parts = fault.parts;
+        most = fewer;
     }
-    // The volume is as it was: those before are put again, without the one that failed.
-    let (front, _behind) = files.split_at(count.get().min(files.len()));
-    put_again(rt, fault.parts, front, now)
+    Ok((parts, 0))
 }
 
-// Puts files that were put before the volume was given up, and answers how many.
-fn put_again<M: Meta + Drop, B: Block + Drop, R: Runtime + AllocGlobal + Wait>(
-    rt: &R,
-    parts: Parts<M, B>,
-    files: &[NewFile<'_>],
-    now: u64,
-) -> Result<(Parts<M, B>, usize), Fault>
-    requires run { (bytes : ℕ) × IsBlockRun B.address_of B.content_of bytes 1 parts.blocks.items }
-    ensures run { IfOk result (λ done. (bytes : ℕ) × IsBlockRun B.address_of B.content_of bytes 1 done.0.blocks.items) }
+// How many files are put where so many were refused: those before the one that failed, or half where the checkpoint had no room for all.
+fn fewer_than(most: usize, stage: Stage, error: Error, count: usize) -> Option<usize>
+    requires some { 0 < most }
+    ensures fewer { IfSome result (λ fewer. fewer < most) }
 {
-    if files.is_empty() {
-        return Ok((parts, 0));
+    match stage {
+        Stage::Work => Some(count.min(most - 1)),
+        Stage::Close if error == Error::NoSpace => Some(most / 2),
+        _ => None,
     }
-    let count = Cell::new(0usize);
-    let work = PutAll {
-        files,
-        count: &count,
-        now,
-    };
-    let done = work_on(rt, rt.alloc(), parts, Leave::Close, work)?;
-    done.output?;
-    Ok((done.parts, files.len()))
 }
 
 // Puts one file. Where it is refused it is named on `errors`.

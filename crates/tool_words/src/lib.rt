@@ -1,6 +1,7 @@
 //! The words of the tool `rusziveg`, and what each does: a call that takes the words, and the streams to read and write.
 #![tactic(auto)]
 
+mod asking;
 mod check;
 mod command_line;
 mod commands;
@@ -9,6 +10,7 @@ mod fault;
 mod folders;
 mod image_run;
 mod importing;
+mod making_room;
 mod run;
 mod screen;
 mod stat;

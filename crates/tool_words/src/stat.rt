@@ -1,7 +1,7 @@
 //! What a volume has, in numbers.
 use crate::fault::Fault;
 use crate::image_run::{open_volume, read_image};
-use flash_volume::Geometry;
+use flash_volume::{Geometry, usable_blocks};
 use image::Image;
 use serde::Serialize;
 use std::alloc::Global;
@@ -25,6 +25,10 @@ struct Facts {
     most_files: u32,
     nodes: u32,
     most_nodes: u32,
+    usable_bytes: u64,
+    used_bytes: u64,
+    free_bytes: u64,
+    kept_bytes: u64,
 }
 
 /// A file, by name where the folder has one, and in bytes or in blocks.
@@ -66,6 +70,11 @@ pub fn stat<R: AllocGlobal + Files<File = File>, O: Write>(
         facts.files, facts.most_files
     )?;
     writeln!(out, "nodes     {} of {}", facts.nodes, facts.most_nodes)?;
+    writeln!(
+        out,
+        "room      {} bytes for one file, {} used of {}, {} kept for cleaning",
+        facts.free_bytes, facts.used_bytes, facts.usable_bytes, facts.kept_bytes
+    )?;
     Ok(())
 }
 
@@ -79,6 +88,9 @@ fn facts_of(geometry: &Geometry, image: &Image) -> Facts {
             None => false,
         })
         .count();
+    let usable = usable_blocks(geometry);
+    let kept = geometry.blocks().saturating_sub(usable);
+    let free = data_blocks(geometry, usable.saturating_sub(image.total));
     Facts {
         version: image.version,
         block_bytes: geometry.shape.block_bytes(),
@@ -91,7 +103,26 @@ fn facts_of(geometry: &Geometry, image: &Image) -> Facts {
         most_files: geometry.files,
         nodes: u32::try_from(nodes).unwrap_or(u32::MAX),
         most_nodes: geometry.nodes,
+        usable_bytes: bytes_of(geometry, usable),
+        used_bytes: bytes_of(geometry, image.total),
+        free_bytes: bytes_of(geometry, free),
+        kept_bytes: bytes_of(geometry, kept),
     }
+}
+
+fn bytes_of(geometry: &Geometry, blocks: u32) -> u64 {
+    u64::from(blocks).saturating_mul(u64::from(geometry.shape.block_bytes()))
+}
+
+// How many of so many blocks one more file's data can have: the others are for its nodes, and for a block of the folder.
+fn data_blocks(geometry: &Geometry, blocks: u32) -> u32 {
+    let entries = geometry.shape.node_entries();
+    let direct = blocks.checked_div(entries).unwrap_or(0);
+    let indirect = direct.checked_div(entries).unwrap_or(0);
+    blocks
+        .saturating_sub(direct)
+        .saturating_sub(indirect)
+        .saturating_sub(6)
 }
 
 /// Lists the files: the named ones in the folder's order, and then the others.
@@ -113,12 +144,17 @@ pub fn list<R: AllocGlobal + Files<File = File>, O: Write>(
         .max()
         .unwrap_or(0);
     for row in &rows {
-        write_row(row, widest, out)?;
+        write_row(row, widest, has_file(&listing, row.number), out)?;
     }
     Ok(())
 }
 
-fn write_row<O: Write>(row: &Row<'_>, widest: usize, out: &mut O) -> Result<(), Fault> {
+fn write_row<O: Write>(
+    row: &Row<'_>,
+    widest: usize,
+    has_file: bool,
+    out: &mut O,
+) -> Result<(), Fault> {
     let name = row.name.unwrap_or("");
     if is_name(name) || name.is_empty() {
         write!(out, "{name}")?;
@@ -130,6 +166,8 @@ fn write_row<O: Write>(row: &Row<'_>, widest: usize, out: &mut O) -> Result<(), 
         write!(out, " ")?;
     }
     match row.bytes {
+        // Its file was deleted, and its name was not removed.
+        Some(_) if !has_file => writeln!(out, "  {:>18}  file {}", "is gone: rm it", row.number)?,
         Some(bytes) => writeln!(out, "  {bytes:>12} bytes  file {}", row.number)?,
         None => writeln!(out, "  {:>11} blocks  file {}", row.blocks, row.number)?,
     }
@@ -163,6 +201,10 @@ fn rows_of<'a>(alloc: Global, listing: &'a Listing) -> Result<Vec<Row<'a>>, Faul
         }
     }
     Ok(rows)
+}
+
+fn has_file(listing: &Listing, number: u32) -> bool {
+    listing.files.iter().any(|file| file.number == number)
 }
 
 fn blocks_of(listing: &Listing, number: u32) -> u32 {

@@ -1,6 +1,7 @@
 //! A section of the volume is cleaned, beside those who write and read its files.
-ghost use Rattle.std.specs.Prelude.{◌≡◌, ◌⊎◌, IfOk, IfErr};
+ghost use Rattle.std.specs.Prelude.{◌≡◌, ◌≢◌, ◌⊎◌, IfOk, IfErr};
 ghost use Rattle.geometry.specs.declared.error.Error.TheVariants.{NoMemory, Device, NoSpace, Wounded};
+ghost use Rattle.area.specs.declared.threading.Threading.TheVariants.{WhileReserveIsFull};
 ghost use Rattle.rights_permits.specs.Turns.{at_home};
 ghost use Rattle.cleaning.specs.Cleaning.{IsCleaned};
 
@@ -38,9 +39,11 @@ impl<V: VolumeName, M: Meta, B: Block + Drop> Volume<V, M, B> {
     ///
     /// Answers Wounded where a checkpoint failed while it was written, then NoMemory where a growth was refused, before any
     /// block is moved, NoSpace where no segment was free for the blocks, or Device where the device failed. What was moved
-    /// before a refusal stays moved.
+    /// before a refusal stays moved. A volume that threads only while its reserve is full is not refused NoSpace: the clean ends with
+    /// what it has moved.
     pub fn clean<R: Wait>(&self, rt: &R, policy: Policy, now: u64) -> Result<Cleaned, Error>
         ensures cleaned { IfOk result (λ c. IsCleaned V.Numbers.geometry policy now c.rows.items c.section c.moved c.gone) }
+        ensures goes_on { self.now.area.threading ≡ WhileReserveIsFull → IfErr result (λ error. error ≢ NoSpace) }
         ensures error { IfErr result (λ error. (error ≡ Wounded) ⊎ ((error ≡ NoMemory) ⊎ ((error ≡ Device) ⊎ (error ≡ NoSpace)))) }
     {
         let mut permit = self.area.turnstile().enter(rt)?;
@@ -59,6 +62,7 @@ impl<V: VolumeName, M: Meta, B: Block + Drop> Volume<V, M, B> {
         requires hand { hand.old ≡ at_home V.Books.books.book }
         ensures hand { hand.new ≡ hand.old }
         ensures cleaned { IfOk result (λ c. IsCleaned V.Numbers.geometry policy now c.rows.items c.section c.moved c.gone) }
+        ensures goes_on { self.now.area.threading ≡ WhileReserveIsFull → IfErr result (λ error. (error ≡ NoMemory) ⊎ (error ≡ Device)) }
         ensures error { IfErr result (λ error. (error ≡ NoMemory) ⊎ ((error ≡ Device) ⊎ (error ≡ NoSpace))) }
     {
         clean(rt, self.alloc, &self.area, self, hand, policy, now)

@@ -62,11 +62,12 @@ impl<V: VolumeName, M: Meta, B: Block + Drop> Volume<V, M, B> {
 
     /// The same volume, whose ordinary appends thread used segments by this rule from now on. One that was just made threads
     /// whenever it can.
-    pub fn with_threading(mut self, threading: Threading) -> Volume<V, M, B>
+    pub fn with_threading<R: Wait>(mut self, rt: &R, threading: Threading) -> Volume<V, M, B>
         ensures threading { result.area.threading ≡ threading }
         ensures base { result.base ≡ self.base }
     {
         self.area = self.area.with_threading(threading);
+        self.area.count_places(rt);
         self
     }
 

@@ -15,6 +15,7 @@ pub struct MakeFolder;
 
 impl<M: Meta, B: Block + Drop> Work<M, B> for MakeFolder {
     ghost use Rattle.std.specs.Prelude.{[]};
+    ghost use Rattle.flash_volume.specs.Worked.{IsOfCall};
     ghost use Rattle.geometry.specs.Shape.{block_bytes};
     ghost use Rattle.tool_files.specs.Files.{HasFolder};
 
@@ -22,6 +23,8 @@ impl<M: Meta, B: Block + Drop> Work<M, B> for MakeFolder {
 
     // There is a folder without rows.
     ghost post = { λ made geometry before output after. HasFolder (block_bytes geometry.shape) after [] };
+
+    ghost failed = { λ made geometry before error. IsOfCall error };
 
     fn run<V: VolumeName, R: Wait>(
         self,

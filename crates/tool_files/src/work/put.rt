@@ -1,12 +1,13 @@
 //! A file gets its bytes.
-ghost use Rattle.std.specs.Prelude.{◌≡◌, ◌<◌, ℕ, List, None, All, length, map, IfOk, IfSome, IfNone, OnOk};
+ghost use Rattle.std.specs.Prelude.{◌≡◌, ◌<◌, ℕ, List, None, All, length, map, IfOk, IfErr, IfSome, IfNone, OnOk};
+ghost use Rattle.flash_volume.specs.Worked.{IsOfCall};
 ghost use Rattle.geometry.specs.Shape.{block_bytes};
 ghost use Rattle.tool_files.specs.Files.{file_at, IsThere, WasWritten};
 ghost use Rattle.tool_folder.specs.Folder.{Row, IsRow};
 ghost use Rattle.tool_folder.specs.Names.{IsRowOf, IsRowPlace};
 ghost use Rattle.tool_folder.specs.Rows.{row_of};
 
-use crate::content::write_all;
+use crate::content::{Blocks, write_all};
 use crate::walk::{are_there, place_of, read_folder, write_folder};
 use device::{Block, Meta};
 use file_cells::FilePass;
@@ -33,6 +34,7 @@ pub struct Put<'a> {
 
 impl<'a, M: Meta, B: Block + Drop> Work<M, B> for Put<'a> {
     ghost use Rattle.std.specs.Prelude.{◌≡◌, MatchResult};
+    ghost use Rattle.flash_volume.specs.Worked.{IsOfCall};
     ghost use Rattle.geometry.specs.Shape.{block_bytes};
     ghost use Rattle.tool_files.specs.Files.{WasPut};
 
@@ -42,6 +44,8 @@ impl<'a, M: Meta, B: Block + Drop> Work<M, B> for Put<'a> {
     ghost post = { λ put geometry before output after. MatchResult output
         (λ number. WasPut (block_bytes geometry.shape) put.name.now put.bytes.now number before after)
         (λ refusal. after ≡ before) };
+
+    ghost failed = { λ put geometry before error. IsOfCall error };
 
     fn run<V: VolumeName, R: Wait>(
         self,
@@ -89,6 +93,7 @@ fn write_row<V: VolumeName, M: Meta, B: Block + Drop, R: Wait>(
     ensures past { IfOk result (λ number. 1 < number) }
     ensures kept { IfOk result (λ number. IfSome row (λ place. (name : List ℕ) → IsRowPlace name (map row_of entries.now) place → (found : Row) × IsRowOf name (map row_of entries.now) found × (found.number ≡ number))) }
     ensures made { IfOk result (λ number. IfNone row (file_at number passes.old.items ≡ None)) }
+    ensures error { IfErr result IsOfCall }
 {
     match row {
         Some(place) => {
@@ -111,11 +116,12 @@ fn write_file<V: VolumeName, M: Meta, B: Block + Drop, R: Wait>(
     now: u64,
 ) -> Result<(), Error>
     ensures written { OnOk result (WasWritten (block_bytes V.Numbers.geometry.shape) bytes.now number passes.old.items passes.new.items) }
+    ensures error { IfErr result IsOfCall }
 {
     match place_of(passes.as_slice(), number) {
         Some(place) => {
             let pass = &mut passes.as_mut_slice()[place];
-            write_all(rt, alloc, volume, pass, bytes, now)
+            write_all(rt, alloc, volume, pass, bytes, Blocks::All, now)
         }
         None => Err(Error::NoFile),
     }
@@ -134,6 +140,7 @@ fn write_new<V: VolumeName, M: Meta, B: Block + Drop, R: Wait>(
     ensures written { IfOk result (λ number. WasWritten (block_bytes V.Numbers.geometry.shape) bytes.now number passes.old.items passes.new.items) }
     ensures past { IfOk result (λ number. 1 < number) }
     ensures made { IfOk result (λ number. file_at number passes.old.items ≡ None) }
+    ensures error { IfErr result IsOfCall }
 {
     let mut pass = volume.create(rt, Kind::File)?;
     let number = pass.number();
@@ -141,7 +148,7 @@ fn write_new<V: VolumeName, M: Meta, B: Block + Drop, R: Wait>(
         // Nothing ties a new number to the passes, so it is compared; no pass has it.
         return Err(Error::NoFile);
     }
-    write_all(rt, alloc, volume, &mut pass, bytes, now)?;
+    write_all(rt, alloc, volume, &mut pass, bytes, Blocks::All, now)?;
     passes.push(pass)?;
     Ok(number)
 }

@@ -32,6 +32,7 @@ pub struct PutAll<'a, 'b, 'c> {
 
 impl<'a, 'b, 'c, M: Meta, B: Block + Drop> Work<M, B> for PutAll<'a, 'b, 'c> {
     ghost use Rattle.std.specs.Prelude.{◌≡◌, ℕ, MatchResult, take};
+    ghost use Rattle.flash_volume.specs.Worked.{IsOfCall};
     ghost use Rattle.geometry.specs.Shape.{block_bytes};
     ghost use Rattle.tool_files.specs.Many.{WerePut};
 
@@ -41,6 +42,8 @@ impl<'a, 'b, 'c, M: Meta, B: Block + Drop> Work<M, B> for PutAll<'a, 'b, 'c> {
     ghost post = { λ put geometry before output after. MatchResult output
         (λ _. WerePut (block_bytes geometry.shape) put.files.now before after)
         (λ refusal. (count : ℕ) × WerePut (block_bytes geometry.shape) (take count put.files.now) before after) };
+
+    ghost failed = { λ put geometry before error. IsOfCall error };
 
     fn run<V: VolumeName, R: Wait>(
         self,

@@ -21,6 +21,7 @@ pub struct Rename<'a> {
 
 impl<'a, M: Meta, B: Block + Drop> Work<M, B> for Rename<'a> {
     ghost use Rattle.std.specs.Prelude.{◌≡◌, MatchResult};
+    ghost use Rattle.flash_volume.specs.Worked.{IsOfCall};
     ghost use Rattle.geometry.specs.Shape.{block_bytes};
     ghost use Rattle.tool_files.specs.Files.{WasRenamed};
 
@@ -30,6 +31,8 @@ impl<'a, M: Meta, B: Block + Drop> Work<M, B> for Rename<'a> {
     ghost post = { λ rename geometry before output after. MatchResult output
         (λ _. WasRenamed (block_bytes geometry.shape) rename.name.now rename.to.now before after)
         (λ refusal. after ≡ before) };
+
+    ghost failed = { λ rename geometry before error. IsOfCall error };
 
     fn run<V: VolumeName, R: Wait>(
         self,

@@ -1,13 +1,16 @@
 //! What stands ready for the next words, and what a line does.
 use super::input::Input;
 use super::text::{word_at, words_of};
+use file_device::open_image;
+use flash_volume::{Leave, work_on};
 use std::alloc::Global;
-use std::fs::{File, Files, OpenOptions};
+use std::fs::{File, Files, OpenOptions, Permissions};
 use std::io::Write;
-use std::os::unix::fs::FileExt;
+use std::os::unix::fs::{FileExt, PermissionsExt};
 use std::rt::Runtime;
 use std::sync::Wait;
 use std::{fs, io};
+use tool_files::DeleteFile;
 use tool_words::{Screen, run_words};
 
 /// The input of the next words, and the file that is locked.
@@ -28,8 +31,9 @@ impl Stage {
     }
 
     /// Prints a line, and does what it says: `# ..` does nothing; `input WORD`, `many N` and `failing N` make the input of the words
-    /// that follow; `copy FROM TO`, `cut FILE N`, `spoil FILE N` (the byte at N becomes 2), `protect FILE`, `lock FILE` and `unlock FILE` do something to a file;
-    /// `rusziveg ..` are the tool's words.
+    /// that follow; `copy FROM TO`, `cut FILE N`, `spoil FILE N` (the byte at N becomes 2), `protect FILE`, `lock FILE` and `unlock FILE` do something to a file,
+    /// `hide FOLDER` lets nobody read a folder and `show FOLDER` everybody; `files FOLDER N` makes a folder of so many files;
+    /// `halve IMAGE NAME` leaves a removal of the name half done; `rusziveg ..` are the tool's words.
     pub fn step<R: Runtime + AllocGlobal + Wait + Files<File = File>, O: Write>(
         &mut self,
         rt: &R,
@@ -45,6 +49,8 @@ impl Stage {
             "input" => self.take_input(rt.alloc(), first.as_bytes(), false),
             "many" => self.take_many(rt.alloc(), first, false),
             "failing" => self.take_many(rt.alloc(), first, true),
+            "files" => make_files(rt, first, word_at(words, 2)),
+            "halve" => halve_removal(rt, first, word_at(words, 2)),
             "lock" => self.lock(rt, first),
             "unlock" => {
                 self.locked = None;
@@ -115,6 +121,38 @@ fn print_lines<O: Write>(out: &mut O, mark: &str, bytes: &[u8]) -> io::Result<()
     Ok(())
 }
 
+// Makes a folder of the system with so many files of 300 bytes. Their names are long, so that the folder of a volume has many blocks.
+fn make_files<R: Runtime + AllocGlobal + Files<File = File>>(
+    rt: &R,
+    folder: &str,
+    count: &str,
+) -> io::Result<()> {
+    fs::create_dir_all(rt, folder)?;
+    for number in 0..count.parse::<u16>().unwrap_or(0) {
+        let path = format!(in rt.alloc();
+            "{folder}/a-file-with-quite-a-long-name-for-its-size-{number}"
+        )?;
+        let mut file = File::create_new(rt, path.as_str())?;
+        file.write_all(&[b'f'; 300])?;
+    }
+    Ok(())
+}
+
+// Deletes the file of a name and leaves the name, as a removal does that a crash cuts off between the two.
+fn halve_removal<R: AllocGlobal + Wait + Files<File = File>>(
+    rt: &R,
+    image: &str,
+    name: &str,
+) -> io::Result<()> {
+    let Ok(parts) = open_image(rt, rt.alloc(), image) else {
+        return Err(io::Error::from(io::ErrorKind::NotFound));
+    };
+    match work_on(rt, rt.alloc(), parts, Leave::Close, DeleteFile { name }) {
+        Ok(_) => Ok(()),
+        Err(_) => Err(io::Error::from(io::ErrorKind::InvalidData)),
+    }
+}
+
 // Does something to a file before the words meet it.
 fn prepare<R: Files<File = File>>(rt: &R, verb: &str, path: &str, other: &str) -> io::Result<()> {
     let number = other.parse::<u64>().unwrap_or(0);
@@ -130,6 +168,8 @@ fn prepare<R: Files<File = File>>(rt: &R, verb: &str, path: &str, other: &str) -
             permissions.set_readonly(true);
             fs::set_permissions(rt, path, permissions)
         }
+        "hide" => fs::set_permissions(rt, path, Permissions::from_mode(0o333)),
+        "show" => fs::set_permissions(rt, path, Permissions::from_mode(0o755)),
         _ => Ok(()),
     }
 }

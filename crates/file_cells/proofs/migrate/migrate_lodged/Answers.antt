@@ -44,7 +44,7 @@ pub migrate-done-requires-clause-bytes : goal.migrate-done-requires-clause-bytes
 migrate-done-requires-clause-bytes g c = c.requires.bytes ∙ ap block_bytes (sym c.requires.lodged.shape_is)
 
 -- what the file holds after the move is lodged
-held_again : (g : given.Over) (c : goal.After-lodge_all g) → AreHeld c.migrate-done.new.file c.lodge_all.new.file.tickets c.lodge_all.new.file.tokens
+held_again : (g : given.Over) (c : goal.After-recount_unless g) → AreHeld c.migrate-done.new.file c.lodge_all.new.file.tickets c.lodge_all.new.file.tokens
 held_again g c =
     let book = g.V.Books.BooksName.books.book in
     let a = c.args.account.now in

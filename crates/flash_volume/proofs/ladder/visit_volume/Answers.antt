@@ -1,7 +1,7 @@
 -- A mount leaves the blocks as they were: so what is visited is what the parts held.
 use Rattle.flash_volume.specs.Worked.{WasWorked}
 use Rattle.flash_volume.proofs.Visiting.{visited_on}
-use Rattle.flash_volume.proofs.Refused.{kept_back, moment_back}
+use Rattle.flash_volume.proofs.Refused.{found_back}
 use Rattle.flash_volume.proofs.Results.{ok_then}
 use Rattle.flash_volume.proofs.ladder.visit_volume.Goals as goal
 
@@ -10,20 +10,22 @@ returns-in-Ok-clause-done g c =
     let mounted = c.in-Ok.mounted in
     let found = c.in-Ok.ensures in
     ok_then c.on_mounted.result _ _
-    (λ left from. visited_on g.M.Meta.seen g.B.Block.address_of g.B.Block.content_of (λ geometry base before left. WasWorked g.M.Meta.seen g.M.Meta.may_leave g.B.Block.address_of g.B.Block.content_of (λ output after. g.X.Visit.did c.args.visit geometry base before output after) c.args.leave geometry left)
+    (λ left from. visited_on g.M.Meta.seen g.B.Block.address_of g.B.Block.content_of (λ geometry base before left. WasWorked g.M.Meta.seen g.M.Meta.may_leave g.B.Block.address_of g.B.Block.content_of (λ output after. g.X.Visit.did c.args.visit geometry base before output after) (λ error. g.X.Visit.failed c.args.visit geometry base before error) c.args.leave geometry left)
     mounted.geometry mounted.image mounted.parts.blocks.items c.args.parts left
     (record { size = found.size; held = record { front = found.front; tables = found.image.tables; nodes = found.image.nodes }; lawful = found.lawful })
     found.parts.contents from)
     c.on_mounted.ensures.done
 
-pub returns-in-Ok-clause-kept : goal.returns-in-Ok-clause-kept
-returns-in-Ok-clause-kept g c =
+pub returns-in-Ok-clause-handed_back : goal.returns-in-Ok-clause-handed_back
+returns-in-Ok-clause-handed_back g c =
+    let meta = g.M.Meta in
+    let block = g.B.Block in
     let mounted = c.in-Ok.mounted in
     let found = c.in-Ok.ensures in
-    kept_back g.M.Meta.seen c.args.parts.meta mounted.parts c.on_mounted.result c.on_mounted.ensures.back mounted.geometry mounted.image found.front found.image.tables
-    (found.held (g.M.Meta.seen mounted.parts.meta) (g.met.M.Meta.seen_is_left mounted.parts.meta))
+    found_back meta.seen meta.may_leave meta.moment meta.left_since meta.failed block.address_of block.content_of block.failed c.args.parts mounted.parts c.on_mounted.result mounted.geometry mounted.image
+    c.on_mounted.ensures.back c.on_mounted.ensures.error found.parts found.front found.image.tables (found.held (meta.seen mounted.parts.meta) (g.met.M.Meta.seen_is_left mounted.parts.meta)) found.any_moment
 
-pub returns-in-Ok-clause-any_moment : goal.returns-in-Ok-clause-any_moment
-returns-in-Ok-clause-any_moment g c =
-    let meta = g.M.Meta in
-    moment_back meta.seen c.args.parts.meta c.in-Ok.mounted.parts c.on_mounted.result c.on_mounted.ensures.back meta.may_leave meta.moment meta.left_since c.in-Ok.ensures.any_moment
+pub returns-in-Err-clause-handed_back : goal.returns-in-Err-clause-handed_back
+returns-in-Err-clause-handed_back g c =
+    let fault = c.in-Err.ensures in
+    record { refused = fault.refused; same = fault.back; kept = fault.kept; any_moment = fault.any_moment_err; device = fault.device }

@@ -1,10 +1,10 @@
 -- A mount of what the format left finds a volume of the same numbers and without files, and is refused for want of memory or by a
 -- failing device alone.
 use Rattle.std.proofs.Common.{inl, inr}
-use Rattle.flash_volume.specs.Beside.{AreDoneBeside}
-use Rattle.flash_volume.proofs.Results.{err_both, ok_then}
+use Rattle.flash_volume.specs.Beside.{AreDoneBeside, HaveFailed}
+use Rattle.flash_volume.proofs.Results.{err_both, err_then, ok_then}
 use Rattle.flash_volume.proofs.Same.{size_back}
-use Rattle.flash_volume.proofs.Working.{worked_on_new}
+use Rattle.flash_volume.proofs.Working.{so_on_new, worked_on_new}
 use Rattle.flash_volume.proofs.new.work_side_by_side_on_new.Goals as goal
 
 pub returns-in-Ok-clause-done : goal.returns-in-Ok-clause-done
@@ -25,10 +25,23 @@ returns-in-Ok-clause-early g c =
     let made = c.in-Ok.ensures.mountable in
     let found = c.mount_law.ensures.at_once c.args.geometry _ parts made in
     err_both c.work_side_by_side.result _ _ _
-    (λ fault not_format refused. elim [
+    (λ fault not_format handed. elim [
       | inl at_format ↦ absurd (not_format at_format)
-      | inr at_mount ↦ c.mount_law.ensures.refused c.args.geometry _ parts parts fault.error made found (refused at_mount)
-    ]) c.work_side_by_side.ensures.stage c.work_side_by_side.ensures.refused
+      | inr at_mount ↦ c.mount_law.ensures.refused c.args.geometry _ parts parts fault.error made found (handed at_mount).refused
+    ]) c.work_side_by_side.ensures.stage c.work_side_by_side.ensures.handed_back
+
+pub returns-in-Ok-clause-failed : goal.returns-in-Ok-clause-failed
+returns-in-Ok-clause-failed g c =
+    let parts = c.in-Ok.parts in
+    let made = c.in-Ok.ensures.mountable in
+    let found = c.mount_law.ensures.at_once c.args.geometry _ parts made in
+    err_then c.work_side_by_side.result _ _
+    (λ fault failed at_work.
+    let on = failed at_work in
+    so_on_new g.M.Meta.seen g.B.Block.address_of g.B.Block.content_of (λ geometry before. HaveFailed g.W.Work.failed geometry c.args.works.items before fault.error) c.args.geometry parts on
+    (c.format_law.ensures.numbers c.args.geometry on.geometry on.image parts parts made found on.held.held.front (record { tables = on.held.held.tables; nodes = on.held.held.nodes })).0
+    (c.format_law.ensures.no_file c.args.geometry on.geometry on.image parts parts made found on.held.held.front (record { tables = on.held.held.tables; nodes = on.held.held.nodes })))
+    c.work_side_by_side.ensures.failed
 
 pub returns-in-Ok-clause-size_back : goal.returns-in-Ok-clause-size_back
 returns-in-Ok-clause-size_back g c =
@@ -37,5 +50,5 @@ returns-in-Ok-clause-size_back g c =
     let made = c.in-Ok.ensures.mountable in
     let found = c.mount_law.ensures.at_once c.args.geometry _ parts made in
     err_both c.work_side_by_side.result _ _ _
-    (λ fault. size_back seen g.M.Meta.may_leave g.B.Block.address_of g.B.Block.content_of c.args.geometry parts fault.parts fault.stage (made.front (seen parts.meta) found.area) made.size)
-    c.work_side_by_side.ensures.same c.work_side_by_side.ensures.given_up
+    (λ fault handed given_up. size_back seen g.M.Meta.may_leave g.B.Block.address_of g.B.Block.content_of c.args.geometry parts fault.parts fault.stage (made.front (seen parts.meta) found.area) made.size (λ at_mount. (handed at_mount).same) given_up)
+    c.work_side_by_side.ensures.handed_back c.work_side_by_side.ensures.given_up

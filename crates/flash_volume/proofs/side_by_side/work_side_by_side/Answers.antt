@@ -1,58 +1,44 @@
 -- The visit does the works: so its promises are theirs, on what the parts held.
-use Rattle.std.proofs.Common.{◌∙◌, sym, subst}
-use Rattle.device.specs.declared.parts.Parts.{Parts}
-use Rattle.flash_volume.specs.Beside.{AreDoneBeside}
+use Rattle.flash_volume.specs.Beside.{AreDoneBeside, HaveFailed}
 use Rattle.flash_volume.proofs.Crewed.{as_worked}
+use Rattle.flash_volume.proofs.Refused.{handed_on}
 use Rattle.flash_volume.proofs.Same.{refused_run}
-use Rattle.mount_reading.specs.Held.{KeepsBetween, KeepsPack}
-use Rattle.flash_volume.proofs.Visiting.{IsWorked, fault_run, given_up, not_closed, not_format, not_mount, run_again, worked}
+use Rattle.flash_volume.proofs.Visiting.{failed, fault_run, given_up, not_closed, not_format, not_mount, run_again, worked}
 use Rattle.flash_volume.proofs.side_by_side.work_side_by_side.Goals as goal
 
 pub returns-in-Ok-clause-done : goal.returns-in-Ok-clause-done
-returns-in-Ok-clause-done g c = worked g.M.Meta.seen g.M.Meta.may_leave g.B.Block.address_of g.B.Block.content_of (λ geometry before outputs after. AreDoneBeside g.W.Work.post geometry c.args.works.items before outputs.items after) c.args.leave c.args.parts c.in-Ok.left (as_worked g.M.Meta.seen g.M.Meta.may_leave g.B.Block.address_of g.B.Block.content_of g.W.Work.post c.args.works c.args.leave c.args.parts c.in-Ok.left c.in-Ok.ensures.done)
+returns-in-Ok-clause-done g c = worked g.M.Meta.seen g.M.Meta.may_leave g.B.Block.address_of g.B.Block.content_of (λ geometry before outputs after. AreDoneBeside g.W.Work.post geometry c.args.works.items before outputs.items after) (λ geometry before error. HaveFailed g.W.Work.failed geometry c.args.works.items before error) c.args.leave c.args.parts c.in-Ok.left (as_worked g.M.Meta.seen g.M.Meta.may_leave g.B.Block.address_of g.B.Block.content_of g.W.Work.post g.W.Work.failed c.args.works c.args.leave c.args.parts c.in-Ok.left c.in-Ok.ensures.done)
 
 pub returns-in-Ok-clause-again : goal.returns-in-Ok-clause-again
-returns-in-Ok-clause-again g c = run_again g.M.Meta.seen g.M.Meta.may_leave g.B.Block.address_of g.B.Block.content_of (λ geometry before outputs after. AreDoneBeside g.W.Work.post geometry c.args.works.items before outputs.items after) c.args.leave c.args.parts c.in-Ok.left (as_worked g.M.Meta.seen g.M.Meta.may_leave g.B.Block.address_of g.B.Block.content_of g.W.Work.post c.args.works c.args.leave c.args.parts c.in-Ok.left c.in-Ok.ensures.done)
+returns-in-Ok-clause-again g c = run_again g.M.Meta.seen g.M.Meta.may_leave g.B.Block.address_of g.B.Block.content_of (λ geometry before outputs after. AreDoneBeside g.W.Work.post geometry c.args.works.items before outputs.items after) (λ geometry before error. HaveFailed g.W.Work.failed geometry c.args.works.items before error) c.args.leave c.args.parts c.in-Ok.left (as_worked g.M.Meta.seen g.M.Meta.may_leave g.B.Block.address_of g.B.Block.content_of g.W.Work.post g.W.Work.failed c.args.works c.args.leave c.args.parts c.in-Ok.left c.in-Ok.ensures.done)
 
 pub returns-in-Ok-clause-stage : goal.returns-in-Ok-clause-stage
-returns-in-Ok-clause-stage g c = not_format g.M.Meta.seen g.M.Meta.may_leave g.B.Block.address_of g.B.Block.content_of (λ geometry before outputs after. AreDoneBeside g.W.Work.post geometry c.args.works.items before outputs.items after) c.args.leave c.args.parts c.in-Ok.left (as_worked g.M.Meta.seen g.M.Meta.may_leave g.B.Block.address_of g.B.Block.content_of g.W.Work.post c.args.works c.args.leave c.args.parts c.in-Ok.left c.in-Ok.ensures.done)
+returns-in-Ok-clause-stage g c = not_format g.M.Meta.seen g.M.Meta.may_leave g.B.Block.address_of g.B.Block.content_of (λ geometry before outputs after. AreDoneBeside g.W.Work.post geometry c.args.works.items before outputs.items after) (λ geometry before error. HaveFailed g.W.Work.failed geometry c.args.works.items before error) c.args.leave c.args.parts c.in-Ok.left (as_worked g.M.Meta.seen g.M.Meta.may_leave g.B.Block.address_of g.B.Block.content_of g.W.Work.post g.W.Work.failed c.args.works c.args.leave c.args.parts c.in-Ok.left c.in-Ok.ensures.done)
 
-pub returns-in-Ok-clause-refused : goal.returns-in-Ok-clause-refused
-returns-in-Ok-clause-refused g c = not_mount g.M.Meta.seen g.M.Meta.may_leave g.B.Block.address_of g.B.Block.content_of (λ geometry before outputs after. AreDoneBeside g.W.Work.post geometry c.args.works.items before outputs.items after) c.args.leave c.args.parts c.in-Ok.left (as_worked g.M.Meta.seen g.M.Meta.may_leave g.B.Block.address_of g.B.Block.content_of g.W.Work.post c.args.works c.args.leave c.args.parts c.in-Ok.left c.in-Ok.ensures.done) _
-
-pub returns-in-Ok-clause-same : goal.returns-in-Ok-clause-same
-returns-in-Ok-clause-same g c = not_mount g.M.Meta.seen g.M.Meta.may_leave g.B.Block.address_of g.B.Block.content_of (λ geometry before outputs after. AreDoneBeside g.W.Work.post geometry c.args.works.items before outputs.items after) c.args.leave c.args.parts c.in-Ok.left (as_worked g.M.Meta.seen g.M.Meta.may_leave g.B.Block.address_of g.B.Block.content_of g.W.Work.post c.args.works c.args.leave c.args.parts c.in-Ok.left c.in-Ok.ensures.done) _
-
-pub returns-in-Ok-clause-kept : goal.returns-in-Ok-clause-kept
-returns-in-Ok-clause-kept g c = not_mount g.M.Meta.seen g.M.Meta.may_leave g.B.Block.address_of g.B.Block.content_of (λ geometry before outputs after. AreDoneBeside g.W.Work.post geometry c.args.works.items before outputs.items after) c.args.leave c.args.parts c.in-Ok.left (as_worked g.M.Meta.seen g.M.Meta.may_leave g.B.Block.address_of g.B.Block.content_of g.W.Work.post c.args.works c.args.leave c.args.parts c.in-Ok.left c.in-Ok.ensures.done) _
-
-pub returns-in-Ok-clause-any_moment : goal.returns-in-Ok-clause-any_moment
-returns-in-Ok-clause-any_moment g c = not_mount g.M.Meta.seen g.M.Meta.may_leave g.B.Block.address_of g.B.Block.content_of (λ geometry before outputs after. AreDoneBeside g.W.Work.post geometry c.args.works.items before outputs.items after) c.args.leave c.args.parts c.in-Ok.left (as_worked g.M.Meta.seen g.M.Meta.may_leave g.B.Block.address_of g.B.Block.content_of g.W.Work.post c.args.works c.args.leave c.args.parts c.in-Ok.left c.in-Ok.ensures.done) _
-
-pub returns-in-Ok-clause-device : goal.returns-in-Ok-clause-device
-returns-in-Ok-clause-device g c = not_mount g.M.Meta.seen g.M.Meta.may_leave g.B.Block.address_of g.B.Block.content_of (λ geometry before outputs after. AreDoneBeside g.W.Work.post geometry c.args.works.items before outputs.items after) c.args.leave c.args.parts c.in-Ok.left (as_worked g.M.Meta.seen g.M.Meta.may_leave g.B.Block.address_of g.B.Block.content_of g.W.Work.post c.args.works c.args.leave c.args.parts c.in-Ok.left c.in-Ok.ensures.done) _
+pub returns-in-Ok-clause-handed_back : goal.returns-in-Ok-clause-handed_back
+returns-in-Ok-clause-handed_back g c = not_mount g.M.Meta.seen g.M.Meta.may_leave g.B.Block.address_of g.B.Block.content_of (λ geometry before outputs after. AreDoneBeside g.W.Work.post geometry c.args.works.items before outputs.items after) (λ geometry before error. HaveFailed g.W.Work.failed geometry c.args.works.items before error) c.args.leave c.args.parts c.in-Ok.left (as_worked g.M.Meta.seen g.M.Meta.may_leave g.B.Block.address_of g.B.Block.content_of g.W.Work.post g.W.Work.failed c.args.works c.args.leave c.args.parts c.in-Ok.left c.in-Ok.ensures.done) _
 
 pub returns-in-Ok-clause-given_up : goal.returns-in-Ok-clause-given_up
-returns-in-Ok-clause-given_up g c = given_up g.M.Meta.seen g.M.Meta.may_leave g.B.Block.address_of g.B.Block.content_of (λ geometry before outputs after. AreDoneBeside g.W.Work.post geometry c.args.works.items before outputs.items after) c.args.leave c.args.parts c.in-Ok.left (as_worked g.M.Meta.seen g.M.Meta.may_leave g.B.Block.address_of g.B.Block.content_of g.W.Work.post c.args.works c.args.leave c.args.parts c.in-Ok.left c.in-Ok.ensures.done)
+returns-in-Ok-clause-given_up g c = given_up g.M.Meta.seen g.M.Meta.may_leave g.B.Block.address_of g.B.Block.content_of (λ geometry before outputs after. AreDoneBeside g.W.Work.post geometry c.args.works.items before outputs.items after) (λ geometry before error. HaveFailed g.W.Work.failed geometry c.args.works.items before error) c.args.leave c.args.parts c.in-Ok.left (as_worked g.M.Meta.seen g.M.Meta.may_leave g.B.Block.address_of g.B.Block.content_of g.W.Work.post g.W.Work.failed c.args.works c.args.leave c.args.parts c.in-Ok.left c.in-Ok.ensures.done)
 
 pub returns-in-Ok-clause-after_fault : goal.returns-in-Ok-clause-after_fault
-returns-in-Ok-clause-after_fault g c = fault_run g.M.Meta.seen g.M.Meta.may_leave g.B.Block.address_of g.B.Block.content_of (λ geometry before outputs after. AreDoneBeside g.W.Work.post geometry c.args.works.items before outputs.items after) c.args.leave c.args.parts c.in-Ok.left (as_worked g.M.Meta.seen g.M.Meta.may_leave g.B.Block.address_of g.B.Block.content_of g.W.Work.post c.args.works c.args.leave c.args.parts c.in-Ok.left c.in-Ok.ensures.done)
+returns-in-Ok-clause-after_fault g c = fault_run g.M.Meta.seen g.M.Meta.may_leave g.B.Block.address_of g.B.Block.content_of (λ geometry before outputs after. AreDoneBeside g.W.Work.post geometry c.args.works.items before outputs.items after) (λ geometry before error. HaveFailed g.W.Work.failed geometry c.args.works.items before error) c.args.leave c.args.parts c.in-Ok.left (as_worked g.M.Meta.seen g.M.Meta.may_leave g.B.Block.address_of g.B.Block.content_of g.W.Work.post g.W.Work.failed c.args.works c.args.leave c.args.parts c.in-Ok.left c.in-Ok.ensures.done)
 
 pub returns-in-Ok-clause-not_closed : goal.returns-in-Ok-clause-not_closed
-returns-in-Ok-clause-not_closed g c = not_closed g.M.Meta.seen g.M.Meta.may_leave g.B.Block.address_of g.B.Block.content_of (λ geometry before outputs after. AreDoneBeside g.W.Work.post geometry c.args.works.items before outputs.items after) c.args.leave c.args.parts c.in-Ok.left (as_worked g.M.Meta.seen g.M.Meta.may_leave g.B.Block.address_of g.B.Block.content_of g.W.Work.post c.args.works c.args.leave c.args.parts c.in-Ok.left c.in-Ok.ensures.done)
+returns-in-Ok-clause-not_closed g c = not_closed g.M.Meta.seen g.M.Meta.may_leave g.B.Block.address_of g.B.Block.content_of (λ geometry before outputs after. AreDoneBeside g.W.Work.post geometry c.args.works.items before outputs.items after) (λ geometry before error. HaveFailed g.W.Work.failed geometry c.args.works.items before error) c.args.leave c.args.parts c.in-Ok.left (as_worked g.M.Meta.seen g.M.Meta.may_leave g.B.Block.address_of g.B.Block.content_of g.W.Work.post g.W.Work.failed c.args.works c.args.leave c.args.parts c.in-Ok.left c.in-Ok.ensures.done)
+
+pub returns-in-Ok-clause-failed : goal.returns-in-Ok-clause-failed
+returns-in-Ok-clause-failed g c = failed g.M.Meta.seen g.M.Meta.may_leave g.B.Block.address_of g.B.Block.content_of (λ geometry before outputs after. AreDoneBeside g.W.Work.post geometry c.args.works.items before outputs.items after) (λ geometry before error. HaveFailed g.W.Work.failed geometry c.args.works.items before error) c.args.leave c.args.parts c.in-Ok.left (as_worked g.M.Meta.seen g.M.Meta.may_leave g.B.Block.address_of g.B.Block.content_of g.W.Work.post g.W.Work.failed c.args.works c.args.leave c.args.parts c.in-Ok.left c.in-Ok.ensures.done)
 
 pub returns-in-Err-clause-after_fault : goal.returns-in-Err-clause-after_fault
 returns-in-Err-clause-after_fault g c =
-    let back = c.in-Err.ensures.same in
+    let back = c.in-Err.ensures.handed_back.same in
     refused_run g.M.Meta.seen g.M.Meta.may_leave g.B.Block.address_of g.B.Block.content_of c.requires.run.0 c.args.parts.blocks.items c.in-Err.fault.parts c.unmounted.result.parts
     back.addresses back.contents c.requires.run.1 c.unmounted.ensures.parts
 
-pub returns-in-Err-clause-kept : goal.returns-in-Err-clause-kept
-returns-in-Err-clause-kept g c =
-    λ at other. subst (λ (parts : Parts g.row.M.Denot g.row.B.Denot). KeepsPack g.M.Meta.seen c.args.parts.meta parts.meta) (sym c.unmounted.ensures.parts)
-    (c.in-Err.ensures.kept (λ is. other (c.unmounted.ensures.error ∙ is)))
-
-pub returns-in-Err-clause-any_moment : goal.returns-in-Err-clause-any_moment
-returns-in-Err-clause-any_moment g c =
+pub returns-in-Err-clause-handed_back : goal.returns-in-Err-clause-handed_back
+returns-in-Err-clause-handed_back g c =
     let meta = g.M.Meta in
-    λ at. subst (λ (parts : Parts g.row.M.Denot g.row.B.Denot). KeepsBetween meta.seen meta.may_leave meta.moment meta.left_since c.args.parts.meta parts.meta) (sym c.unmounted.ensures.parts) c.in-Err.ensures.any_moment
+    let block = g.B.Block in
+    λ at. handed_on meta.seen meta.may_leave meta.moment meta.left_since meta.failed block.address_of block.content_of block.failed c.args.parts c.in-Err.fault.parts c.unmounted.result.parts
+    c.in-Err.fault.error c.unmounted.result.error c.unmounted.ensures.parts c.unmounted.ensures.error c.in-Err.ensures.handed_back

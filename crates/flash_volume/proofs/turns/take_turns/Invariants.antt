@@ -1,14 +1,16 @@
-use Rattle.std.proofs.Common.{List, [], map}
+use Rattle.std.proofs.Common.{List, [], map, vec_len}
 use Rattle.file_cells.specs.Pass.{Pass}
-use Rattle.flash_volume.specs.Turns.{Held, Lot}
 use Rattle.flash_volume.specs.declared.leave.Leave.{Leave}
+use Rattle.geometry.specs.declared.error.Error.{Error}
 use Rattle.flash_volume.proofs.turns.take_turns.Given as goal
 
--- The crew may have its turn with what it has; and what is promised from here on keeps what was promised at first.
+-- The crew may have its turn with what it has; what is promised from here on keeps what was promised at first, and fails only as was told at first.
 abbrev pub invariant-loop : goal.invariant-loop
 invariant-loop g l = record {
   fits : g.X.Crew.fits l.crew g.V.Numbers.GeometryName.geometry l.lent (map (λ end. record { what = end.done; held = end.lent }) l.ended.items);
+  may_fail : (error : Error) → g.X.Crew.failed l.crew g.V.Numbers.GeometryName.geometry l.fn.volume.base l.lent (map (λ end. record { what = end.done; held = end.lent }) l.ended.items) error
+      → g.X.Crew.failed l.fn.crew g.V.Numbers.GeometryName.geometry l.fn.volume.base (record { passes = l.fn.rights.passes.items; seats = vec_len l.fn.rights.seats; readers = [] }) [] error;
   keeps : (output : _) (leave : Leave) (after : List Pass)
       → g.X.Crew.did l.crew g.V.Numbers.GeometryName.geometry l.fn.volume.base l.lent (map (λ end. record { what = end.done; held = end.lent }) l.ended.items) output leave after
-      → g.X.Crew.did l.fn.crew g.V.Numbers.GeometryName.geometry l.fn.volume.base (record { passes = l.fn.rights.passes.items; readers = [] }) [] output leave after;
+      → g.X.Crew.did l.fn.crew g.V.Numbers.GeometryName.geometry l.fn.volume.base (record { passes = l.fn.rights.passes.items; seats = vec_len l.fn.rights.seats; readers = [] }) [] output leave after;
 }

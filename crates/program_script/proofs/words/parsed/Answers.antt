@@ -21,6 +21,8 @@ returns-in-Some-clause-asked g c =
       ap (option_map (λ p. p.0)) (sym met) ∙ name_met c.in_ok-matches.matches ∙ c.in-Some.ensures.found.0 refl,
       ap (option_and_then (λ p. first_of (codes "save") p.1)) (sym met) ∙ first_met (subcommand_rows_of c.in_ok-matches.matches) (codes "save") _ c.in-Some.ensures.rows
           ∙ sym (c.get_str.ensures ∙ first_value-rows (found_of c.in-Some.run'.now) (codes "save")),
+      ap (option_and_then (λ p. first_of (codes "threading") p.1)) (sym met) ∙ first_met (subcommand_rows_of c.in_ok-matches.matches) (codes "threading") _ c.in-Some.ensures.rows
+          ∙ sym (c.get_str-in-Some.ensures ∙ first_value-rows (found_of c.in-Some.run'.now) (codes "threading")),
     )
 
 pub returns-clause-asked : goal.returns-clause-asked

@@ -2,7 +2,7 @@
 use Rattle.std.proofs.Common.{◌≡◌, ◌∙◌, ◌++◌, ◌+◌, ◌-◌, ◌<◌, ◌≤◌, min, length, take, drop, replicate, ap, ap₂, sym, subst, refl, rules, arith}
 use Rattle.std.proofs.lemmas.Grind.{common_steps}
 use Rattle.std.proofs.lemmas.List.{take-append-drop, drop_all, nil_from_length}
-use Rattle.geometry.specs.File.{written, cut_to}
+use Rattle.geometry.specs.File.{cut_to}
 use Rattle.geometry.specs.Shape.{block_bytes}
 use Rattle.tool_files.specs.Content.{HasBytes}
 use Rattle.tool_folder.proofs.Cases.{on_ok}
@@ -34,14 +34,12 @@ loop-rest-preserved g c =
     let fits : length front ≤ size = omega (arith, n_is, long) in
     let cut : rest ≡ front ++ behind = sym (ap₂ (λ xs ys. xs ++ ys) front_is behind_is ∙ take-append-drop n rest) in
     let block_is : block ≡ front ++ replicate (size - length front) 0 = search rules in
-    let pass_is : c.write.new.pass ≡ record pass { file = written pass.file index block } = c.in_ok-write.ensures.file in
     let next : c.in-Some.next ≡ index + 1 = search rules in
-    let made = writing_goes_on size c.args.bytes.now rest front behind block pass.file index c.loop-rest.invariant.0 cut some fits
-    (λ short. behind_is ∙ drop_all n rest (omega (arith, n_is, long, short))) block_is in (
-      subst (λ file. Writing size c.args.bytes.now behind file c.in-Some.next) (sym (ap (λ p. p.file) pass_is))
-          (subst (Writing size c.args.bytes.now behind (written pass.file index block)) (sym next) made),
-      ap (λ p. p.number) pass_is ∙ c.loop-rest.invariant.1,
-      ap (λ p. p.file.kind) pass_is ∙ c.loop-rest.invariant.2,
+    let made = writing_goes_on size c.args.bytes.now rest front behind block pass.file c.write_block.new.pass.file index c.loop-rest.invariant.0
+    c.in_ok-write_block.ensures.set cut some fits (λ short. behind_is ∙ drop_all n rest (omega (arith, n_is, long, short))) block_is in (
+      subst (Writing size c.args.bytes.now behind c.write_block.new.pass.file) (sym next) made,
+      c.in_ok-write_block.ensures.number ∙ c.loop-rest.invariant.1,
+      c.in_ok-write_block.ensures.kind ∙ c.loop-rest.invariant.2,
     )
 
 pub returns-clause-bytes : goal.returns-clause-bytes

@@ -1,17 +1,18 @@
 -- The first turn deals the works, and the second one takes back what they made: so each did what it promises.
-use Rattle.std.proofs.Common.{◌≡◌, ◌∙◌, ◌++◌, List, Ok, IfOk, ap, map, refl, subst}
+use Rattle.std.proofs.Common.{◌≡◌, ◌∙◌, ◌++◌, List, Ok, IfOk, IfErr, ap, inl, inr, map, refl, subst}
 use Rattle.std.specs.List.{AllZip, flat_map}
 use Rattle.file_cells.specs.Pass.{Pass}
 use Rattle.flash_volume.specs.Beside.{AreDealt}
 use Rattle.flash_volume.specs.Turns.{Held}
 use Rattle.flash_volume.proofs.Dealing.{taken_back, zip_unmapped}
-use Rattle.flash_volume.proofs.Together.{done_beside}
+use Rattle.flash_volume.proofs.Together.{done_beside, one_failed}
 use Rattle.flash_volume.proofs.works.WorksCrew.turn.Goals as goal
 
-pub returns-in_ok-duties-in-Fresh : goal.returns-in_ok-duties-in-Fresh
-returns-in_ok-duties-in-Fresh g c =
+pub returns-in_ok-duties-in-Fresh-clause-done : goal.returns-in_ok-duties-in-Fresh-clause-done
+returns-in_ok-duties-in-Fresh-clause-done g c =
     let geometry = g.V.Numbers.GeometryName.geometry in
     let post = g.W.Work.post in
+    let failed = g.W.Work.failed in
     let works = c.in-Fresh.works.items in
     let duties = c.in_ok-duties-in-Fresh.duties.items in
     let rest = c.deal.new.rights.passes.items in
@@ -19,21 +20,32 @@ returns-in_ok-duties-in-Fresh g c =
     let mine : c.lent.inside.rights.passes.items ≡ before = ap (λ (v : Held). v.passes) c.lent.view_is in
     let dealt = subst (λ (ps : List Pass). AreDealt (map (λ beside. beside.files.items) works) ps (map (λ duty. duty.lent.passes) duties) rest) mine
     c.in_ok-duties-in-Fresh.ensures.passes in
+    let zips = zip_unmapped (λ part end. IfOk end.what (λ output. post part.what.work geometry part.held.passes output end.held.passes)
+    × IfErr end.what (λ error. failed part.what.work geometry part.held.passes error)) (λ duty. record { what = duty.part; held = duty.lent }) duties in
     record {
       may_run = λ k other within. tt;
       may_go_on = λ ended zip. tt;
       keeps = λ ended zip outputs leave after did.
           rw c.in-Fresh.is (
             did.0,
-            done_beside post geometry (λ duty. duty.part.work) (λ duty. duty.lent.passes) (λ end. end.what) (λ end. end.held.passes) works before duties rest ended outputs.items after
+            done_beside post failed geometry (λ duty. duty.part.work) (λ duty. duty.lent.passes) (λ end. end.what) (λ end. end.held.passes) works before duties rest ended outputs.items after
                 c.in_ok-duties-in-Fresh.ensures.works dealt
-                (zip_unmapped (λ part end. IfOk end.what (λ output. post part.what.work geometry part.held.passes output end.held.passes)) (λ duty. record { what = duty.part; held = duty.lent }) duties ended zip)
-                did.1 did.2,
+                (zips ended zip) did.1 did.2,
           );
+      may_fail = λ ended zip error why.
+          rw c.in-Fresh.is (elim why [
+            | inl no_memory ↦ inl no_memory
+            | inr lost ↦ inr (
+              map (λ duty. duty.lent.passes) duties,
+              rest,
+              dealt,
+              one_failed post failed geometry (λ duty. duty.part.work) (λ duty. duty.lent.passes) works duties ended error c.in_ok-duties-in-Fresh.ensures.works (zips ended zip) lost,
+            )
+          ]);
     }
 
-pub returns-in_ok-output-in-Dealt : goal.returns-in_ok-output-in-Dealt
-returns-in_ok-output-in-Dealt g c =
+pub returns-in_ok-output-in-Dealt-clause-done : goal.returns-in_ok-output-in-Dealt-clause-done
+returns-in_ok-output-in-Dealt-clause-done g c =
     let back = c.replace-back.result.items in
     let given = c.in_ok-output-in-Dealt.ensures in
     let same : back ≡ c.args.ended.now.items = ap (λ v. v.items) c.replace-back.ensures.value in

@@ -10,8 +10,8 @@ use Rattle.program_run.proofs.Turning.{goes_on, halted_behind, may_begin}
 use Rattle.program_run.proofs.crew.ScriptCrew.turn.Goals.{in-None, in-Some, in-Ok, in-Err}
 use Rattle.program_run.proofs.crew.ScriptCrew.turn.Goals as goal
 
-pub returns-in-Part : goal.returns-in-Part
-returns-in-Part g c =
+pub returns-in-Part-clause-done : goal.returns-in-Part-clause-done
+returns-in-Part-clause-done g c =
     let contents = g.O.Write.contents in
     let geometry = g.V.Numbers.GeometryName.geometry in
     let base = c.args.volume.now.base in
@@ -35,6 +35,7 @@ returns-in-Part g c =
           record {
             may_run = may_begin geometry 0 at.workers.items at.now duties at.rest at.given;
             may_go_on = λ ended did. goes_on (λ text. text.items) steps geometry first start told paused c.in-Part.run' c.in-Part.time duties kept at ended did;
+            may_fail = λ ended did error never. never;
             keeps = λ ended did output leave after next. (
               next.0,
               halted_behind (λ text. text.items) steps geometry first start told paused c.in-Part.run' c.in-Part.time duties kept at ended did self.begun self.carried
@@ -45,8 +46,8 @@ returns-in-Part g c =
       | in-Err w ↦ absurd (let no = sym w.turned-is ∙ c.in-Ok-turned.is in cc)
     ]
 
-pub returns-in-Halt : goal.returns-in-Halt
-returns-in-Halt g c =
+pub returns-in-Halt-clause-done : goal.returns-in-Halt-clause-done
+returns-in-Halt-clause-done g c =
     let contents = g.O.Write.contents in
     let geometry = g.V.Numbers.GeometryName.geometry in
     let self = c.args.self in
@@ -79,8 +80,8 @@ returns-in-Halt g c =
       | in-Err w ↦ absurd (let no = sym w.turned-is ∙ c.in-Ok-turned.is in cc)
     ]
 
-pub returns-in-Err-turned : goal.returns-in-Err-turned
-returns-in-Err-turned g c =
+pub returns-in-Err-turned-clause-done : goal.returns-in-Err-turned-clause-done
+returns-in-Err-turned-clause-done g c =
     let says : names_line c.in-Err-turned.stop ≡ false = elim c.match-begin.branch [
       | in-Ok w ↦ subst (λ r. IfErr r (λ stop. names_line stop ≡ false)) (sym w.turned-is ∙ c.in-Err-turned.is) w.run_steps-turned.ensures.err
       | in-Err w ↦ subst (λ r. IfErr r (λ stop. names_line stop ≡ false)) (sym w.turned-is ∙ c.in-Err-turned.is) w.in-Err.ensures.err

@@ -8,8 +8,8 @@ use Rattle.tool_folder.proofs.Cases.{on_ok}
 use Rattle.tool_folder.proofs.Updates.{written_back}
 use Rattle.tool_files.proofs.work.put.write_file.Goals as goal
 
-pub returns-in-Some : goal.returns-in-Some
-returns-in-Some g c =
+pub returns-in-Some-clause-written : goal.returns-in-Some-clause-written
+returns-in-Some-clause-written g c =
     let size = block_bytes g.V.Numbers.GeometryName.geometry.shape in
     let passes = c.args.passes.now.items in
     let place = c.in-Some.place in
@@ -19,8 +19,6 @@ returns-in-Some g c =
     let here : IsPlace c.args.number passes place = subst (λ ps. IsPlace c.args.number ps place) same c.in-Some.ensures.some in
     let same_mut : c.as_mut_slice.result.now ≡ passes = search rules in
     let number : new.number ≡ c.args.number = c.write_all.ensures.number ∙ ap (λ ps. (get_or ps place pass).number) same_mut ∙ number_at_place c.args.number passes place pass here in
-    record {
-      written = on_ok c.write_all.result (HasBytes size c.args.bytes.now new.file) _
-          (λ has. written_at size c.args.bytes.now c.args.number passes _ place new (written_back passes c.as_mut_slice.result.now _ _ place new same_mut (search rules)) here number has)
-          c.write_all.ensures.bytes;
-    }
+    on_ok c.write_all.result (HasBytes size c.args.bytes.now new.file) _
+    (λ has. written_at size c.args.bytes.now c.args.number passes _ place new (written_back passes c.as_mut_slice.result.now _ _ place new same_mut (search rules)) here number has)
+    c.write_all.ensures.bytes

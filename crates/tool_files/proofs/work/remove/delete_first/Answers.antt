@@ -3,11 +3,11 @@ use Rattle.tool_files.specs.Files.{file_at, IsPlace}
 use Rattle.tool_files.proofs.Updates.{remove_other}
 use Rattle.tool_files.proofs.work.remove.delete_first.Goals as goal
 
-pub returns-in-Ok : goal.returns-in-Ok
-returns-in-Ok g c =
+pub returns-in-Ok-clause-others : goal.returns-in-Ok-clause-others
+returns-in-Ok-clause-others g c =
     let passes = c.args.passes.now.items in
     let place = c.in-Some.place in
     let same : c.as_slice.result.now ≡ passes = search rules in
     let here : IsPlace c.args.number passes place = subst (λ ps. IsPlace c.args.number ps place) same c.in-Some.ensures.some in
     let items : c.remove-pass.new.self.items ≡ remove passes place = search rules in
-    record { others = λ n other. ap (file_at n) items ∙ remove_other c.args.number passes place here n other }
+    λ n other. ap (file_at n) items ∙ remove_other c.args.number passes place here n other

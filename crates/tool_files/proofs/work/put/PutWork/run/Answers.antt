@@ -32,8 +32,8 @@ write_folder-requires g c =
     let rows : All IsRow (map row_of c.put_row.new.entries.items) = c.in_ok-put_row.ensures.rows c.in_ok-number.ensures.past folder.spelled.are_rows in
     record { rows = into (λ es. All IsRow (map row_of es)) c.as_slice-5.result.now c.put_row.new.entries.items (search rules) rows }
 
-pub returns : goal.returns
-returns g c =
+pub returns-clause-done : goal.returns-clause-done
+returns-clause-done g c =
     let size = block_bytes g.V.Numbers.GeometryName.geometry.shape in
     let name = c.args.self.name.now in
     let bytes = c.args.self.bytes.now in

@@ -5,11 +5,11 @@ use Rattle.tool_files.proofs.work.put_all.PutAllWork.run.Goals as goal
 pub loop-file-preserved : goal.loop-file-preserved
 loop-file-preserved g c =
     let size = block_bytes g.V.Numbers.GeometryName.geometry.shape in
-    let put = rw c.in-Ok.is at c.in_ok-run.ensures in
+    let put = rw c.in-Ok.is at c.in_ok-run.ensures.done in
     one_more_put size c.args.self.files.now c.loop-file.file-index _ c.args.rights.now.passes.items c.loop-file.rights.passes.items c.run.new.rights.passes.items c.in-Ok.field-0
     c.loop-file-test.true c.loop-file.invariant put
 
-pub returns : goal.returns
-returns g c =
+pub returns-clause-done : goal.returns-clause-done
+returns-clause-done g c =
     all_were_put (block_bytes g.V.Numbers.GeometryName.geometry.shape) c.args.self.files.now c.loop-file.file-index c.args.rights.now.passes.items c.loop-file.rights.passes.items
     c.loop-file-test.false c.loop-file.invariant

@@ -7,7 +7,7 @@ use Rattle.tool_files.specs.Files.{file_at, HasFolder, WasRemoved}
 use Rattle.tool_folder.specs.Names.{IsRowPlace}
 use Rattle.tool_folder.specs.Rows.{row_of}
 use Rattle.tool_folder.proofs.Cases.{into, some_of}
-use Rattle.tool_files.proofs.Rows.{is_row_of}
+use Rattle.tool_files.proofs.Rows.{row_of_all}
 use Rattle.tool_files.proofs.Works.{was_removed}
 use Rattle.tool_files.proofs.work.remove.RemoveWork.run.Goals as goal
 
@@ -17,8 +17,8 @@ write_folder-requires g c =
     let folder = some_of (λ found. HasFolder size c.as_slice.result.now (map row_of found.items)) c.in_ok-entries.field-0 c.in-Some.entries c.in-Some.is c.in_ok-entries.ensures.some in
     record { rows = into (λ es. All IsRow (map row_of es)) c.as_slice-3.result.now c.take_row-number.new.entries.items (search rules) (c.take_row-number.ensures.rows folder.spelled.are_rows) }
 
-pub returns : goal.returns
-returns g c =
+pub returns-clause-done : goal.returns-clause-done
+returns-clause-done g c =
     let size = block_bytes g.V.Numbers.GeometryName.geometry.shape in
     let name = c.args.self.name.now in
     let before = c.args.rights.now.passes.items in
@@ -39,5 +39,5 @@ returns g c =
     let same_between : c.as_mut_slice-passes.result.now ≡ between = search rules in
     let others : (n : ℕ) → n ≢ 1 → file_at n after ≡ file_at n between = λ n other. c.in_ok-write_folder.ensures.others n other ∙ ap (file_at n) same_between in
     into (WasRemoved size name before) (take c.delete_file.new.passes.len (after ++ drop (length after) between)) after (take_at after (drop (length after) between) c.delete_file.new.passes.len (search rules))
-    (was_removed size name before between after rows left taken.0 had taken.2 (is_row_of name rows taken.0 folder.spelled.are_rows taken.2).not_folder
+    (was_removed size name before between after rows left taken.0 had taken.2 (row_of_all IsRow name rows taken.0 folder.spelled.are_rows taken.2).not_folder
     (c.take_row-number.ensures.removed name here) (ap (λ n. file_at n between) taken.1 ∙ c.in_ok-delete_file.ensures.gone) deleted has others)

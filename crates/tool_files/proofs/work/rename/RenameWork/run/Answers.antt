@@ -20,8 +20,8 @@ write_folder-requires g c =
     = c.in_ok-rename_row.ensures.rows (into (λ es. All IsRow (map row_of es)) c.as_mut_slice.result.now c.in-Some.entries.items same folder.spelled.are_rows) in
     record { rows = into (λ es. All IsRow (map row_of es)) c.as_slice-4.result.now c.rename_row.new.entries (c.as_slice-4.ensures.value ∙ take_at c.rename_row.new.entries (drop (length c.rename_row.new.entries) c.in-Some.entries.items) c.in-Some.entries.len (search rules)) rows }
 
-pub returns : goal.returns
-returns g c =
+pub returns-clause-done : goal.returns-clause-done
+returns-clause-done g c =
     let size = block_bytes g.V.Numbers.GeometryName.geometry.shape in
     let name = c.args.self.name.now in
     let to = c.args.self.to.now in

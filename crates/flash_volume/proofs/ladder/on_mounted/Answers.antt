@@ -1,0 +1,5 @@
+-- What was named is what was mounted.
+use Rattle.flash_volume.proofs.ladder.on_mounted.Goals as goal
+
+pub returns-in-Ok-clause-done : goal.returns-in-Ok-clause-done
+returns-in-Ok-clause-done g c = rw c.in-Ok.ensures.mounted at c.on_opened.ensures.done
