@@ -1,7 +1,10 @@
 //! Users of volumes by chance, at each share of the room that a volume tells, for as long as they like: no checkpoint, clean or close may
 //! be refused for want of room, a write that is refused goes on once room is made, and each file has what was written.
+ghost use Rattle.std.specs.Prelude.{ℕ};
+ghost use Rattle.device.specs.Parts.{IsBlockRun};
+
 use crate::users::turn::{Counts, Turn};
-use device::MemDevice;
+use device::{Block, MemDevice, Meta, Parts};
 use flash_volume::{Error, Geometry, Leave, Shape, usable_blocks, work_on, work_on_new};
 use program_trials::{Fault, User};
 use std::alloc::Global;
@@ -52,16 +55,34 @@ fn run_one<R: Wait>(rt: &R, alloc: Global, number: u32, counts: &mut Counts) -> 
         user: &mut user,
         counts: &mut *counts,
     };
-    let mut done = work_on_new(rt, alloc, parts, geometry, Leave::Close, turn)?;
+    let done = work_on_new(rt, alloc, parts, geometry, Leave::Close, turn)?;
+    if done.output {
+        return Ok(());
+    }
+    go_on(rt, alloc, done.parts, &mut user, counts)
+}
+
+// Mounts the device again and again, until all deeds are done.
+fn go_on<M: Meta + Drop, B: Block + Drop, R: Wait>(
+    rt: &R,
+    alloc: Global,
+    parts: Parts<M, B>,
+    user: &mut User,
+    counts: &mut Counts,
+) -> Result<(), Error>
+    requires { (bytes : ℕ) × IsBlockRun B.address_of B.content_of bytes 1 parts.blocks.items }
+{
+    let mut parts = parts;
     for _mount in 0..DEEDS {
+        let turn = Turn {
+            user: &mut *user,
+            counts: &mut *counts,
+        };
+        let done = work_on(rt, alloc, parts, Leave::Close, turn)?;
         if done.output {
             return Ok(());
         }
-        let turn = Turn {
-            user: &mut user,
-            counts: &mut *counts,
-        };
-        done = work_on(rt, alloc, done.parts, Leave::Close, turn)?;
+        parts = done.parts;
     }
     Ok(())
 }

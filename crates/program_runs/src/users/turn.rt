@@ -114,8 +114,8 @@ fn has_tags<V: VolumeName, M: Meta, B: Block + Drop, R: Wait>(
     pass: &FilePass<V>,
     tags: &[u32],
 ) -> Result<bool, Error> {
-    let mut held = vec![in alloc; 0; volume.geometry().shape.block_bytes() as usize]?;
     for (index, tag) in (0..u32::MAX).zip(tags) {
+        let mut held = vec![in alloc; 0; volume.geometry().shape.block_bytes() as usize]?;
         let is_there = volume.read(rt, pass, index, held.as_mut_slice())?;
         if !is_there || held.as_slice().get(..4) != Some(tag.to_le_bytes().as_slice()) {
             return Ok(false);
