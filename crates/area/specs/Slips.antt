@@ -32,7 +32,7 @@ pub record HaveFreed (segments count : ℕ) (old new : Account) (before after : 
 -- The pass took the slip of this segment, and nothing else: only who may draw on the reserve took it there.
 abbrev pub HasDrawn : Who → ℕ → Account → Account → Type 0
 HasDrawn Ordinary segment old new = new ≡ took_ordinary old segment
-HasDrawn Cleaning segment old new = (new ≡ took_ordinary old segment) ⊎ (new ≡ took_reserve old segment)
+HasDrawn (Cleaning address) segment old new = (new ≡ took_ordinary old segment) ⊎ (new ≡ took_reserve old segment)
 HasDrawn Checkpoint segment old new = (new ≡ took_ordinary old segment) ⊎ (new ≡ took_reserve old segment)
 
 -- A log has this open segment: the one that it had, and then its pass took nothing; or, where it had none, the one whose

@@ -11,7 +11,7 @@ use crate::log::Log;
 use crate::main_area::MainArea;
 use crate::threading::Threading;
 use device::Block;
-use geometry::{Error, Owner};
+use geometry::{Error, Geometry, Owner};
 use pool::Pool;
 use rights_books::Permit;
 use rights_names::VolumeName;
@@ -19,20 +19,33 @@ use std::sync::Wait;
 use tickets::Ticket;
 use words::FreeSlip;
 
-/// Which free segments an append may draw on.
+/// Who appends: which free segments it may draw on, and whether it may begin to fill the holes of a used one.
 #[derive(Clone, Copy, Debug, PartialEq, Eq)]
 pub enum Who {
-    /// Those of the ordinary queue.
+    /// A file's user. It draws on the ordinary queue.
     Ordinary,
-    /// Those of the ordinary queue, then those of the reserve.
-    Cleaning,
-    /// The same.
+    /// Cleaning, which moves the block at this address. It draws on the ordinary queue, then on the reserve.
+    Cleaning(u32),
+    /// A checkpoint, which writes a node. It draws on both too.
     Checkpoint,
+}
+
+impl Who {
+    // Whether it fills no holes of a segment, since cleaning empties the section that has it.
+    fn passes_over(self, geometry: Geometry, segment: u32) -> bool {
+        let Who::Cleaning(address) = self else {
+            return false;
+        };
+        let blocks = geometry.shape.segment_blocks().max(1);
+        let per_section = geometry.per_section.max(1);
+        let emptied = address.saturating_sub(1) / blocks;
+        emptied / per_section == segment / per_section
+    }
 }
 
 impl<V: VolumeName> LogCell<V> {
     // The number of its open segment, where it has one.
-    fn open_number(&self) -> Option<u32>
+    pub(crate) fn open_number(&self) -> Option<u32>
         ensures within { IfSome result (λ number. number < V.Numbers.geometry.segments) }
     {
         match &self.slip {
@@ -55,18 +68,20 @@ impl<V: VolumeName> LogCell<V> {
     {
         match who {
             Who::Ordinary => pool.take_ordinary(rt, &mut self.pass),
-            Who::Cleaning | Who::Checkpoint => pool.take_any(rt, &mut self.pass),
+            Who::Cleaning(_) | Who::Checkpoint => pool.take_any(rt, &mut self.pass),
         }
     }
 }
 
 impl<V: VolumeName, B: Block + Drop> MainArea<V, B> {
     /// Writes the next block of a log, and gives its ticket, which is in hand from then on. The block lies in the log's open
-    /// segment, or in a hole of the one that it threads: an ordinary append of data that finds the ordinary queue empty threads the
-    /// first segment, in ascending order, that can be threaded, where the volume's rule lets a thread begin.
+    /// segment, or in a hole of the one that it threads: an append that finds no free segment that it may draw on threads the
+    /// first segment, in ascending order, that can be threaded, where the volume's rule lets it: see `Threading`. Cleaning threads
+    /// none of the section that it empties.
     ///
     /// Answers NoSpace where the log has no place, each queue that the call may draw on was empty, and no segment can be threaded
-    /// or the append may not do so, or where the rule keeps what is left for the nodes that the next checkpoint writes; and Device where the device failed: then the log stands at the place that it tried. After both what is in hand is as before.
+    /// or the append may not do so, or where the rule keeps what is left for the nodes that the next checkpoint writes; and Device
+    /// where the device failed: then the log stands at the place that it tried. After both what is in hand is as before.
     pub fn append<R: Wait>(
         &self,
         rt: &R,
@@ -86,65 +101,24 @@ impl<V: VolumeName, B: Block + Drop> MainArea<V, B> {
     {
         let mut lock = self.lock_log(rt, log.number());
         let cell = &mut *lock;
-        if !self.keeps_node_room(who, log, cell.slip.is_some()) {
+        let keeps_room = self.keeps_node_room(who);
+        if who == Who::Ordinary && !keeps_room {
             return Err(Error::NoSpace);
         }
         if let Some(ticket) = self.fill_hole(rt, cell, hand, owner, now, bytes)? {
             return Ok(ticket);
         }
-        if let Some(number) = self.open_segment(rt, cell, who) {
+        if keeps_room && let Some(number) = self.open_segment(rt, cell, who) {
             let mut segment = self.lock_segment(rt, number);
             let slip = &mut cell.slip;
             let done = segment.append(self.books(), self.words(), hand, slip, owner, now, bytes);
             self.note_next(log, segment.state.next());
             return done;
         }
-        if who != Who::Ordinary
-            || !log.is_data()
-            || !self.threading.allows(self.pool(), &mut cell.pass)
-        {
+        if !self.threading.allows(who, log, self.pool(), &mut cell.pass) {
             return Err(Error::NoSpace);
         }
-        for number in 0..self.geometry().segments {
-            if let Some(ticket) = self.thread_one(rt, cell, hand, number, owner, now, bytes)? {
-                return Ok(ticket);
-            }
-        }
-        Err(Error::NoSpace)
-    }
-
-    /// Counts the places that are open for nodes, of a main area that was just put together.
-    pub fn count_places<R: Wait>(&self, rt: &R) {
-        self.count_places_of(rt, Log::HotNode);
-        self.count_places_of(rt, Log::WarmNode);
-        self.count_places_of(rt, Log::ColdNode);
-    }
-
-    fn count_places_of<R: Wait>(&self, rt: &R, log: Log) {
-        let cell = self.lock_log(rt, log.number());
-        if let Some(number) = cell.open_number() {
-            let segment = self.lock_segment(rt, number);
-            self.note_next(log, segment.state.next());
-        }
-    }
-
-    // Notes which place of a log's open segment is the next.
-    fn note_next(&self, log: Log, next: u32) {
-        let blocks = self.geometry().shape.segment_blocks();
-        self.node_room.note_places(log, blocks.saturating_sub(next));
-    }
-
-    // Whether the volume's rule allows an append to a log, which has a place or has not: after it the next checkpoint has to find
-    // places for the marked nodes.
-    fn keeps_node_room(&self, who: Who, log: Log, has_place: bool) -> bool {
-        match self.threading {
-            Threading::Whenever => true,
-            Threading::WhileReserveIsFull => {
-                let blocks = self.geometry().shape.segment_blocks();
-                let free = self.pool().counts();
-                self.node_room.allows(who, log, has_place, free, blocks)
-            }
-        }
+        self.thread_any(rt, cell, hand, owner, now, bytes, who)
     }
 
     // Writes the block in the next hole of the segment that the log threads. Where it threads none any more, it has no place.
@@ -172,6 +146,35 @@ impl<V: VolumeName, B: Block + Drop> MainArea<V, B> {
             log.threads = None;
         }
         Ok(found)
+    }
+
+    // Threads the first segment, in ascending order, that can be threaded, and writes the block in its first hole.
+    fn thread_any<R: Wait>(
+        &self,
+        rt: &R,
+        log: &mut LogCell<V>,
+        hand: &mut Permit,
+        owner: Owner,
+        now: u64,
+        bytes: &[u8],
+        who: Who,
+    ) -> Result<Ticket<B>, Error>
+        requires book { hand.old.book ≡ V.Books.books.book }
+        requires owner { IsOwner owner }
+        requires bytes { length bytes.now ≡ block_bytes V.Numbers.geometry.shape }
+        ensures appended { IfOk result (λ ticket. HasAppended V.Numbers.geometry owner bytes.now hand.old hand.new ticket) }
+        ensures err { OnErr result (hand.new ≡ hand.old) }
+        ensures error { IfErr result (λ error. (error ≡ Device) ⊎ (error ≡ NoSpace)) }
+    {
+        for number in 0..self.geometry().segments {
+            if who.passes_over(self.geometry(), number) {
+                continue;
+            }
+            if let Some(ticket) = self.thread_one(rt, log, hand, number, owner, now, bytes)? {
+                return Ok(ticket);
+            }
+        }
+        Err(Error::NoSpace)
     }
 
     // Threads a segment, where it can be threaded, and writes the block in its first hole, under one hold of its lock.

@@ -28,7 +28,7 @@ pub use cells::{LogCell, SegmentCell, ShardCell};
 pub use freed_area::free_retired;
 pub use log::{Log, log_for};
 pub use main_area::MainArea;
-pub use node_room::MarkedNodes;
+pub use node_room::{CheckpointRoom, MarkedNodes};
 pub use numbered::{Numbered, lock_numbered};
 pub use opening::{lock_segments, put_slips};
 pub use rooms::{new_rooms, store_slips};

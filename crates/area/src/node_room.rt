@@ -4,11 +4,17 @@
 //! on it: a wrong count would refuse a write too early or a checkpoint too late, and lose nothing.
 use crate::append::Who;
 use crate::log::Log;
+use crate::main_area::MainArea;
+use crate::threading::Threading;
+use device::Block;
 use geometry::Kind;
 use pool::SlipCounts;
+use rights_names::VolumeName;
+use std::sync::Wait;
 use std::sync::atomic::{AtomicU32, Ordering};
 
-// The segments that are left to cleaning and to checkpoints beyond those that the marked nodes want.
+// The segments that are left to checkpoints beyond those that the marked nodes want: each log of nodes may begin one, also for marks
+// that a cut or a new file makes.
 const SPARE: u32 = 3;
 
 // The logs of data: each may draw one ordinary segment before another thread has seen that it did.
@@ -29,6 +35,16 @@ impl MarkedNodes {
     };
 }
 
+/// What the next checkpoint has to write, in blocks of nodes, and what it could write now.
+#[derive(Clone, Copy, Debug, PartialEq, Eq)]
+pub struct CheckpointRoom {
+    /// At most how many nodes are marked as changed since they were written.
+    pub marked: u32,
+    /// For how many there are places in open segments of their logs and in free segments. By the careful rule it has the holes of used
+    /// segments too, which are not counted here.
+    pub places: u32,
+}
+
 // Of one log of nodes: at most how many marked nodes it gets with the next checkpoint, and how many places its open segment has.
 #[derive(Debug, Drop)]
 struct LogRoom {
@@ -44,6 +60,14 @@ impl LogRoom {
         }
     }
 
+    // What is marked and its places, added to those of others.
+    fn told(&self, places: u32, marked: u32) -> CheckpointRoom {
+        CheckpointRoom {
+            marked: marked.saturating_add(self.marked.load(Ordering::Relaxed)),
+            places: places.saturating_add(self.places.load(Ordering::Relaxed)),
+        }
+    }
+
     // How many segments the marked nodes want beside the open one.
     fn segments(&self, blocks: u32) -> u32 {
         let marked = self.marked.load(Ordering::Relaxed);
@@ -51,17 +75,6 @@ impl LogRoom {
             marked.saturating_sub(self.places.load(Ordering::Relaxed)),
             blocks,
         )
-    }
-
-    // The same after an append to the log, whose open segment had a place, or else was opened for it.
-    fn segments_after(&self, blocks: u32, has_place: bool) -> u32 {
-        let places = if has_place {
-            self.places.load(Ordering::Relaxed)
-        } else {
-            blocks
-        };
-        let marked = self.marked.load(Ordering::Relaxed);
-        segments_for(marked.saturating_sub(places.saturating_sub(1)), blocks)
     }
 }
 
@@ -113,32 +126,30 @@ impl NodeRoom {
         }
     }
 
-    // Whether the next checkpoint has room for all marked nodes after an append to a log that has a place or has not, while so many
-    // segments are free of so many blocks. What is written by a file's user leaves segments to cleaning.
-    pub(crate) fn allows(
-        &self,
-        who: Who,
-        log: Log,
-        has_place: bool,
-        free: SlipCounts,
-        blocks: u32,
-    ) -> bool {
+    // Whether an append may take a place in an open segment, or open a free one, while so many are free of so many blocks: all marked
+    // nodes have to find places still. What is written by a file's user leaves segments to checkpoints. So does what cleaning moves, which
+    // may fill holes instead.
+    pub(crate) fn allows(&self, who: Who, free: SlipCounts, blocks: u32) -> bool {
+        let wanted = self.segments(blocks);
+        let all = free.reserve.saturating_add(free.ordinary);
         match who {
             Who::Ordinary => {
-                let wanted = self.segments(blocks);
                 let sure = free.ordinary.saturating_sub(DATA_LOGS);
                 let is_sure = wanted <= free.reserve.saturating_add(sure);
-                let all = free.reserve.saturating_add(free.ordinary);
                 wanted == 0 || (is_sure && wanted.saturating_add(SPARE) <= all)
             }
-            Who::Cleaning => {
-                let left = free.reserve.saturating_add(free.ordinary);
-                let drawn = if has_place { 0 } else { 1 };
-                let wanted = self.segments_after(log, blocks, has_place);
-                wanted.saturating_add(drawn) <= left
-            }
+            Who::Cleaning(_) => wanted.saturating_add(SPARE + DATA_LOGS) < all,
             Who::Checkpoint => true,
         }
+    }
+
+    // What is marked, and the places for it while so many segments are free of so many blocks.
+    pub(crate) fn told(&self, free: SlipCounts, blocks: u32) -> CheckpointRoom {
+        let segments = free.reserve.saturating_add(free.ordinary);
+        let free_places = segments.saturating_mul(blocks);
+        let hot = self.hot.told(free_places, 0);
+        let warm = self.warm.told(hot.places, hot.marked);
+        self.cold.told(warm.places, warm.marked)
     }
 
     fn segments(&self, blocks: u32) -> u32 {
@@ -148,20 +159,45 @@ impl NodeRoom {
             .saturating_add(self.warm.segments(blocks));
         direct.saturating_add(self.cold.segments(blocks))
     }
+}
 
-    fn segments_after(&self, log: Log, blocks: u32, has_place: bool) -> u32 {
-        let hot = match log {
-            Log::HotNode => self.hot.segments_after(blocks, has_place),
-            _ => self.hot.segments(blocks),
-        };
-        let warm = match log {
-            Log::WarmNode => self.warm.segments_after(blocks, has_place),
-            _ => self.warm.segments(blocks),
-        };
-        let cold = match log {
-            Log::ColdNode => self.cold.segments_after(blocks, has_place),
-            _ => self.cold.segments(blocks),
-        };
-        hot.saturating_add(warm).saturating_add(cold)
+impl<V: VolumeName, B: Block + Drop> MainArea<V, B> {
+    /// Counts the places that are open for nodes, of a main area that was just put together.
+    pub fn count_places<R: Wait>(&self, rt: &R) {
+        self.count_places_of(rt, Log::HotNode);
+        self.count_places_of(rt, Log::WarmNode);
+        self.count_places_of(rt, Log::ColdNode);
+    }
+
+    fn count_places_of<R: Wait>(&self, rt: &R, log: Log) {
+        let cell = self.lock_log(rt, log.number());
+        if let Some(number) = cell.open_number() {
+            let segment = self.lock_segment(rt, number);
+            self.note_next(log, segment.state.next());
+        }
+    }
+
+    // Notes which place of a log's open segment is the next.
+    pub(crate) fn note_next(&self, log: Log, next: u32) {
+        let blocks = self.geometry().shape.segment_blocks();
+        self.node_room.note_places(log, blocks.saturating_sub(next));
+    }
+
+    // Whether the volume's rule lets an append take a place in an open segment, or open a free one.
+    pub(crate) fn keeps_node_room(&self, who: Who) -> bool {
+        match self.threading {
+            Threading::Whenever => true,
+            Threading::WhileReserveIsFull => {
+                let blocks = self.geometry().shape.segment_blocks();
+                let free = self.pool().counts();
+                self.node_room.allows(who, free, blocks)
+            }
+        }
+    }
+
+    /// At most how many nodes the next checkpoint has to write, and for how many there are places.
+    pub fn checkpoint_room(&self) -> CheckpointRoom {
+        let blocks = self.geometry().shape.segment_blocks();
+        self.node_room.told(self.pool().counts(), blocks)
     }
 }

@@ -13,7 +13,7 @@ use rights_names::VolumeName;
 use std::sync::Wait;
 use tickets::Ticket;
 
-// Appends a block that has this mark to a log, by the segments that are reserved for cleaning too.
+// Appends a block that has this mark to a log, as cleaning does.
 pub(crate) fn append_elsewhere<V: VolumeName, B: Block + Drop, R: Wait>(
     rt: &R,
     area: &MainArea<V, B>,
@@ -31,7 +31,8 @@ pub(crate) fn append_elsewhere<V: VolumeName, B: Block + Drop, R: Wait>(
     ensures err { OnErr result (hand.new ≡ hand.old) }
     ensures error { IfErr result (λ error. (error ≡ Device) ⊎ (error ≡ NoSpace)) }
 {
-    let ticket = area.append(rt, hand, log, mark.owner, now, bytes, Who::Cleaning)?;
+    let who = Who::Cleaning(mark.address);
+    let ticket = area.append(rt, hand, log, mark.owner, now, bytes, who)?;
     if ticket.address() == mark.address {
         // A log writes no block that is valid, and the one at the address is. So this is not reached.
         for _ in rt.forever() {}

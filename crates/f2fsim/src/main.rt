@@ -1,10 +1,12 @@
 //! The program: it runs a script, checks an image file, or tells the files of one.
 #![tactic(auto)]
 
+mod help;
 mod saving;
 
 use flash_volume::Threading;
-use program_run::status::{FAILED, MISUSED};
+use help::{HELP, asks_for_help};
+use program_run::status::{DONE, FAILED, MISUSED};
 use program_run::{OpenGate, check_image, run_script, tell_files, tell_io_failure};
 use program_script::words::USAGE;
 use program_script::{Words, WordsError};
@@ -75,6 +77,7 @@ fn called<R: Runtime + AllocGlobal + Threads + Wait + Sync, W: Write, E: Write>(
             Some(rule) => run_saving(rt, out, errors, save, rule),
             None => misused(errors),
         },
+        Err(WordsError::Usage) if asks_for_help(words.as_slice()) => tell_help(out, errors),
         Err(WordsError::Usage) => misused(errors),
         Err(WordsError::NoMemory) => Err(io::Error::from(io::ErrorKind::OutOfMemory)),
     }
@@ -92,6 +95,13 @@ fn rule_named(name: Option<&str>) -> Option<Threading> {
 fn misused<E: Write>(errors: &mut E) -> io::Result<u8> {
     writeln!(errors, "{USAGE}")?;
     Ok(MISUSED)
+}
+
+// Tells the usage in a line, as of words that are refused, and all words on the output.
+fn tell_help<W: Write, E: Write>(out: &mut W, errors: &mut E) -> io::Result<u8> {
+    writeln!(errors, "{USAGE}")?;
+    writeln!(out, "{HELP}")?;
+    Ok(DONE)
 }
 
 // Runs the script on standard input, on volumes that thread by a rule. The bytes of the device, if some were put aside, become those of the file at `path`.

@@ -1,8 +1,9 @@
 //! Image files of the operating system: made, and opened.
-ghost use Rattle.std.specs.Prelude.{◌≡◌, map, IfOk};
+ghost use Rattle.std.specs.Prelude.{◌≡◌, length, map, IfOk};
 ghost use Rattle.device.specs.Parts.{HasSize};
 ghost use Rattle.file_device.specs.Held.{is_kept};
 ghost use Rattle.file_device.specs.Named.{FlagNamed};
+ghost use Rattle.geometry.specs.Area.{block_count, meta_bytes};
 ghost use Rattle.geometry.specs.declared.geometry.Geometry.{Geometry as Numbers};
 ghost use Rattle.packs_format.specs.Grammar.{HasSuper};
 
@@ -25,8 +26,8 @@ use std::path::Path;
 pub type FileParts = Parts<FileMeta<File>, FileBlock<File>>;
 
 /// Makes an image file of the size of a geometry, all zeros, and settles it and its folder. Nobody else may open it while its parts
-/// live. A file that is there is not touched: that is `Io`, of the kind AlreadyExists. After another refusal a file of zeros, which
-/// is no volume, may stand there.
+/// live. A file that is there is not touched: that is `Io`, of the kind AlreadyExists. After another refusal the file is removed, if
+/// the system lets it.
 pub fn create_image<R: Files<File = File>>(
     rt: &R,
     alloc: Global,
@@ -42,11 +43,33 @@ pub fn create_image<R: Files<File = File>>(
         .write(true)
         .create_new(true)
         .open(rt, path)?;
+    let made = parts_of_new(rt, alloc, path, geometry, area, named.as_slice(), file);
+    if made.is_err() {
+        // What can't be removed either stays: zeros, which are no volume.
+        let _ = std::fs::remove_file(rt, path);
+    }
+    made
+}
+
+// The parts of a device over a file that was made at a path, and has no byte yet.
+fn parts_of_new<R: Files<File = File>>(
+    rt: &R,
+    alloc: Global,
+    path: &str,
+    geometry: &Geometry,
+    area: Vec<u8>,
+    named: &[bool],
+    file: File,
+) -> Result<FileParts, FileFault>
+    requires area { length area.items ≡ meta_bytes geometry.now }
+    requires named { length named.now ≡ block_count geometry.now }
+    ensures size { IfOk result (λ parts. HasSize ⟦<FileMeta<File> as Meta>⟧.seen ⟦<FileBlock<File> as Block>⟧.address_of ⟦<FileBlock<File> as Block>⟧.content_of geometry.now parts) }
+{
     lock(&file)?;
     file.set_len(file_bytes(geometry))?;
     let settled = settle_file(&file)?;
     settle_folder(rt, path)?;
-    parts_over(alloc, geometry, area, named.as_slice(), file, settled)
+    parts_over(alloc, geometry, area, named, file, settled)
 }
 
 /// Opens the image file that is there: what an earlier run wrote is settled first, and then its meta area is read, and each block

@@ -10,5 +10,5 @@ mod take;
 
 pub use reader::Reader;
 pub use seat::{Seat, name_seats, seats_out};
-pub use status::{Status, count_states};
+pub use status::{Status, count_states, count_valid};
 pub use take::take_reader;

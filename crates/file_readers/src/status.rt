@@ -52,3 +52,14 @@ pub fn count_states<V: VolumeName, B: Block + Drop, R: Wait>(
     }
     status
 }
+
+/// How many blocks are valid, of the data of all files and of their nodes that have one. Each segment's were counted while its lock was
+/// held, one segment after another.
+pub fn count_valid<V: VolumeName, B: Block + Drop, R: Wait>(rt: &R, area: &MainArea<V, B>) -> u32 {
+    let mut valid = 0u32;
+    for number in 0..area.geometry().segments {
+        let cell = area.lock_segment(rt, number);
+        valid = valid.saturating_add(cell.row().valid);
+    }
+    valid
+}

@@ -25,7 +25,7 @@ mod visit;
 mod work;
 mod works;
 
-pub use area::Threading;
+pub use area::{CheckpointRoom, Threading};
 pub use beside::Beside;
 pub use block::SharedBlock;
 pub use checkpoint::Stored;

@@ -12,6 +12,12 @@ use rights_names::VolumeName;
 use std::sync::Wait;
 use volume::Volume;
 
+/// Each of the six logs has an open segment.
+const OPEN: u32 = 6;
+
+/// Each of the three logs of nodes may begin a segment in a checkpoint.
+const NODE_LOGS: u32 = 3;
+
 /// Why no more room is made.
 #[derive(Clone, Copy, Debug, PartialEq, Eq)]
 pub enum Ending {
@@ -37,7 +43,8 @@ pub struct Room {
 /// the emptiest one may be the one that its blocks were moved to.
 ///
 /// No file changes, and no pass is asked for: only which segments are free does, and where blocks lie. A checkpoint keeps what was
-/// written to the files so far, so call it where that may be kept. Where nothing is to be won no checkpoint is written.
+/// written to the files so far, so call it where that may be kept. Where nothing is to be won no checkpoint is written. Where readers
+/// hold what was emptied nothing is to be won either, once few segments are free: it goes on when they are done.
 ///
 /// Answers the refusals of a checkpoint: Wounded, Exhausted, NoMemory, NoSpace and Device. What was cleaned before stays so.
 pub fn make_room<V: VolumeName, M: Meta, B: Block + Drop, R: Wait>(
@@ -60,7 +67,7 @@ pub fn make_room<V: VolumeName, M: Meta, B: Block + Drop, R: Wait>(
     }
     let mut policy = policy;
     for _ in 0..volume.geometry().segments {
-        if room.ending == Ending::Enough {
+        if room.ending == Ending::Enough || is_held(room.status) {
             break;
         }
         let Some(moved) = clean_one(rt, volume, policy, now)? else {
@@ -79,6 +86,12 @@ pub fn make_room<V: VolumeName, M: Meta, B: Block + Drop, R: Wait>(
     Ok(room)
 }
 
+// Whether readers hold segments that are retired, which a checkpoint did not free, and so few are free that cleaning, whose moves mark
+// nodes, could leave the next checkpoint without places.
+fn is_held(status: Status) -> bool {
+    status.prefree > 0 && status.free < NODE_LOGS
+}
+
 fn other(policy: Policy) -> Policy {
     match policy {
         Policy::Foreground => Policy::Background,
@@ -87,17 +100,14 @@ fn other(policy: Policy) -> Policy {
 }
 
 /// How many blocks the files of a volume may have, with their nodes and the folder, so that writing goes on for good: where a write finds
-/// no room, `make_room` wins some. The other segments are kept for the six open ones, for the reserve, and for cleaning, which wants
-/// more of them where there are many sections of several segments, since one that has an open segment can't be cleaned. That it is
-/// enough was tried with users by chance (`program_runs users`), and is not proved.
+/// no room, `make_room` wins some. The other segments are kept: six are open, and the fellows of each in its section can't be cleaned
+/// meanwhile; three more are for the cleaner, which moves blocks before their places come free. That it is enough was tried with users
+/// by chance (`program_runs users`), and is not proved.
 pub fn usable_blocks(geometry: &Geometry) -> u32 {
-    let segments = geometry.segments;
-    let beyond_one = geometry.per_section.saturating_sub(1);
-    let for_sections = beyond_one.saturating_mul((segments / 8).saturating_add(4));
-    let kept = (segments / 32)
-        .saturating_add(for_sections)
-        .saturating_add(9);
-    segments
+    let fellows = geometry.per_section.saturating_sub(1);
+    let kept = fellows.saturating_mul(OPEN).saturating_add(OPEN + 3);
+    geometry
+        .segments
         .saturating_sub(kept)
         .saturating_mul(geometry.shape.segment_blocks())
 }

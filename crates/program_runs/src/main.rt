@@ -15,6 +15,7 @@ mod order;
 mod play;
 mod races;
 mod replaying;
+mod room;
 mod scene;
 mod schedules;
 mod sweep;
@@ -83,6 +84,7 @@ fn run_part<R: Runtime + Threads + Wait + Sync + Files<File = File>>(
         Part::Schedules => schedules::run_schedules(rt, alloc, count),
         Part::Races => races::race(rt, alloc, count),
         Part::Users => users::use_volumes(rt, alloc, count),
+        Part::Room => room::try_room(rt, alloc),
         Part::Damage => damage::damage(rt, alloc, count),
         Part::Growths => growths::grow(rt, alloc),
     }

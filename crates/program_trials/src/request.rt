@@ -3,7 +3,7 @@ use std::convert::AsStr;
 
 /// What is printed of words that are refused.
 pub const USAGE: &str =
-    "usage: program_runs [cases | sweep | crashes | machine | schedules | races | users | damage | growths] [--count N]";
+    "usage: program_runs [cases | sweep | crashes | machine | schedules | races | users | room | damage | growths] [--count N]";
 
 /// A part of the program.
 #[derive(Clone, Copy)]
@@ -22,6 +22,8 @@ pub enum Part {
     Races,
     /// N users of volumes, who make room where a write finds none.
     Users,
+    /// What goes wrong where room is made: a device that fails, readers of each segment, a volume that ran out of room.
+    Room,
     /// N damaged images.
     Damage,
     /// Scripts under which a growth is refused from without.
@@ -29,7 +31,7 @@ pub enum Part {
 }
 
 /// Each part that is run where no word asks for one, in order.
-pub const PARTS: [Part; 8] = [
+pub const PARTS: [Part; 9] = [
     Part::Cases,
     Part::Sweep,
     Part::Crashes,
@@ -37,6 +39,7 @@ pub const PARTS: [Part; 8] = [
     Part::Schedules,
     Part::Races,
     Part::Users,
+    Part::Room,
     Part::Damage,
 ];
 
@@ -58,6 +61,7 @@ impl Part {
             "schedules" => Some(Part::Schedules),
             "races" => Some(Part::Races),
             "users" => Some(Part::Users),
+            "room" => Some(Part::Room),
             "damage" => Some(Part::Damage),
             "growths" => Some(Part::Growths),
             _ => None,
@@ -67,7 +71,7 @@ impl Part {
     /// The number of a small run.
     pub fn small(self) -> u32 {
         match self {
-            Part::Cases | Part::Sweep | Part::Growths => 0,
+            Part::Cases | Part::Sweep | Part::Room | Part::Growths => 0,
             Part::Crashes => 20,
             Part::Machine => 20,
             Part::Schedules => 20,

@@ -1,55 +1,102 @@
 //! A user of a volume by chance, who stays within the room that there is: what is done next, and what the files have to hold then.
 use crate::chance::Chance;
+use crate::race::{Found, block_of, found_in};
+use geometry::Shape;
 use std::alloc::{AllocError, Global};
 
-/// What a user does. A file is told by its place among those that the volume has, in the order of their numbers.
+/// What a user does. A file is told by its place among those of the user.
 #[derive(Clone, Copy, Debug, PartialEq, Eq)]
 pub enum Deed {
-    /// The block at an index gets this tag.
-    Write { file: usize, index: u32, tag: u32 },
+    /// So many blocks from an index on get this tag.
+    Write {
+        file: usize,
+        index: u32,
+        count: u32,
+        tag: u32,
+    },
     /// A file is cut to a length.
-    Cut { file: usize, length: u32 },
+    Cut {
+        file: usize,
+        length: u32,
+    },
     /// A file is deleted, and another made in its place.
-    Renew { file: usize },
+    Renew {
+        file: usize,
+    },
     /// A reader takes a file, or the one that is there is done.
-    Read { file: usize },
+    Read {
+        file: usize,
+    },
     Sync,
     Clean,
     /// The volume is closed and mounted again.
     Mount,
 }
 
-/// A user with files of blocks that have tags; a block that was never written has the tag 0.
+/// What a user has, and how much is done.
+#[derive(Clone, Copy)]
+pub struct Plan {
+    pub shape: Shape,
+    pub files: u32,
+    /// How many blocks all files may have, with their nodes.
+    pub most: u32,
+    pub deeds: u32,
+    /// How many blocks a write has at most.
+    pub span: u32,
+}
+
+/// A user with files of blocks that have tags.
 #[derive(Drop)]
 pub struct User {
     chance: Chance,
-    // How many blocks all files may have, with their nodes.
-    most: u32,
+    plan: Plan,
     files: Vec<Vec<u32>>,
     tag: u32,
     left: u32,
 }
 
+/// The bytes of a block that a user writes: its tag and its index in front, and zeros.
+pub fn tagged_block(
+    alloc: Global,
+    tag: u32,
+    index: u32,
+    size: usize,
+) -> Result<Vec<u8>, AllocError> {
+    let found = Found {
+        writer: tag,
+        write: index,
+    };
+    block_of(alloc, found, size)
+}
+
+/// Whether a block has this tag, and was written at this index.
+pub fn has_tag(block: &[u8], tag: u32, index: u32) -> bool {
+    let found = Found {
+        writer: tag,
+        write: index,
+    };
+    found_in(block) == found
+}
+
 impl User {
-    /// A user who does so many deeds, with so many empty files that may have so many blocks in all.
-    pub fn new(
-        alloc: Global,
-        seed: u32,
-        files: u32,
-        most: u32,
-        deeds: u32,
-    ) -> Result<User, AllocError> {
+    /// A user with empty files, who has done nothing.
+    pub fn new(alloc: Global, seed: u32, plan: Plan) -> Result<User, AllocError> {
         let mut empty = Vec::new(alloc);
-        for _file in 0..files {
+        for _file in 0..plan.files {
             empty.push(Vec::new(alloc))?;
         }
         Ok(User {
             chance: Chance::of(seed),
-            most,
+            plan,
             files: empty,
             tag: 0,
-            left: deeds,
+            left: plan.deeds,
         })
+    }
+
+    /// Whether all deeds are done.
+    pub fn is_done(&self) -> bool {
+        self.left == 0
     }
 
     /// How many files there are.
@@ -71,10 +118,11 @@ impl User {
         let file = self.chance.below(self.files.len());
         let length = length_of(self.tags(file));
         Some(match self.chance.below(200) {
-            0..60 if self.has_room(file) => self.write(file, length),
+            0..60 if self.has_room(file) => self.write(file, length, self.plan.span),
             60..160 if length > 0 => {
                 let index = self.chance.number_below(length);
-                self.write(file, index)
+                let within = length.saturating_sub(index).min(self.plan.span);
+                self.write(file, index, within)
             }
             160..164 if length > 2 => Deed::Cut {
                 file,
@@ -91,11 +139,18 @@ impl User {
         })
     }
 
-    fn write(&mut self, file: usize, index: u32) -> Deed {
+    // A write of some blocks, and at most so many.
+    fn write(&mut self, file: usize, index: u32, most: u32) -> Deed {
         self.tag = self.tag.wrapping_add(1).max(1);
+        let more = if most > 1 {
+            self.chance.number_below(most)
+        } else {
+            0
+        };
         Deed::Write {
             file,
             index,
+            count: more.saturating_add(1),
             tag: self.tag,
         }
     }
@@ -103,14 +158,14 @@ impl User {
     /// A deed is done.
     pub fn did(&mut self, deed: Deed) -> Result<(), AllocError> {
         match deed {
-            Deed::Write { file, index, tag } => {
+            Deed::Write {
+                file,
+                index,
+                count,
+                tag,
+            } => {
                 if let Some(tags) = self.files.get_mut(file) {
-                    if index as usize >= tags.len() {
-                        tags.resize(index as usize + 1, 0)?;
-                    }
-                    if let Some(old) = tags.get_mut(index as usize) {
-                        *old = tag;
-                    }
+                    put_tags(tags, index as usize, count as usize, tag)?;
                 }
             }
             Deed::Cut { file, length } => {
@@ -128,29 +183,44 @@ impl User {
         Ok(())
     }
 
-    // Whether a file may have one block more.
+    // Whether a file may have as many blocks more as a write has.
     fn has_room(&self, file: usize) -> bool {
         let mut taken = 0u32;
         for (place, tags) in self.files.iter().enumerate() {
-            let more = u32::from(place == file);
+            let more = if place == file { self.plan.span } else { 0 };
             let blocks = length_of(tags).saturating_add(more);
-            taken = taken.saturating_add(blocks).saturating_add(nodes(blocks));
+            taken = taken
+                .saturating_add(blocks)
+                .saturating_add(nodes_of(self.plan.shape, blocks));
         }
-        taken <= self.most
+        taken <= self.plan.most
     }
+}
+
+// So many blocks from an index on have a tag.
+fn put_tags(tags: &mut Vec<u32>, index: usize, count: usize, tag: u32) -> Result<(), AllocError> {
+    let end = index.saturating_add(count);
+    if end > tags.len() {
+        tags.resize(end, tag)?;
+    }
+    for old in tags.as_mut_slice().iter_mut().skip(index).take(count) {
+        *old = tag;
+    }
+    Ok(())
 }
 
 fn length_of(tags: &[u32]) -> u32 {
     u32::try_from(tags.len()).unwrap_or(u32::MAX)
 }
 
-// How many nodes a file of so many blocks has at most, in the tiny shape: an inode names three blocks, and a node ten.
-fn nodes(blocks: u32) -> u32 {
-    let direct = blocks.saturating_sub(3).div_ceil(10);
-    let indirect = match direct {
-        0..=2 => 0,
-        3..=22 => (direct - 2).div_ceil(10),
-        _ => (direct - 2).div_ceil(10).saturating_add(1),
-    };
+/// How many nodes a file of so many blocks has at most: an inode, direct nodes, and beyond two of these indirect ones.
+pub fn nodes_of(shape: Shape, blocks: u32) -> u32 {
+    let entries = shape.node_entries().max(1);
+    let direct = blocks
+        .saturating_sub(shape.inode_entries())
+        .div_ceil(entries);
+    let below = direct.saturating_sub(2);
+    let doubly = u32::from(below > entries.saturating_mul(2));
+    let indirect = below.div_ceil(entries).saturating_add(doubly);
     direct.saturating_add(indirect).saturating_add(1)
 }

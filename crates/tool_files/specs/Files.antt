@@ -1,5 +1,5 @@
 -- What the passes of a volume show of named files.
-use Rattle.std.specs.Prelude.{◌≡◌, ◌≢◌, ◌⊎◌, ℕ, zero, suc, ◌==◌, if◌then◌else◌, List, [], ◌∷◌, Option, Some, None, All, length}
+use Rattle.std.specs.Prelude.{◌≡◌, ◌≢◌, ◌⊎◌, ℕ, zero, suc, ◌==◌, if◌then◌else◌, List, [], ◌∷◌, Option, Some, None, All, length, take}
 use Rattle.file_cells.specs.Pass.{Pass}
 use Rattle.geometry.specs.File.{File}
 use Rattle.image_reading.specs.Content.{all_bytes}
@@ -24,6 +24,16 @@ pub record HasFolder (size : ℕ) (passes : List Pass) (rows : List Row) : Type 
   pub folder : File
   pub here : file_at 1 passes ≡ Some folder
   pub spelled : BeginsWith rows (all_bytes size folder)
+
+-- the folder among the passes names a file so, whose bytes are these: as many as the folder tells
+pub record IsRead (size : ℕ) (name bytes : List ℕ) (passes : List Pass) : Type 0 where
+  pub rows : List Row
+  pub folder : HasFolder size passes rows
+  pub row : Row
+  pub named : IsRowOf name rows row
+  pub file : File
+  pub there : file_at row.number passes ≡ Some file
+  pub content : bytes ≡ take row.bytes (all_bytes size file)
 
 -- the file of this number has the bytes, and all others are as they were
 pub record WasWritten (size : ℕ) (bytes : List ℕ) (number : ℕ) (before after : List Pass) : Type 0 where

@@ -12,6 +12,6 @@ mod walk;
 mod work;
 
 pub use law::{file_law, put_get_law, put_kept_law};
-pub use room::MakeRoom;
+pub use room::{MakeRoom, Taken, has_room, kept_for_folder};
 pub use tidy::{Clean, Tidied};
-pub use work::{DeleteFile, MakeFolder, NewFile, Put, PutAll, Remove, Rename};
+pub use work::{Append, DeleteFile, MakeFolder, NewFile, Put, PutAll, Remove, Rename};

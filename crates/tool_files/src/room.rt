@@ -2,8 +2,8 @@
 use crate::walk::place_of;
 use cleaning::Policy;
 use device::{Block, Meta};
-use flash_volume::{Ending, Rights, Room, Work, make_room};
-use geometry::{Error, Geometry};
+use flash_volume::{Ending, Rights, Room, Work, make_room, usable_blocks};
+use geometry::{Error, Geometry, Shape};
 use rights_names::VolumeName;
 use std::alloc::Global;
 use std::sync::Wait;
@@ -73,9 +73,53 @@ fn may_fit(geometry: &Geometry, valid: u32, blocks: u64) -> bool {
     taken.saturating_add(blocks) <= u64::from(geometry.blocks())
 }
 
-// So many free segments are enough for so many blocks: each may want a node too, and each log a segment.
+// So many free segments are enough for a file of so many blocks with its nodes, where each log may begin a segment.
 fn segments_for(geometry: &Geometry, blocks: u64) -> u32 {
-    let filled = blocks.saturating_mul(2) / u64::from(geometry.shape.segment_blocks());
+    let filled = with_nodes(geometry.shape, blocks) / u64::from(geometry.shape.segment_blocks());
     let filled = u32::try_from(filled).unwrap_or(u32::MAX);
     filled.saturating_add(RESERVE + LOGS)
+}
+
+/// The blocks of a volume of which it depends whether there is room for a file.
+#[derive(Clone, Copy, Debug, PartialEq, Eq)]
+pub struct Taken {
+    /// All valid blocks.
+    pub valid: u32,
+    /// The folder's blocks of data.
+    pub folder: u32,
+    /// The blocks of data that the file of the name has. None where it is new.
+    pub file: Option<u32>,
+}
+
+/// Whether a file of so many bytes stays within the room that a volume tells (`usable_blocks`), beside what is taken: its own blocks then
+/// come free, and the folder can be written once more. A file that gets no larger always does.
+pub fn has_room(geometry: &Geometry, taken: Taken, bytes: u64) -> bool {
+    let data = bytes.div_ceil(u64::from(geometry.shape.block_bytes().max(1)));
+    let (before, named) = match taken.file {
+        Some(blocks) => (with_nodes(geometry.shape, u64::from(blocks)), 0),
+        // The folder gets a row, for which it may want a block and a node.
+        None => (0, 2),
+    };
+    let after = with_nodes(geometry.shape, data).saturating_add(named);
+    let others = u64::from(taken.valid).saturating_sub(before);
+    let kept = kept_for_folder(geometry, taken.folder);
+    let all = others.saturating_add(after).saturating_add(kept);
+    after <= before || all <= u64::from(usable_blocks(geometry))
+}
+
+/// How many blocks are left to a folder of so many: where a name goes, most of its blocks are written anew before the old ones come
+/// free. So each file can be removed.
+pub fn kept_for_folder(geometry: &Geometry, folder: u32) -> u64 {
+    with_nodes(geometry.shape, u64::from(folder))
+}
+
+// How many blocks a file with so many blocks of data has with its nodes: the inode, and the direct and indirect ones.
+fn with_nodes(shape: Shape, data: u64) -> u64 {
+    let entries = u64::from(shape.node_entries().max(1));
+    let past_inode = data.saturating_sub(u64::from(shape.inode_entries()));
+    let direct = past_inode.div_ceil(entries);
+    let indirect = direct.saturating_sub(2).div_ceil(entries);
+    let above = if indirect > 2 { 1 } else { 0 };
+    let nodes = direct.saturating_add(indirect).saturating_add(1 + above);
+    data.saturating_add(nodes)
 }

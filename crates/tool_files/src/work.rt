@@ -1,10 +1,12 @@
 //! Work on named files.
+mod append;
 mod make_folder;
 mod put;
 mod put_all;
 mod remove;
 mod rename;
 
+pub use append::Append;
 pub use make_folder::MakeFolder;
 pub use put::Put;
 pub use put_all::{NewFile, PutAll};

@@ -15,8 +15,8 @@ pub struct Entry {
     pub bytes: u64,
 }
 
-/// Whether a file may have this name: 1 to 255 bytes, with no slash and no control character (a line end among them), and neither
-/// `.` nor `..`, so that it is a name in a folder of the operating system too, and a terminal shows it as it is.
+/// Whether a file may have this name: 1 to 255 bytes, with no slash and no control character of ASCII (a line end among them), and
+/// neither `.` nor `..`, so that it is a name in a folder of the operating system too. Who shows it may have to escape other characters.
 pub fn is_name(name: &str) -> bool
     ensures yes { result ≡ true → IsName name.now }
     ensures no { IsName name.now → result ≡ true }

@@ -16,7 +16,10 @@ pub enum Refusal {
     /// The folder names a file that is not there: another program deleted it. Its number would be a new file's.
     #[error("the folder names a file that is not there")]
     LostFile,
-    /// The folder has the new name already.
-    #[error("there is a file of the new name")]
+    /// The folder has the name already, and the file is not to be replaced.
+    #[error("there is a file of that name")]
     NameTaken,
+    /// The file would have more blocks than the volume has room for: see `flash_volume::usable_blocks`.
+    #[error("the volume has no room for the file")]
+    NoRoom,
 }

@@ -3,13 +3,15 @@
 //! The store under the volume records each call. A crash may come after any of them; what was written since the last settle is then kept,
 //! lost, torn or garbage. Each image made so is mounted: the other file must have its bytes, and the file that was put those from before
 //! or from after. That the test sees a bad state is seen where no settle counts. A removal that deletes the file first may leave its
-//! name too, and then a next one takes it away.
+//! name too, and then a next one takes it away. Last, calls that fail and no crash: what is told then, and what a later run finds.
+mod failures;
 mod fates;
 mod recorder;
 mod removal;
 mod scene;
 mod trial;
 
+use failures::try_failures;
 use removal::Removal;
 use std::io::Write;
 use std::sync::Wait;
@@ -31,6 +33,7 @@ pub fn try_states<R: AllocGlobal + Wait, O: Write>(
     tell(out, "as if no settle counted", unsettled)?;
     let is_put = counts.bad == 0 && counts.old > 0 && counts.new > 0 && unsettled.bad > 0;
     let is_removed = try_removal(rt, picks, out)?;
+    try_failures(rt, out)?;
     Ok(u8::from(!is_put || !is_removed))
 }
 

@@ -21,7 +21,7 @@ const PICKS: u64 = 2;
 fn main(rt: HostRuntime) -> ExitCode {
     match run(&rt, &mut rt.stdout()) {
         Ok(status) => ExitCode::from(status),
-        Err(fault) => ExitCode::from(fault.tell(&mut rt.stderr())),
+        Err(fault) => ExitCode::from(fault.tell("", &mut rt.stderr())),
     }
 }
 

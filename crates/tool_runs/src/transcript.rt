@@ -1,5 +1,6 @@
 //! The tool's words over real files.
 mod input;
+mod output;
 mod stage;
 mod text;
 

@@ -1,15 +1,20 @@
 //! The words that the program is called with.
-use clap::{Arg, ArgAction, ArgMatches, Command, Error, value_parser};
-use std::alloc::{AllocError, Global};
-use std::convert::AsStr;
+mod syntax;
 
-// The words for the shapes of a volume.
-const SHAPES: [&str; 2] = ["kernel", "tiny"];
+use crate::image_run::ImageFile;
+use clap::{ArgMatches, Error};
+use std::alloc::Global;
+use std::convert::AsStr;
+pub use syntax::program;
 
 /// What the program is to do with an image file.
-#[derive(Clone, Copy)]
+#[derive(Drop)]
 pub struct Words<'a> {
-    pub image: &'a str,
+    pub image: ImageFile<'a>,
+    /// Whether nothing is to be told of work that goes well.
+    pub quiet: bool,
+    /// The names of a task on several files.
+    pub names: Vec<&'a str>,
     pub task: Task<'a>,
 }
 
@@ -23,21 +28,99 @@ pub struct Numbers {
     pub nodes: u32,
 }
 
-/// What is to be done.
+/// A part of a file's bytes: so many, behind so many.
+#[derive(Clone, Copy)]
+pub struct Part {
+    pub offset: u64,
+    pub length: u64,
+}
+
+impl Part {
+    /// All bytes.
+    pub const ALL: Part = Part {
+        offset: 0,
+        length: u64::MAX,
+    };
+}
+
+/// What is to be done. `file` is a file of the system's, in place of a standard stream.
 #[derive(Clone, Copy)]
 pub enum Task<'a> {
     Format(Numbers),
-    Put { name: &'a str },
-    Get { name: Option<&'a str>, number: u32 },
-    Remove { name: &'a str },
-    Rename { name: &'a str, to: &'a str },
-    List { json: bool },
-    Clean { background: bool },
-    Check,
-    Stat { json: bool },
-    Map { svg: Option<&'a str> },
-    Dump { folder: &'a str },
-    Import { folder: &'a str },
+    Put {
+        name: &'a str,
+        file: Option<&'a str>,
+        replaces: bool,
+    },
+    Get {
+        name: Option<&'a str>,
+        number: u32,
+        file: Option<&'a str>,
+        part: Part,
+    },
+    Append {
+        name: &'a str,
+        file: Option<&'a str>,
+    },
+    Copy {
+        name: &'a str,
+        to: &'a str,
+        replaces: bool,
+    },
+    Concatenate,
+    Remove,
+    Rename {
+        name: &'a str,
+        to: &'a str,
+    },
+    List {
+        json: bool,
+    },
+    Clean {
+        background: bool,
+    },
+    Check {
+        json: bool,
+    },
+    Stat {
+        json: bool,
+    },
+    Room {
+        json: bool,
+    },
+    Map {
+        svg: Option<&'a str>,
+        json: bool,
+    },
+    Dump {
+        folder: &'a str,
+    },
+    Import {
+        folder: &'a str,
+    },
+    /// Writes completions for a shell.
+    Complete {
+        shell: &'a str,
+    },
+    /// Writes the manual page.
+    Describe,
+}
+
+impl<'a> Task<'a> {
+    /// What is done once the task is, where it changes the image.
+    pub fn done(&self) -> Option<&'static str> {
+        match self {
+            Task::Format(_) => Some("the volume is made"),
+            Task::Put { .. } => Some("the file is put"),
+            Task::Append { .. } => Some("the file is longer"),
+            Task::Copy { .. } => Some("the file is copied"),
+            Task::Remove => Some("the files are removed"),
+            Task::Rename { .. } => Some("the file is renamed"),
+            Task::Clean { .. } => Some("the volume is cleaned"),
+            Task::Import { .. } => Some("the files are put"),
+            _ => None,
+        }
+    }
 }
 
 /// Reads the words; the first is the program's own name. An error is to be printed: it may be the help that was asked for.
@@ -47,45 +130,54 @@ pub fn read_words<'a, S: AsStr>(alloc: Global, words: &'a [S]) -> Result<Words<'
     let Some((command, found)) = matches.subcommand() else {
         return Err(program.error(clap::error::ErrorKind::MissingSubcommand, "no command")?);
     };
-    let image = text_of(found, "image");
-    match task_of(command, found) {
-        Some(task) => Ok(Words { image, task }),
-        None => Err(program.error(
+    let Some(task) = task_of(command, found) else {
+        return Err(program.error(
             clap::error::ErrorKind::MissingRequiredArgument,
             "give NAME, or --number N",
-        )?),
+        )?);
+    };
+    let mut names = Vec::new(alloc);
+    if let Some(found) = found.get_strs("names") {
+        names.extend_from_slice(found)?;
     }
+    Ok(Words {
+        image: ImageFile {
+            path: text_of(found, "image"),
+            wait: number_of(found, "wait"),
+        },
+        quiet: found.get_flag("quiet"),
+        names,
+        task,
+    })
 }
 
 fn task_of<'a>(command: &str, found: &ArgMatches<'a>) -> Option<Task<'a>> {
     let name = text_of(found, "name");
+    let json = found.get_flag("json");
     Some(match command {
         "format" => Task::Format(numbers_of(found)),
-        "put" => Task::Put { name },
-        "get" => {
-            let number = number_of(found, "number");
-            if name.is_empty() == (number == 0) {
-                return None;
-            }
-            let name = if number == 0 { Some(name) } else { None };
-            Task::Get { name, number }
-        }
-        "rm" => Task::Remove { name },
+        "put" => put_of(found, name),
+        "get" => get_of(found)?,
+        "append" => Task::Append {
+            name,
+            file: file_of(found),
+        },
+        "cp" => copy_of(found, name),
+        "cat" => Task::Concatenate,
+        "rm" => Task::Remove,
         "mv" => Task::Rename {
             name,
             to: text_of(found, "to"),
         },
-        "ls" => Task::List {
-            json: found.get_flag("json"),
-        },
+        "ls" => Task::List { json },
         "clean" => Task::Clean {
             background: found.get_flag("background"),
         },
-        "stat" => Task::Stat {
-            json: found.get_flag("json"),
-        },
+        "stat" => Task::Stat { json },
+        "df" => Task::Room { json },
         "map" => Task::Map {
             svg: found.get_str("svg"),
+            json,
         },
         "dump" => Task::Dump {
             folder: text_of(found, "folder"),
@@ -93,8 +185,51 @@ fn task_of<'a>(command: &str, found: &ArgMatches<'a>) -> Option<Task<'a>> {
         "import" => Task::Import {
             folder: text_of(found, "folder"),
         },
-        _ => Task::Check,
+        "completions" => Task::Complete {
+            shell: text_of(found, "shell"),
+        },
+        "manual" => Task::Describe,
+        _ => Task::Check { json },
     })
+}
+
+fn put_of<'a>(found: &ArgMatches<'a>, name: &'a str) -> Task<'a> {
+    Task::Put {
+        name,
+        file: file_of(found),
+        replaces: !found.get_flag("no-clobber"),
+    }
+}
+
+fn copy_of<'a>(found: &ArgMatches<'a>, name: &'a str) -> Task<'a> {
+    Task::Copy {
+        name,
+        to: text_of(found, "to"),
+        replaces: !found.get_flag("no-clobber"),
+    }
+}
+
+// What `get` is to write. None where there is neither a name nor a number, or both.
+fn get_of<'a>(found: &ArgMatches<'a>) -> Option<Task<'a>> {
+    let name = found.get_str("name");
+    let number = number_of(found, "number");
+    if name.is_some() == (number > 0) {
+        return None;
+    }
+    Some(Task::Get {
+        name,
+        number,
+        file: file_of(found),
+        part: Part {
+            offset: found.get_one::<u64>("offset").unwrap_or(0),
+            length: found.get_one::<u64>("length").unwrap_or(u64::MAX),
+        },
+    })
+}
+
+// The file of the system's that is named; `-` stands for the standard stream, as no name does.
+fn file_of<'a>(found: &ArgMatches<'a>) -> Option<&'a str> {
+    found.get_str("file").filter(|file| *file != "-")
 }
 
 fn text_of<'a>(found: &ArgMatches<'a>, id: &str) -> &'a str {
@@ -113,195 +248,4 @@ fn numbers_of(found: &ArgMatches<'_>) -> Numbers {
         files: number_of(found, "files"),
         nodes: number_of(found, "nodes"),
     }
-}
-
-fn program<'a>(alloc: Global) -> Result<Command<'a>, AllocError> {
-    let program = Command::new(alloc, "rusziveg")
-        .about(
-            "Flash volumes in image files: makes them, keeps named files in them, cleans, checks and draws them.",
-        )
-        .after_help(
-            "Exit status: 0 done; 1 a volume, an image or a name was refused; 2 the words were; 4 a file, a stream or memory failed.",
-        )
-        .subcommand_required(true)
-        .subcommand(format_command(alloc)?)?;
-    let program = with_file_commands(alloc, program)?;
-    let program = with_volume_commands(alloc, program)?;
-    with_folder_commands(alloc, program)
-}
-
-// The commands on one file of the volume, and on their list.
-fn with_file_commands<'a>(alloc: Global, program: Command<'a>) -> Result<Command<'a>, AllocError> {
-    program
-        .subcommand(named(
-            alloc,
-            "put",
-            "Reads standard input to its end, and makes it the file NAME",
-        )?)?
-        .subcommand(get_command(alloc)?)?
-        .subcommand(named(alloc, "rm", "Removes the file NAME")?)?
-        .subcommand(rename_command(alloc)?)?
-        .subcommand(flagged(
-            alloc,
-            "ls",
-            "Lists the files, by name and by number",
-            "json",
-            "Writes JSON",
-        )?)
-}
-
-// The commands on the whole volume.
-fn with_volume_commands<'a>(
-    alloc: Global,
-    program: Command<'a>,
-) -> Result<Command<'a>, AllocError> {
-    program
-        .subcommand(flagged(
-            alloc,
-            "clean",
-            "Cleans sections, so that their segments come free",
-            "background",
-            "Chooses by cost and benefit, for one section that is not urgent",
-        )?)?
-        .subcommand(on_image(
-            alloc,
-            "check",
-            "Tells whether the image is sound, or its exact fault",
-        )?)?
-        .subcommand(flagged(
-            alloc,
-            "stat",
-            "Tells the numbers of the volume",
-            "json",
-            "Writes JSON",
-        )?)?
-        .subcommand(map_command(alloc)?)
-}
-
-// The commands that copy a folder of the system.
-fn with_folder_commands<'a>(
-    alloc: Global,
-    program: Command<'a>,
-) -> Result<Command<'a>, AllocError> {
-    program
-        .subcommand(foldered(
-            alloc,
-            "dump",
-            "Writes each file into FOLDER, under its name or number",
-        )?)?
-        .subcommand(foldered(
-            alloc,
-            "import",
-            "Puts each ordinary file of FOLDER under its name",
-        )?)
-}
-
-fn on_image<'a>(alloc: Global, name: &'a str, about: &'a str) -> Result<Command<'a>, AllocError> {
-    let image = Arg::new(alloc, "image")
-        .value_name("IMAGE")
-        .help("The image file")
-        .required(true);
-    Command::new(alloc, name).about(about).arg(image)
-}
-
-fn named<'a>(alloc: Global, name: &'a str, about: &'a str) -> Result<Command<'a>, AllocError> {
-    let file = Arg::new(alloc, "name")
-        .value_name("NAME")
-        .help("The file's name on the volume")
-        .required(true);
-    on_image(alloc, name, about)?.arg(file)
-}
-
-fn foldered<'a>(alloc: Global, name: &'a str, about: &'a str) -> Result<Command<'a>, AllocError> {
-    let folder = Arg::new(alloc, "folder")
-        .value_name("FOLDER")
-        .help("A folder of the system")
-        .required(true);
-    on_image(alloc, name, about)?.arg(folder)
-}
-
-fn flagged<'a>(
-    alloc: Global,
-    name: &'a str,
-    about: &'a str,
-    flag: &'a str,
-    help: &'a str,
-) -> Result<Command<'a>, AllocError> {
-    let flag = Arg::new(alloc, flag)
-        .long(flag)
-        .help(help)
-        .action(ArgAction::SetTrue);
-    on_image(alloc, name, about)?.arg(flag)
-}
-
-fn get_command<'a>(alloc: Global) -> Result<Command<'a>, AllocError> {
-    let name = Arg::new(alloc, "name")
-        .value_name("NAME")
-        .help("The file's name on the volume");
-    let number = Arg::new(alloc, "number")
-        .long("number")
-        .value_name("N")
-        .help("The file's number, in place of a name: all its blocks are written")
-        .value_parser(value_parser!(u32));
-    on_image(
-        alloc,
-        "get",
-        "Writes the bytes of a file to standard output",
-    )?
-    .arg(name)?
-    .arg(number)
-}
-
-fn rename_command<'a>(alloc: Global) -> Result<Command<'a>, AllocError> {
-    let to = Arg::new(alloc, "to")
-        .value_name("NEW")
-        .help("Its new name, which no file has")
-        .required(true);
-    named(alloc, "mv", "Gives the file NAME another name")?.arg(to)
-}
-
-fn map_command<'a>(alloc: Global) -> Result<Command<'a>, AllocError> {
-    let svg = Arg::new(alloc, "svg")
-        .long("svg")
-        .value_name("FILE")
-        .help("Writes a picture (SVG) to a new file");
-    on_image(
-        alloc,
-        "map",
-        "Draws each segment: how full it is, its log, its age",
-    )?
-    .arg(svg)
-}
-
-fn format_command<'a>(alloc: Global) -> Result<Command<'a>, AllocError> {
-    let shape = Arg::new(alloc, "shape")
-        .long("shape")
-        .value_name("SHAPE")
-        .help("kernel: segments of 512 blocks of 4096 bytes; tiny: of 8 of 64")
-        .value_parser(SHAPES.as_slice())
-        .default_value("kernel");
-    on_image(
-        alloc,
-        "format",
-        "Makes a new image file with an empty volume",
-    )?
-    .arg(shape)?
-    .arg(number_option(alloc, "segments", "Segments, 16 to 4096", "32"))?
-    .arg(number_option(alloc, "per-section", "Segments a section, 1 to 16", "1"))?
-    .arg(number_option(alloc, "files", "The most files, 1 to 1024", "256"))?
-    .arg(number_option(
-        alloc,
-        "nodes",
-        "The most nodes, as many as files to 65536",
-        "2048",
-    ))
-}
-
-fn number_option<'a>(alloc: Global, name: &'a str, help: &'a str, other: &'a str) -> Arg<'a> {
-    Arg::new(alloc, name)
-        .long(name)
-        .value_name("N")
-        .help(help)
-        .value_parser(value_parser!(u32))
-        .default_value(other)
 }

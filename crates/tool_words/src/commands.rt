@@ -1,25 +1,28 @@
 //! What each command does.
-use crate::asking::{ask_to_put, ask_to_remove, ask_to_rename};
+use crate::asking::{ask_to_remove, ask_to_rename};
 use crate::check::check;
-use crate::command_line::{Numbers, Task, Words};
-use crate::draw::draw;
+use crate::command_line::{Task, Words};
+use crate::completing::write_completions;
 use crate::fault::Fault;
 use crate::folders::dump;
-use crate::image_run::{image_length, now, open_volume, read_image, run};
+use crate::getting::{Wanted, concatenate, get};
+use crate::image_run::{ImageFile, now, open_parts, run};
 use crate::importing::import;
-use crate::making_room::{put_making_room, remove_making_room, rename_making_room};
+use crate::making::make;
+use crate::making_room::{remove_making_room, rename_making_room};
+use crate::manual::write_manual;
+use crate::map::map;
+use crate::putting::{PutFile, append, copy, put};
+use crate::room::tell_room;
 use crate::screen::Screen;
+use crate::shown::Shown;
 use crate::stat::{list, stat};
-use crate::svg::draw_svg;
-use file_device::{create_image, open_image};
-use flash_volume::{Geometry, Leave, Policy, Shape, work_on_new};
+use flash_volume::{Geometry, Leave, Policy};
 use std::fs::{File, Files};
-use std::io::{BufWriter, Read, Write};
+use std::io::{Read, Write};
 use std::rt::Runtime;
 use std::sync::Wait;
-use tool_files::{Clean, MakeFolder, Put, Remove, Rename};
-use tool_folder::is_name;
-use tool_reading::Refusal;
+use tool_files::{Clean, Remove, Rename};
 
 /// Does what the words ask for, and answers the exit status.
 pub fn obey<R: Runtime + AllocGlobal + Wait + Files<File = File>, I: Read, O: Write, E: Write>(
@@ -32,138 +35,167 @@ pub fn obey<R: Runtime + AllocGlobal + Wait + Files<File = File>, I: Read, O: Wr
 ) -> Result<u8, Fault> {
     let image = words.image;
     match words.task {
-        Task::Check => return check(rt, image, out),
-        Task::Format(numbers) => make(rt, image, numbers, out)?,
-        Task::Put { name } => {
-            screen.tell(errors, "put", name);
-            let told = put(rt, image, name, input, out);
-            screen.clear(errors);
-            told?;
-        }
-        Task::Get { name, number } => get(rt, image, name, number, out)?,
-        Task::Remove { name } => remove(rt, image, name)?,
-        Task::Rename { name, to } => rename(rt, image, name, to)?,
+        Task::Check { json } => return check(rt, image, json, screen, out),
+        Task::Import { folder } => return import(rt, screen, image, folder, out, errors),
+        Task::Dump { folder } => return dump(rt, screen, image, folder, errors),
+        Task::Format(_)
+        | Task::Put { .. }
+        | Task::Append { .. }
+        | Task::Copy { .. }
+        | Task::Remove
+        | Task::Rename { .. } => change(rt, screen, words, input, out, errors)?,
+        Task::Get {
+            name,
+            number,
+            file,
+            part,
+        } => get(rt, image, Wanted { name, number, part }, file, out)?,
+        Task::Concatenate => concatenate(rt, image, words.names.as_slice(), out)?,
         Task::List { json } => list(rt, image, json, out)?,
         Task::Clean { background } => clean(rt, screen, image, background, out, errors)?,
         Task::Stat { json } => stat(rt, image, json, out)?,
-        Task::Map { svg } => map(rt, screen, image, svg, out)?,
-        Task::Dump { folder } => dump(rt, screen, image, folder, errors)?,
-        Task::Import { folder } => import(rt, screen, image, folder, out, errors)?,
+        Task::Room { json } => tell_room(rt, image, json, out)?,
+        Task::Map { svg, json } => map(rt, screen, image, svg, json, out)?,
+        Task::Complete { shell } => write_completions(rt.alloc(), shell, out)?,
+        Task::Describe => write_manual(rt.alloc(), out)?,
     }
     Ok(0)
 }
 
-fn make<R: AllocGlobal + Wait + Files<File = File>, O: Write>(
+// Does what changes the image, and tells what was done.
+fn change<R: Runtime + AllocGlobal + Wait + Files<File = File>, I: Read, O: Write, E: Write>(
     rt: &R,
-    image: &str,
-    numbers: Numbers,
-    out: &mut O,
-) -> Result<(), Fault> {
-    let shape = if numbers.is_tiny {
-        Shape::TINY
-    } else {
-        Shape::KERNEL
-    };
-    let Numbers {
-        is_tiny: _,
-        segments,
-        per_section,
-        files,
-        nodes,
-    } = numbers;
-    let geometry = Geometry::new(shape, segments, per_section, files, nodes)?;
-    let parts = create_image(rt, rt.alloc(), image, &geometry)?;
-    work_on_new(rt, rt.alloc(), parts, geometry, Leave::Close, MakeFolder)?;
-    let bytes = u64::from(geometry.blocks()).saturating_mul(u64::from(shape.block_bytes()));
-    writeln!(
-        out,
-        "made {image}: {segments} segments, {bytes} bytes, at most {files} files"
-    )?;
-    Ok(())
-}
-
-fn put<R: Runtime + AllocGlobal + Wait + Files<File = File>, I: Read, O: Write>(
-    rt: &R,
-    image: &str,
-    name: &str,
+    screen: Screen,
+    words: &Words<'_>,
     input: &mut I,
     out: &mut O,
+    errors: &mut E,
 ) -> Result<(), Fault> {
-    if !is_name(name) {
-        return Err(Fault::Name(Refusal::BadName));
+    let image = words.image;
+    match words.task {
+        Task::Format(numbers) => {
+            let made = make(rt, image.path, numbers)?;
+            tell_made(screen, image.path, &made, out)
+        }
+        Task::Put {
+            name,
+            file,
+            replaces,
+        } => {
+            screen.tell(errors, "put", name);
+            let done = put(rt, image, name, file, replaces, input);
+            screen.clear(errors);
+            tell_put(screen, name, done?, out)
+        }
+        Task::Append { name, file } => {
+            let added = append(rt, image, name, file, input)?;
+            tell_added(screen, name, added, out)
+        }
+        Task::Copy { name, to, replaces } => {
+            let done = copy(rt, image, name, to, replaces)?;
+            tell_put(screen, to, done, out)
+        }
+        Task::Rename { name, to } => rename(rt, image, name, to),
+        _ => remove(rt, image, words.names.as_slice()),
     }
-    let length = image_length(rt, image)?;
-    // No file is as long as the image.
-    let mut bytes = Vec::new(rt.alloc());
-    input.by_ref().take(length).read_to_end(&mut bytes)?;
-    ask_to_put(rt, image)?;
-    if bytes.len() as u64 >= length {
-        return Err(Fault::TooLong);
+}
+
+fn tell_made<O: Write>(
+    screen: Screen,
+    path: &str,
+    made: &Geometry,
+    out: &mut O,
+) -> Result<(), Fault> {
+    if !screen.quiet {
+        let bytes = u64::from(made.blocks()).saturating_mul(u64::from(made.shape.block_bytes()));
+        writeln!(
+            out,
+            "made {}: {} segments, {bytes} bytes, at most {} files",
+            Shown(path),
+            made.segments,
+            made.files
+        )?;
     }
-    let parts = open_image(rt, rt.alloc(), image)?;
-    let work = Put {
-        name,
-        bytes: bytes.as_slice(),
-        now: now(rt),
-    };
-    let (_parts, number) = put_making_room(rt, parts, work)?;
-    writeln!(out, "file {} has {} bytes: {name}", number?, bytes.len())?;
     Ok(())
 }
 
+fn tell_put<O: Write>(screen: Screen, name: &str, put: PutFile, out: &mut O) -> Result<(), Fault> {
+    if !screen.quiet {
+        writeln!(
+            out,
+            "file {} has {} bytes: {}",
+            put.number,
+            put.bytes,
+            Shown(name)
+        )?;
+    }
+    Ok(())
+}
+
+fn tell_added<O: Write>(
+    screen: Screen,
+    name: &str,
+    added: PutFile,
+    out: &mut O,
+) -> Result<(), Fault> {
+    if !screen.quiet {
+        writeln!(
+            out,
+            "file {} has {} bytes more: {}",
+            added.number,
+            added.bytes,
+            Shown(name)
+        )?;
+    }
+    Ok(())
+}
+
+// Removes files, one after the other. Where one name is not there, none is removed.
 fn remove<R: Runtime + AllocGlobal + Wait + Files<File = File>>(
     rt: &R,
-    image: &str,
-    name: &str,
+    image: ImageFile<'_>,
+    names: &[&str],
 ) -> Result<(), Fault> {
-    ask_to_remove(rt, image, name)?;
-    let parts = open_image(rt, rt.alloc(), image)?;
-    let work = Remove { name, now: now(rt) };
-    remove_making_room(rt, parts, work)??;
+    ask_to_remove(rt, image, names)?;
+    for name in names {
+        let parts = open_parts(rt, image)?;
+        let name: &str = name;
+        let work = Remove { name, now: now(rt) };
+        if let Err(refusal) = remove_making_room(rt, parts, work)? {
+            return Err(Fault::of_name(rt.alloc(), name, refusal));
+        }
+    }
     Ok(())
 }
 
 fn rename<R: Runtime + AllocGlobal + Wait + Files<File = File>>(
     rt: &R,
-    image: &str,
+    image: ImageFile<'_>,
     name: &str,
     to: &str,
 ) -> Result<(), Fault> {
     ask_to_rename(rt, image, name, to)?;
-    let parts = open_image(rt, rt.alloc(), image)?;
+    let parts = open_parts(rt, image)?;
     let work = Rename {
         name,
         to,
         now: now(rt),
     };
-    rename_making_room(rt, parts, work)??;
-    Ok(())
-}
-
-fn get<R: AllocGlobal + Files<File = File>, O: Write>(
-    rt: &R,
-    image: &str,
-    name: Option<&str>,
-    number: u32,
-    out: &mut O,
-) -> Result<(), Fault> {
-    let mut volume = open_volume(rt, image)?;
-    match name {
-        Some(name) => volume.get(rt.alloc(), name, out)??,
-        None => volume.get_number(rt.alloc(), number, out)??,
+    match rename_making_room(rt, parts, work)? {
+        Ok(()) => Ok(()),
+        Err(refusal) => Err(Fault::of_name(rt.alloc(), to, refusal)),
     }
-    Ok(())
 }
 
 fn clean<R: Runtime + AllocGlobal + Wait + Files<File = File>, O: Write, E: Write>(
     rt: &R,
     screen: Screen,
-    image: &str,
+    image: ImageFile<'_>,
     background: bool,
     out: &mut O,
     errors: &mut E,
 ) -> Result<(), Fault> {
-    screen.tell(errors, "clean", image);
+    screen.tell(errors, "clean", image.path);
     let work = Clean {
         policy: if background {
             Policy::Background
@@ -176,30 +208,12 @@ fn clean<R: Runtime + AllocGlobal + Wait + Files<File = File>, O: Write, E: Writ
     let tidied = run(rt, image, Leave::Close, work);
     screen.clear(errors);
     let tidied = tidied?;
-    writeln!(
-        out,
-        "cleaned {} sections, moved {} blocks",
-        tidied.sections, tidied.moved
-    )?;
-    Ok(())
-}
-
-fn map<R: AllocGlobal + Files<File = File>, O: Write>(
-    rt: &R,
-    screen: Screen,
-    path: &str,
-    svg: Option<&str>,
-    out: &mut O,
-) -> Result<(), Fault> {
-    let (geometry, image) = read_image(rt, path)?;
-    match svg {
-        Some(svg) => {
-            let file = File::create_new(rt, svg).map_err(Fault::of_new_file)?;
-            let mut file = BufWriter::new(rt.alloc(), file)?;
-            draw_svg(&geometry, &image, &mut file)?;
-            file.flush()?;
-        }
-        None => draw(&geometry, &image, screen, out)?,
+    if !screen.quiet {
+        writeln!(
+            out,
+            "cleaned {} sections, moved {} blocks",
+            tidied.sections, tidied.moved
+        )?;
     }
     Ok(())
 }

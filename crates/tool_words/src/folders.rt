@@ -1,7 +1,10 @@
 //! Many files at once, into a folder of the system.
+use crate::asking::has_file;
 use crate::fault::Fault;
-use crate::image_run::open_volume;
+use crate::image_run::{ImageFile, open_volume};
+use crate::new_file::{keep_whole, make_new};
 use crate::screen::Screen;
+use crate::shown::Shown;
 use image_reading::FileSource;
 use std::fs;
 use std::fs::{File, Files};
@@ -11,64 +14,117 @@ use tool_folder::{Entry, FOLDER, is_name};
 use tool_reading::{Listing, OpenVolume};
 
 /// Writes each file of a volume into a folder, which is made where there is none: under its name, or as `file-N` where the folder
-/// of the volume has no name for it that a system takes. A file that is there is never written over: then it stops.
+/// of the volume has no name for it that a system takes. Where a file of such a name is there nothing is written. Where one can't be
+/// written it stops: that file is not there, and those before it are.
+///
+/// A name whose file is gone is told on `errors`, and then the status that is answered is 1 in place of 0.
 pub fn dump<R: Runtime + AllocGlobal + Files<File = File>, E: Write>(
     rt: &R,
     screen: Screen,
-    image: &str,
+    image: ImageFile<'_>,
     folder: &str,
     errors: &mut E,
-) -> Result<(), Fault> {
+) -> Result<u8, Fault> {
     let mut volume = open_volume(rt, image)?;
     let listing = volume.list(rt.alloc())?;
-    fs::create_dir_all(rt, folder)?;
-    dump_named(rt, screen, &mut volume, &listing, folder, errors)?;
-    dump_unnamed(rt, screen, &mut volume, &listing, folder, errors)?;
+    let plan = plan_of(rt, &listing, folder)?;
+    if let Err(error) = fs::create_dir_all(rt, folder) {
+        return Err(Fault::of_file(rt.alloc(), folder, error));
+    }
+    for planned in &plan {
+        screen.tell(errors, "dump", planned.path.as_str());
+        let written = dump_file(rt, &mut volume, planned);
+        if written.is_err() {
+            screen.clear(errors);
+        }
+        written?;
+    }
     screen.clear(errors);
-    Ok(())
+    Ok(tell_gone(&listing, errors))
 }
 
-// Writes the files that have a name.
-fn dump_named<R: Runtime + AllocGlobal + Files<File = File>, E: Write>(
+// A file of the volume, and the path that it is to have.
+#[derive(Drop)]
+struct Planned<'a> {
+    name: Option<&'a str>,
+    number: u32,
+    path: String,
+}
+
+// All files with their paths. Refuses a path where a file is.
+fn plan_of<'a, R: AllocGlobal + Files<File = File>>(
     rt: &R,
-    screen: Screen,
-    volume: &mut OpenVolume<FileSource>,
-    listing: &Listing,
+    listing: &'a Listing,
     folder: &str,
-    errors: &mut E,
-) -> Result<(), Fault> {
+) -> Result<Vec<Planned<'a>>, Fault> {
+    let mut plan = Vec::new(rt.alloc());
     for entry in named(listing) {
         let name = entry.name.as_str();
-        if is_name(name) {
-            screen.tell(errors, "dump", name);
-            let mut bytes = Vec::new(rt.alloc());
-            volume.get(rt.alloc(), name, &mut bytes)??;
-            write_new(rt, folder, name, bytes.as_slice())?;
+        if is_name(name) && has_file(listing, entry.number) {
+            plan.push(Planned {
+                name: Some(name),
+                number: entry.number,
+                path: format!(in rt.alloc(); "{folder}/{name}")?,
+            })?;
         }
     }
-    Ok(())
-}
-
-// Writes the files that have no name.
-fn dump_unnamed<R: Runtime + AllocGlobal + Files<File = File>, E: Write>(
-    rt: &R,
-    screen: Screen,
-    volume: &mut OpenVolume<FileSource>,
-    listing: &Listing,
-    folder: &str,
-    errors: &mut E,
-) -> Result<(), Fault> {
     for file in &listing.files {
         let number = file.number;
         if is_unnamed(listing, number) {
-            let name = format!(in rt.alloc(); "file-{number}")?;
-            screen.tell(errors, "dump", name.as_str());
-            let mut bytes = Vec::new(rt.alloc());
-            volume.get_number(rt.alloc(), number, &mut bytes)??;
-            write_new(rt, folder, name.as_str(), bytes.as_slice())?;
+            plan.push(Planned {
+                name: None,
+                number,
+                path: format!(in rt.alloc(); "{folder}/file-{number}")?,
+            })?;
         }
     }
-    Ok(())
+    for planned in &plan {
+        refuse_there(rt, planned.path.as_str())?;
+    }
+    Ok(plan)
+}
+
+// Refuses a path where a file is, or a link that leads nowhere.
+fn refuse_there<R: AllocGlobal + Files<File = File>>(rt: &R, path: &str) -> Result<(), Fault> {
+    if fs::symlink_metadata(rt, path).is_err() {
+        return Ok(());
+    }
+    match String::from_str(rt.alloc(), path) {
+        Ok(path) => Err(Fault::FileThere(path)),
+        Err(error) => Err(Fault::from(error)),
+    }
+}
+
+fn dump_file<R: Runtime + AllocGlobal + Files<File = File>>(
+    rt: &R,
+    volume: &mut OpenVolume<FileSource>,
+    planned: &Planned<'_>,
+) -> Result<(), Fault> {
+    let path = planned.path.as_str();
+    let mut file = make_new(rt, path)?;
+    let written = match planned.name {
+        Some(name) => volume.get(rt.alloc(), name, &mut file),
+        None => volume.get_number(rt.alloc(), planned.number, &mut file),
+    };
+    let written = match written {
+        Ok(Ok(())) => Ok(()),
+        Ok(Err(refusal)) => Err(Fault::from(refusal)),
+        Err(fault) => Err(Fault::from(fault)),
+    };
+    keep_whole(rt, path, written)
+}
+
+// Tells the names whose files are gone. Answers the status: 1 where there is one.
+fn tell_gone<E: Write>(listing: &Listing, errors: &mut E) -> u8 {
+    let mut status = 0;
+    for entry in named(listing) {
+        if !has_file(listing, entry.number) {
+            let name = Shown(entry.name.as_str());
+            let _ = writeln!(errors, "rusziveg: {name} is left out: its file is gone");
+            status = 1;
+        }
+    }
+    status
 }
 
 fn named(listing: &Listing) -> &[Entry] {
@@ -84,16 +140,4 @@ fn is_unnamed(listing: &Listing, number: u32) -> bool {
         return false;
     }
     !named(listing).iter().any(|entry| entry.number == number && is_name(entry.name.as_str()))
-}
-
-fn write_new<R: AllocGlobal + Files<File = File>>(
-    rt: &R,
-    folder: &str,
-    name: &str,
-    bytes: &[u8],
-) -> Result<(), Fault> {
-    let path = format!(in rt.alloc(); "{folder}/{name}")?;
-    let mut file = File::create_new(rt, path.as_str()).map_err(Fault::of_new_file)?;
-    file.write_all(bytes)?;
-    Ok(())
 }

@@ -1,23 +1,61 @@
 //! Work on the volume of an image file.
+ghost use Rattle.std.specs.Prelude.{ℕ, IfOk};
+ghost use Rattle.device.specs.Parts.{IsBlockRun};
+
 use crate::fault::Fault;
-use file_device::{FileBlock, FileMeta, open_image};
-use flash_volume::{Geometry, Leave, Work, work_on};
+use file_device::{FileBlock, FileFault, FileMeta, FileParts, open_image};
+use flash_volume::{Block, Geometry, Leave, Work, work_on};
 use image::Image;
 use image_reading::FileSource;
-use packs_format::ReadImage;
-use std::fs;
 use std::fs::{File, Files};
-use std::io::Read;
 use std::sync::Wait;
-use std::time::{Clock, SystemTime};
+use std::time::{Clock, Duration, SystemTime};
+use std::{fs, thread};
 use tool_reading::OpenVolume;
+
+// How often a second an image file is asked for that another program has open.
+const TRIES: u32 = 20;
+
+/// An image file, and how long it is waited for where another program has it open.
+#[derive(Clone, Copy)]
+pub struct ImageFile<'a> {
+    pub path: &'a str,
+    /// In seconds.
+    pub wait: u32,
+}
+
+impl<'a> ImageFile<'a> {
+    // How often it is asked for before the last time.
+    fn tries(self) -> u32 {
+        self.wait.saturating_mul(TRIES)
+    }
+}
+
+/// The parts of the device over an image file, which is locked as long as they are there. Answers Busy where another program had it
+/// all the time that it was waited for.
+pub fn open_parts<R: AllocGlobal + Clock + Files<File = File>>(
+    rt: &R,
+    image: ImageFile<'_>,
+) -> Result<FileParts, Fault>
+    ensures run { IfOk result (λ parts. (bytes : ℕ) × IsBlockRun ⟦<FileBlock<File> as Block>⟧.address_of ⟦<FileBlock<File> as Block>⟧.content_of bytes 1 parts.blocks.items) }
+{
+    for _ in 0..image.tries() {
+        match open_image(rt, rt.alloc(), image.path) {
+            Ok(parts) => return Ok(parts),
+            Err(FileFault::Busy) => thread::sleep(rt, pause()),
+            Err(fault) => return Err(Fault::from(fault)),
+        }
+    }
+    let parts = open_image(rt, rt.alloc(), image.path)?;
+    Ok(parts)
+}
 
 /// Does work on the volume of an image file, and leaves it. The file is locked meanwhile.
 pub fn run<
-    R: AllocGlobal + Wait + Files<File = File>,
+    R: AllocGlobal + Clock + Wait + Files<File = File>,
     W: Work<FileMeta<File>, FileBlock<File>> + Drop,
->(rt: &R, image: &str, leave: Leave, work: W) -> Result<W::Output, Fault> {
-    let parts = open_image(rt, rt.alloc(), image)?;
+>(rt: &R, image: ImageFile<'_>, leave: Leave, work: W) -> Result<W::Output, Fault> {
+    let parts = open_parts(rt, image)?;
     let done = work_on(rt, rt.alloc(), parts, leave, work)?;
     Ok(done.output)
 }
@@ -32,36 +70,51 @@ pub fn image_length<R: Files<File = File>>(rt: &R, path: &str) -> Result<u64, Fa
     }
 }
 
-/// Reads an image file and what its last checkpoint has, and changes nothing.
-pub fn read_image<R: AllocGlobal + Files<File = File>>(
+/// Reads what the last checkpoint of an image file has: its tables and nodes, and no file's blocks. Changes nothing.
+pub fn read_image<R: AllocGlobal + Clock + Files<File = File>>(
     rt: &R,
-    path: &str,
+    image: ImageFile<'_>,
 ) -> Result<(Geometry, Image), Fault> {
-    let length = image_length(rt, path)?;
-    let mut file = open_to_read(rt, path)?;
-    let mut bytes = Vec::with_capacity(rt.alloc(), usize::try_from(length).unwrap_or(0))?;
-    file.read_to_end(&mut bytes).map_err(Fault::Image)?;
-    Ok(Image::read(rt.alloc(), bytes.as_slice())?)
+    let OpenVolume {
+        geometry,
+        image,
+        source: _,
+    } = open_volume(rt, image)?;
+    Ok((geometry, image))
 }
 
 /// Opens an image file so that its files are read, and changes nothing. As long as the volume is there nobody may open the file to
 /// change it; others may read it too.
-pub fn open_volume<R: AllocGlobal + Files<File = File>>(
+pub fn open_volume<R: AllocGlobal + Clock + Files<File = File>>(
     rt: &R,
-    path: &str,
+    image: ImageFile<'_>,
 ) -> Result<OpenVolume<FileSource>, Fault> {
-    image_length(rt, path)?;
-    let file = open_to_read(rt, path)?;
+    image_length(rt, image.path)?;
+    let file = open_to_read(rt, image)?;
     Ok(OpenVolume::open(rt.alloc(), FileSource::of(file))?)
 }
 
 // Opens a file that nobody changes meanwhile.
-fn open_to_read<R: AllocGlobal + Files<File = File>>(rt: &R, path: &str) -> Result<File, Fault> {
-    let file = File::open(rt, path).map_err(Fault::Image)?;
+fn open_to_read<R: Clock + Files<File = File>>(
+    rt: &R,
+    image: ImageFile<'_>,
+) -> Result<File, Fault> {
+    let file = File::open(rt, image.path).map_err(Fault::Image)?;
+    for _ in 0..image.tries() {
+        if file.try_lock_shared().is_ok() {
+            return Ok(file);
+        }
+        thread::sleep(rt, pause());
+    }
     if file.try_lock_shared().is_err() {
         return Err(Fault::Busy);
     }
     Ok(file)
+}
+
+// The time between two tries.
+fn pause() -> Duration {
+    Duration::from_millis(50)
 }
 
 /// The seconds since 1970, 0 where the clock fails.

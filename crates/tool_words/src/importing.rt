@@ -4,18 +4,20 @@ ghost use Rattle.device.specs.Parts.{IsBlockRun};
 
 use crate::asking::ask_to_put;
 use crate::fault::Fault;
-use crate::image_run::{image_length, now};
+use crate::image_run::{ImageFile, image_length, now, open_parts};
 use crate::making_room::put_making_room;
+use crate::putting::read_file;
 use crate::screen::Screen;
-use file_device::open_image;
+use crate::shown::Shown;
+use crate::window::Patient;
 use flash_volume::{Block, Error, Leave, Meta, Parts, Stage, work_on};
 use std::alloc::{AllocError, Global};
 use std::cell::Cell;
-use std::fs;
-use std::fs::{File, Files};
-use std::io::{Read, Write};
+use std::fs::{File, FileType, Files};
+use std::io::Write;
 use std::rt::Runtime;
 use std::sync::Wait;
+use std::{fs, io};
 use tool_files::{NewFile, Put, PutAll};
 use tool_folder::is_name;
 use tool_reading::Refusal;
@@ -23,23 +25,40 @@ use tool_reading::Refusal;
 /// Puts each ordinary file of a folder of the system under its name, in the order of the names, and tells on `out` which were put.
 /// Each is put whole or not at all. Where one is refused it stops, names it on `errors`, and those before it are there.
 ///
-/// The volume is mounted once for all of them, where they have no more bytes than the image and none is refused.
+/// What is no ordinary file is left out and named on `errors`, and then the status that is answered is 1 in place of 0.
+///
+/// The volume is mounted once for all of them, where they have no more bytes than the image and none is refused. Where `out` fails the
+/// files are put nevertheless, and then that is answered.
 pub fn import<R: Runtime + AllocGlobal + Wait + Files<File = File>, O: Write, E: Write>(
     rt: &R,
     screen: Screen,
-    image: &str,
+    image: ImageFile<'_>,
     folder: &str,
     out: &mut O,
     errors: &mut E,
-) -> Result<(), Fault> {
-    let names = names_in(rt, folder)?;
-    let most = image_length(rt, image)?;
-    ask_to_put(rt, image)?;
-    let parts = open_image(rt, rt.alloc(), image)?;
+) -> Result<u8, Fault> {
+    let mut names = Vec::new(rt.alloc());
+    let status = find_names(rt, folder, &mut names, errors)?;
+    names.sort()?;
+    let most = image_length(rt, image.path)?;
+    ask_to_put(rt, image, None)?;
+    let parts = open_parts(rt, image)?;
     screen.tell(errors, "import", folder);
-    let done = import_all(rt, parts, folder, names.as_slice(), most, out, errors);
+    let mut told = Patient { out, failed: None };
+    let done = import_all(
+        rt,
+        parts,
+        folder,
+        names.as_slice(),
+        most,
+        screen,
+        &mut told,
+        errors,
+    );
     screen.clear(errors);
-    done
+    done?;
+    Fault::of_output(told.outcome())?;
+    Ok(status)
 }
 
 // Puts files, as many at once as have no more than so many bytes.
@@ -55,6 +74,7 @@ fn import_all<
     folder: &str,
     names: &[String],
     most: u64,
+    screen: Screen,
     out: &mut O,
     errors: &mut E,
 ) -> Result<(), Fault>
@@ -66,7 +86,7 @@ fn import_all<
         let (_front, rest) = names.split_at(done);
         let contents = read_front(rt, folder, rest, most)?;
         let files = files_of(rt.alloc(), rest, contents.as_slice())?;
-        parts = put_files(rt, parts, files.as_slice(), out, errors)?;
+        parts = put_files(rt, parts, files.as_slice(), screen, out, errors)?;
         done += contents.len().max(1).min(rest.len());
     }
     Ok(())
@@ -83,8 +103,7 @@ fn read_front<R: Runtime + AllocGlobal + Files<File = File>>(
     let mut left = most;
     for name in names {
         let path = format!(in rt.alloc(); "{folder}/{name}")?;
-        let mut bytes = Vec::new(rt.alloc());
-        File::open(rt, path.as_str())?.read_to_end(&mut bytes)?;
+        let bytes = read_file(rt, path.as_str(), u64::MAX)?;
         left = left.saturating_sub(bytes.len() as u64);
         contents.push(bytes)?;
         if left == 0 {
@@ -115,6 +134,7 @@ fn put_files<M: Meta + Drop, B: Block + Drop, R: Runtime + AllocGlobal + Wait, O
     rt: &R,
     parts: Parts<M, B>,
     files: &[NewFile<'_>],
+    screen: Screen,
     out: &mut O,
     errors: &mut E,
 ) -> Result<Parts<M, B>, Fault>
@@ -125,7 +145,7 @@ fn put_files<M: Meta + Drop, B: Block + Drop, R: Runtime + AllocGlobal + Wait, O
     let mut done = 0;
     while done < files.len() {
         let (_front, rest) = files.split_at(done);
-        let (left, count) = put_front(rt, parts, rest, out, errors)?;
+        let (left, count) = put_front(rt, parts, rest, screen, out, errors)?;
         parts = left;
         done += count.max(1).min(rest.len());
     }
@@ -137,6 +157,7 @@ fn put_front<M: Meta + Drop, B: Block + Drop, R: Runtime + AllocGlobal + Wait, O
     rt: &R,
     parts: Parts<M, B>,
     files: &[NewFile<'_>],
+    screen: Screen,
     out: &mut O,
     errors: &mut E,
 ) -> Result<(Parts<M, B>, usize), Fault>
@@ -145,11 +166,11 @@ fn put_front<M: Meta + Drop, B: Block + Drop, R: Runtime + AllocGlobal + Wait, O
 {
     let (parts, count) = put_at_once(rt, parts, files)?;
     for file in files.iter().take(count) {
-        tell_put(*file, out)?;
+        tell_put(*file, screen, out)?;
     }
     match files.get(count) {
         Some(file) => {
-            let parts = put_alone(rt, parts, *file, out, errors)?;
+            let parts = put_alone(rt, parts, *file, screen, out, errors)?;
             Ok((parts, count.saturating_add(1)))
         }
         None => Ok((parts, count)),
@@ -206,6 +227,7 @@ fn put_alone<M: Meta + Drop, B: Block + Drop, R: Runtime + AllocGlobal + Wait, O
     rt: &R,
     parts: Parts<M, B>,
     file: NewFile<'_>,
+    screen: Screen,
     out: &mut O,
     errors: &mut E,
 ) -> Result<Parts<M, B>, Fault>
@@ -215,47 +237,106 @@ fn put_alone<M: Meta + Drop, B: Block + Drop, R: Runtime + AllocGlobal + Wait, O
     let work = Put {
         name: file.name,
         bytes: file.bytes,
+        replaces: true,
         now: now(rt),
     };
     let fault = match put_making_room(rt, parts, work) {
-        Ok((parts, Ok(_))) => {
-            tell_put(file, out)?;
-            return Ok(parts);
-        }
-        Ok((_, Err(refusal))) => Fault::from(refusal),
+        Ok((parts, answer)) => match answer {
+            Ok(_number) => {
+                tell_put(file, screen, out)?;
+                return Ok(parts);
+            }
+            Err(refusal) => Fault::from(refusal),
+        },
         Err(fault) => fault,
     };
     // What was put is told before.
     out.flush()?;
-    writeln!(
+    let name = Shown(file.name);
+    let _ = writeln!(
         errors,
-        "rusziveg: {} was not put; those before it by name were",
-        file.name
-    )?;
+        "rusziveg: {name} was not put; those before it by name were"
+    );
     Err(fault)
 }
 
-fn tell_put<O: Write>(file: NewFile<'_>, out: &mut O) -> Result<(), Fault> {
-    writeln!(out, "{} has {} bytes", file.name, file.bytes.len())?;
+fn tell_put<O: Write>(file: NewFile<'_>, screen: Screen, out: &mut O) -> Result<(), Fault> {
+    if !screen.quiet {
+        writeln!(out, "{} has {} bytes", Shown(file.name), file.bytes.len())?;
+    }
     Ok(())
 }
 
-// The names of the ordinary files in a folder, sorted.
-fn names_in<R: Runtime + AllocGlobal>(rt: &R, folder: &str) -> Result<Vec<String>, Fault> {
-    let alloc: Global = rt.alloc();
-    let mut names = Vec::new(alloc);
-    for entry in fs::read_dir(rt, folder)? {
-        let entry = entry?;
-        if entry.metadata()?.is_file() {
-            if !is_name(entry.file_name()) {
-                return Err(Fault::Name(Refusal::BadName));
-            }
-            names.push(String::from_str(alloc, entry.file_name())?)?;
+// Finds the names of the ordinary files in a folder, and tells what else is in it. Answers the status: 1 where there is something else.
+fn find_names<R: Runtime + AllocGlobal, E: Write>(
+    rt: &R,
+    folder: &str,
+    names: &mut Vec<String>,
+    errors: &mut E,
+) -> Result<u8, Fault> {
+    let mut status = 0;
+    let entries = match fs::read_dir(rt, folder) {
+        Ok(entries) => entries,
+        Err(error) => return Err(Fault::of_file(rt.alloc(), folder, error)),
+    };
+    for entry in entries {
+        let found = match entry {
+            Ok(entry) => add_name(
+                rt.alloc(),
+                entry.file_name(),
+                entry.file_type(),
+                names,
+                errors,
+            ),
+            Err(error) => Err(Fault::of_file(rt.alloc(), folder, error)),
+        };
+        if !found? {
+            status = 1;
         }
     }
     if names.is_empty() {
-        return Err(Fault::NoFiles);
+        return match String::from_str(rt.alloc(), folder) {
+            Ok(folder) => Err(Fault::NoFiles(folder)),
+            Err(error) => Err(Fault::from(error)),
+        };
     }
-    names.sort()?;
-    Ok(names)
+    Ok(status)
+}
+
+// Adds the name of an ordinary file. What is none is told, and answers false.
+fn add_name<E: Write>(
+    alloc: Global,
+    name: &str,
+    kind: io::Result<FileType>,
+    names: &mut Vec<String>,
+    errors: &mut E,
+) -> Result<bool, Fault> {
+    let kind = match kind {
+        Ok(kind) => kind,
+        Err(error) => return Err(Fault::of_file(alloc, name, error)),
+    };
+    if !kind.is_file() {
+        let _ = writeln!(
+            errors,
+            "rusziveg: {} is left out: it is {}",
+            Shown(name),
+            kind_text(&kind)
+        );
+        return Ok(false);
+    }
+    if !is_name(name) {
+        return Err(Fault::of_name(alloc, name, Refusal::BadName));
+    }
+    names.push(String::from_str(alloc, name)?)?;
+    Ok(true)
+}
+
+fn kind_text(kind: &FileType) -> &'static str {
+    if kind.is_dir() {
+        "a folder"
+    } else if kind.is_symlink() {
+        "a link"
+    } else {
+        "no ordinary file"
+    }
 }

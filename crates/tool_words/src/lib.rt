@@ -1,21 +1,38 @@
 //! The words of the tool `rusziveg`, and what each does: a call that takes the words, and the streams to read and write.
 #![tactic(auto)]
 
+mod advice;
 mod asking;
 mod check;
 mod command_line;
 mod commands;
+mod completing;
 mod draw;
 mod fault;
 mod folders;
+mod getting;
 mod image_run;
 mod importing;
+mod json_text;
+mod limits;
+mod making;
 mod making_room;
+mod manual;
+mod map;
+mod new_file;
+mod putting;
+mod room;
 mod run;
 mod screen;
+mod shown;
 mod stat;
+mod streams;
 mod svg;
+mod telling;
+mod window;
 
 pub use fault::Fault;
+pub use limits::Beyond;
 pub use run::{run_words, words_of_call};
 pub use screen::Screen;
+pub use streams::take_closed_streams;

@@ -5,7 +5,7 @@ ghost use Rattle.device.specs.Parts.{IsBlockRun};
 use crate::fault::Fault;
 use flash_volume::{Block, Done, Error, Fault as VolumeFault, Leave, Meta, Parts, Work, work_on};
 use std::sync::Wait;
-use tool_files::{DeleteFile, MakeRoom, Put, Remove, Rename};
+use tool_files::{Append, DeleteFile, MakeRoom, Put, Remove, Rename};
 use tool_reading::Refusal;
 
 /// Puts a file. Where there is no room, room is made, and then it is tried once more. The parts come back.
@@ -19,6 +19,20 @@ pub fn put_making_room<M: Meta + Drop, B: Block + Drop, R: AllocGlobal + Wait>(
 {
     match work_making_room(rt, parts, put, put.bytes.len() as u64, put.now) {
         Ok(done) => Ok((done.parts, done.output)),
+        Err(fault) => Err(Fault::from(fault)),
+    }
+}
+
+/// Puts bytes behind those of a file. Where there is no room, room is made for these, and then it is tried once more.
+pub fn append_making_room<M: Meta + Drop, B: Block + Drop, R: AllocGlobal + Wait>(
+    rt: &R,
+    parts: Parts<M, B>,
+    append: Append<'_>,
+) -> Result<Result<u32, Refusal>, Fault>
+    requires run { (bytes : ℕ) × IsBlockRun B.address_of B.content_of bytes 1 parts.blocks.items }
+{
+    match work_making_room(rt, parts, append, append.bytes.len() as u64, append.now) {
+        Ok(done) => Ok(done.output),
         Err(fault) => Err(Fault::from(fault)),
     }
 }

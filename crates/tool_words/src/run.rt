@@ -1,8 +1,9 @@
 //! The words are read and obeyed.
-use crate::command_line::read_words;
+use crate::command_line::{Words, read_words};
 use crate::commands::obey;
 use crate::fault::Fault;
 use crate::screen::Screen;
+use flash_volume::Error;
 use std::fs::{File, Files};
 use std::io::{Read, Write};
 use std::rt::Runtime;
@@ -25,29 +26,49 @@ pub fn run_words<R: Runtime + AllocGlobal + Wait + Files<File = File>, I: Read, 
 ) -> u8 {
     let words = match read_words(rt.alloc(), words) {
         Ok(words) => words,
-        Err(error) if error.exit_code() == 0 => {
-            // The help that was asked for.
-            let told = write!(out, "{error}").and_then(|()| out.flush());
-            return match told {
-                Ok(()) => 0,
-                Err(error) => Fault::Stream(error).tell(errors),
-            };
-        }
+        Err(error) if error.exit_code() == 0 => return tell_help(&error, out, errors),
         Err(error) => {
             let _ = write!(errors, "{error}");
             return MISUSED;
         }
     };
-    match obey(rt, screen, &words, input, out, errors) {
-        Ok(status) => match out.flush() {
-            Ok(()) => status,
-            Err(error) => Fault::Stream(error).tell(errors),
-        },
-        Err(fault) => {
-            // What was written goes out before it is told what failed.
-            let _ = out.flush();
-            fault.tell(errors)
-        }
+    let screen = screen.quieted(words.quiet);
+    let done = obey(rt, screen, &words, input, out, errors);
+    status_of(&words, done, out, errors)
+}
+
+// Writes what is left of the output, tells what failed, and answers the exit status.
+fn status_of<O: Write, E: Write>(
+    words: &Words<'_>,
+    done: Result<u8, Fault>,
+    out: &mut O,
+    errors: &mut E,
+) -> u8 {
+    // What was written goes out before it is told what failed.
+    let flushed = out.flush();
+    let status = match done {
+        Ok(status) => status,
+        Err(fault) => return told(words, fault, errors),
+    };
+    match flushed {
+        Ok(()) => status,
+        Err(error) if error.kind() == io::ErrorKind::BrokenPipe => status,
+        Err(error) => told(words, Fault::Output(error), errors),
+    }
+}
+
+// Tells a fault, and what was done before where standard output failed.
+fn told<E: Write>(words: &Words<'_>, fault: Fault, errors: &mut E) -> u8 {
+    fault
+        .after(words.task.done())
+        .tell(words.image.path, errors)
+}
+
+// Writes the help that was asked for.
+fn tell_help<O: Write, E: Write>(help: &clap::Error, out: &mut O, errors: &mut E) -> u8 {
+    match write!(out, "{help}").and_then(|()| out.flush()) {
+        Ok(()) => 0,
+        Err(error) => Fault::Output(error).tell("", errors),
     }
 }
 
@@ -61,7 +82,10 @@ pub fn words_of_call<R: Runtime + AllocGlobal>(rt: &R) -> Result<Vec<String>, Fa
             }
         }
         Err(error) if error.kind() == io::ErrorKind::InvalidData => return Err(Fault::NoWords),
-        Err(error) => return Err(Fault::Stream(error)),
+        Err(error) if error.kind() == io::ErrorKind::OutOfMemory => {
+            return Err(Fault::Volume(Error::NoMemory));
+        }
+        Err(error) => return Err(Fault::Input(error)),
     }
     Ok(words)
 }

@@ -1,4 +1,5 @@
 //! What the streams are connected to.
+use crate::shown::Shown;
 use std::io::Write;
 
 /// How the program writes.
@@ -8,12 +9,24 @@ pub struct Screen {
     pub progress: bool,
     /// Whether colours are used: standard output is a terminal, and nobody asked for none.
     pub colours: bool,
+    /// Whether nothing is told of work that went well.
+    pub quiet: bool,
 }
 
 impl Screen {
+    /// The same, and quiet where this is asked for.
+    pub fn quieted(self, quiet: bool) -> Screen {
+        Screen {
+            progress: self.progress && !quiet,
+            colours: self.colours,
+            quiet: self.quiet || quiet,
+        }
+    }
+
     /// Tells what is done now, over what was told before.
     pub fn tell<E: Write>(self, errors: &mut E, step: &str, of: &str) {
         if self.progress {
+            let of = Shown(of);
             let _ = write!(errors, "\r\u{1b}[K{step} {of} ..");
             let _ = errors.flush();
         }

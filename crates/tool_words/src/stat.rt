@@ -1,13 +1,18 @@
 //! What a volume has, in numbers.
+use crate::asking::has_file;
 use crate::fault::Fault;
-use crate::image_run::{open_volume, read_image};
-use flash_volume::{Geometry, usable_blocks};
+use crate::image_run::{ImageFile, open_volume, read_image};
+use crate::json_text::write_json;
+use crate::room::{bytes_of, room_of};
+use crate::shown::Shown;
+use flash_volume::Geometry;
 use image::Image;
 use serde::Serialize;
 use std::alloc::Global;
 use std::fs::{File, Files};
 use std::io::Write;
-use tool_folder::{Entry, FOLDER, is_name};
+use std::time::Clock;
+use tool_folder::{Entry, FOLDER};
 use tool_reading::Listing;
 use unicode_width::UnicodeWidthStr;
 
@@ -41,13 +46,13 @@ struct Row<'a> {
 }
 
 /// Tells the numbers of the volume at its last checkpoint.
-pub fn stat<R: AllocGlobal + Files<File = File>, O: Write>(
+pub fn stat<R: AllocGlobal + Clock + Files<File = File>, O: Write>(
     rt: &R,
-    path: &str,
+    file: ImageFile<'_>,
     json: bool,
     out: &mut O,
 ) -> Result<(), Fault> {
-    let (geometry, image) = read_image(rt, path)?;
+    let (geometry, image) = read_image(rt, file)?;
     let facts = facts_of(&geometry, &image);
     if json {
         let text = serde_json::to_string_pretty(rt.alloc(), &facts);
@@ -88,9 +93,7 @@ fn facts_of(geometry: &Geometry, image: &Image) -> Facts {
             None => false,
         })
         .count();
-    let usable = usable_blocks(geometry);
-    let kept = geometry.blocks().saturating_sub(usable);
-    let free = data_blocks(geometry, usable.saturating_sub(image.total));
+    let room = room_of(geometry, image);
     Facts {
         version: image.version,
         block_bytes: geometry.shape.block_bytes(),
@@ -103,74 +106,82 @@ fn facts_of(geometry: &Geometry, image: &Image) -> Facts {
         most_files: geometry.files,
         nodes: u32::try_from(nodes).unwrap_or(u32::MAX),
         most_nodes: geometry.nodes,
-        usable_bytes: bytes_of(geometry, usable),
-        used_bytes: bytes_of(geometry, image.total),
-        free_bytes: bytes_of(geometry, free),
-        kept_bytes: bytes_of(geometry, kept),
+        usable_bytes: room.usable_bytes,
+        used_bytes: room.used_bytes,
+        free_bytes: room.free_bytes,
+        kept_bytes: room.kept_bytes,
     }
 }
 
-fn bytes_of(geometry: &Geometry, blocks: u32) -> u64 {
-    u64::from(blocks).saturating_mul(u64::from(geometry.shape.block_bytes()))
-}
-
-// How many of so many blocks one more file's data can have: the others are for its nodes, and for a block of the folder.
-fn data_blocks(geometry: &Geometry, blocks: u32) -> u32 {
-    let entries = geometry.shape.node_entries();
-    let direct = blocks.checked_div(entries).unwrap_or(0);
-    let indirect = direct.checked_div(entries).unwrap_or(0);
-    blocks
-        .saturating_sub(direct)
-        .saturating_sub(indirect)
-        .saturating_sub(6)
-}
-
-/// Lists the files: the named ones in the folder's order, and then the others.
-pub fn list<R: AllocGlobal + Files<File = File>, O: Write>(
+/// Lists the files: the named ones in the folder's order, and then the others; and how many there are, and how many bytes they have.
+pub fn list<R: AllocGlobal + Clock + Files<File = File>, O: Write>(
     rt: &R,
-    path: &str,
+    file: ImageFile<'_>,
     json: bool,
     out: &mut O,
 ) -> Result<(), Fault> {
-    let listing = open_volume(rt, path)?.list(rt.alloc())?;
+    let mut volume = open_volume(rt, file)?;
+    let listing = volume.list(rt.alloc())?;
     let rows = rows_of(rt.alloc(), &listing)?;
     if json {
         let text = serde_json::to_string_pretty(rt.alloc(), &rows);
         return write_json(text, out);
     }
-    let widest = rows
-        .iter()
-        .map(|row| row.name.unwrap_or("").width())
-        .max()
-        .unwrap_or(0);
-    for row in &rows {
-        write_row(row, widest, has_file(&listing, row.number), out)?;
+    write_rows(rt.alloc(), rows.as_slice(), &listing, out)?;
+    write_total(&volume.geometry, rows.as_slice(), out)
+}
+
+// Writes a line for each file, the names in a column.
+fn write_rows<O: Write>(
+    alloc: Global,
+    rows: &[Row<'_>],
+    listing: &Listing,
+    out: &mut O,
+) -> Result<(), Fault> {
+    let mut names = Vec::new(alloc);
+    for row in rows {
+        // A folder of another program's may have what a terminal would obey.
+        names.push(match row.name {
+            Some(name) => format!(in alloc; "{}", Shown(name))?,
+            None => String::new(alloc),
+        })?;
+    }
+    let widths = names.iter().map(|name| name.as_str().width());
+    let widest = widths.max().unwrap_or(0);
+    for (row, name) in rows.iter().zip(names.iter()) {
+        let name = name.as_str();
+        write!(out, "{name}")?;
+        for _ in name.width()..widest {
+            write!(out, " ")?;
+        }
+        write_row(row, has_file(listing, row.number), out)?;
     }
     Ok(())
 }
 
-fn write_row<O: Write>(
-    row: &Row<'_>,
-    widest: usize,
-    has_file: bool,
-    out: &mut O,
-) -> Result<(), Fault> {
-    let name = row.name.unwrap_or("");
-    if is_name(name) || name.is_empty() {
-        write!(out, "{name}")?;
-    } else {
-        // A folder of another program's may have what a terminal would obey.
-        write!(out, "{name:?}")?;
-    }
-    for _ in name.width()..widest {
-        write!(out, " ")?;
-    }
+// Writes what stands behind a name.
+fn write_row<O: Write>(row: &Row<'_>, has_file: bool, out: &mut O) -> Result<(), Fault> {
     match row.bytes {
         // Its file was deleted, and its name was not removed.
         Some(_) if !has_file => writeln!(out, "  {:>18}  file {}", "is gone: rm it", row.number)?,
         Some(bytes) => writeln!(out, "  {bytes:>12} bytes  file {}", row.number)?,
         None => writeln!(out, "  {:>11} blocks  file {}", row.blocks, row.number)?,
     }
+    Ok(())
+}
+
+// Writes how many files there are, and how many bytes they have: those of a file without a name are whole blocks.
+fn write_total<O: Write>(geometry: &Geometry, rows: &[Row<'_>], out: &mut O) -> Result<(), Fault> {
+    let mut total = 0u64;
+    for row in rows {
+        let bytes = match row.bytes {
+            Some(bytes) => bytes,
+            None => bytes_of(geometry, row.blocks),
+        };
+        total = total.saturating_add(bytes);
+    }
+    let files = if rows.len() == 1 { "file" } else { "files" };
+    writeln!(out, "{} {files}, {total} bytes", rows.len())?;
     Ok(())
 }
 
@@ -203,24 +214,9 @@ fn rows_of<'a>(alloc: Global, listing: &'a Listing) -> Result<Vec<Row<'a>>, Faul
     Ok(rows)
 }
 
-fn has_file(listing: &Listing, number: u32) -> bool {
-    listing.files.iter().any(|file| file.number == number)
-}
-
 fn blocks_of(listing: &Listing, number: u32) -> u32 {
     match listing.files.iter().find(|file| file.number == number) {
         Some(file) => file.blocks,
         None => 0,
-    }
-}
-
-fn write_json<O: Write>(text: Result<String, serde_json::Error>, out: &mut O) -> Result<(), Fault> {
-    match text {
-        Ok(text) => {
-            writeln!(out, "{text}")?;
-            Ok(())
-        }
-        // What is written is always JSON, so only memory can be missing.
-        Err(_) => Err(Fault::Volume(flash_volume::Error::NoMemory)),
     }
 }

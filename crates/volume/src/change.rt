@@ -50,8 +50,9 @@ impl<V: VolumeName, M: Meta, B: Block + Drop> Volume<V, M, B> {
     ///
     /// Answers BadLength where the bytes are not one block, then TooFar where the index is at or past the largest length, then
     /// Wounded where a checkpoint failed while it was written, then NoMemory where a growth was refused, NoNode where a node is
-    /// missing on the way and every number was seen taken, NoSpace where the log is full and no segment was free, or Device
-    /// where the device failed. After each of them the file is as before.
+    /// missing on the way and every number was seen taken, NoSpace where the log is full and no segment was free or could be
+    /// threaded, or, by the careful rule, where the next checkpoint could lack places for its nodes (see `area::Threading`), or
+    /// Device where the device failed. After each of them the file is as before.
     pub fn write<R: Wait>(
         &self,
         rt: &R,

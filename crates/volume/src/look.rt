@@ -5,9 +5,10 @@ ghost use Rattle.file_readers.specs.Reader.{IsPinned};
 ghost use Rattle.file_readers.specs.Status.{all};
 
 use crate::volume::Volume;
+use area::CheckpointRoom;
 use device::{Block, Meta};
 use file_cells::FilePass;
-use file_readers::{Reader, Seat, Status, count_states};
+use file_readers::{Reader, Seat, Status, count_states, count_valid};
 use geometry::Error;
 use rights_names::VolumeName;
 use std::sync::Wait;
@@ -38,5 +39,17 @@ impl<V: VolumeName, M: Meta, B: Block + Drop> Volume<V, M, B> {
         ensures { all result ≡ V.Numbers.geometry.segments }
     {
         count_states(rt, &self.area)
+    }
+
+    /// How many blocks are valid: the data of all files, and their nodes but for those that were never written. Each segment's are
+    /// counted at a moment of the call.
+    pub fn valid_blocks<R: Wait>(&self, rt: &R) -> u32 {
+        count_valid(rt, &self.area)
+    }
+
+    /// At most how many nodes the next checkpoint has to write, and for how many there are places now. Both are counted beside the
+    /// volume, and other threads go on meanwhile, so no promise rests on them.
+    pub fn checkpoint_room(&self) -> CheckpointRoom {
+        self.area.checkpoint_room()
     }
 }

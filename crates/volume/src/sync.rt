@@ -27,8 +27,8 @@ impl<V: VolumeName, M: Meta, B: Block + Drop> Volume<V, M, B> {
     /// are freed, but for those that a reader holds (Linux `filesystems/f2fs`, checkpoint).
     ///
     /// Answers Wounded where a pack write failed before, then Exhausted where the version is the largest that there is; NoMemory
-    /// where a growth was refused, NoSpace where a log has no open segment for a node and none is free, and Device where the
-    /// device failed. What the files are stays. Only where the device failed in the pack write is the volume wounded.
+    /// where a growth was refused, NoSpace where a log has no open segment for a node and none is free or may be threaded, and Device
+    /// where the device failed. What the files are stays. Only where the device failed in the pack write is the volume wounded.
     pub fn sync<R: Wait>(&self, rt: &R, passes: &[&FilePass<V>]) -> Result<Stored<M, B>, Error>
         ensures lawful { IfOk result (λ stored. IsLawful V.Numbers.geometry (taken_view stored.taken.image)) }
         ensures files { IfOk result (λ stored. files_of stored.taken.added.items ≡ reverse (map (λ pass. shown_by pass.now) passes.now)) }
@@ -55,6 +55,8 @@ impl<V: VolumeName, M: Meta, B: Block + Drop> Volume<V, M, B> {
                 return Err(error);
             }
         };
+        // Those that the nodes began, where nothing was free: what is threaded isn't cleaned.
+        self.area.end_threads(rt, &all);
         let mut auditing = self.area.turnstile().audit(all);
         let stored = self.record(rt, &mut packs, files, &mut auditing, version, passes);
         let all = self.area.turnstile().end_audit(auditing);

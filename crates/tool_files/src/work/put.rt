@@ -8,6 +8,7 @@ ghost use Rattle.tool_folder.specs.Names.{IsRowOf, IsRowPlace};
 ghost use Rattle.tool_folder.specs.Rows.{row_of};
 
 use crate::content::{Blocks, write_all};
+use crate::room::{Taken, has_room};
 use crate::walk::{are_there, place_of, read_folder, write_folder};
 use device::{Block, Meta};
 use file_cells::FilePass;
@@ -16,18 +17,20 @@ use geometry::{Error, Kind};
 use rights_names::VolumeName;
 use std::alloc::Global;
 use std::sync::Wait;
-use tool_folder::{Entry, is_name, put_row, row_at};
+use tool_folder::{Entry, FOLDER, is_name, put_row, row_at};
 use tool_reading::Refusal;
 use volume::Volume;
 
 /// The file of a name becomes these bytes; where there is none it is made. Answers its number.
 ///
-/// Its errors are those of a write: TooFar where the bytes are more than a file has room for, NoSpace where the log is full. Then
-/// the volume is given up, and a later run finds what it was.
+/// Refused as NoRoom where the volume would have more blocks than it tells as its room. Its errors are those of a write: TooFar where the
+/// bytes are more than a file has room for, NoSpace where the log is full. Then the volume is given up, and a later run finds what it was.
 #[derive(Clone, Copy, Drop)]
 pub struct Put<'a> {
     pub name: &'a str,
     pub bytes: &'a [u8],
+    /// Whether a file that has the name already gets the bytes; else the name is refused.
+    pub replaces: bool,
     /// The time of the writes, in seconds.
     pub now: u64,
 }
@@ -64,14 +67,53 @@ impl<'a, M: Meta, B: Block + Drop> Work<M, B> for Put<'a> {
             return Ok(Err(Refusal::LostFile));
         }
         let row = row_at(entries.as_slice(), self.name);
+        if row.is_some() && !self.replaces {
+            return Ok(Err(Refusal::NameTaken));
+        }
         let held = entries.as_slice();
+        let bytes = self.bytes.len() as u64;
+        if !fits(rt, volume, rights.passes.as_slice(), held, row, bytes) {
+            return Ok(Err(Refusal::NoRoom));
+        }
         let passes = &mut rights.passes;
         let number = write_row(rt, alloc, volume, passes, held, row, self.bytes, self.now)?;
-        let bytes = self.bytes.len() as u64;
         put_row(alloc, &mut entries, row, self.name, number, bytes)?;
         let passes = rights.passes.as_mut_slice();
         write_folder(rt, alloc, volume, passes, entries.as_slice(), self.now)?;
         Ok(Ok(number))
+    }
+}
+
+// Whether there is room for so many bytes of the file of a row, or of a new one.
+fn fits<V: VolumeName, M: Meta, B: Block + Drop, R: Wait>(
+    rt: &R,
+    volume: &Volume<V, M, B>,
+    passes: &[FilePass<V>],
+    entries: &[Entry],
+    row: Option<usize>,
+    bytes: u64,
+) -> bool
+    requires within { IfSome row (λ place. place < length entries.now) }
+{
+    let file = match row {
+        Some(place) => blocks_of(passes, entries[place].number),
+        None => None,
+    };
+    // Nodes that were never written are valid nowhere yet.
+    let unwritten = volume.checkpoint_room().marked;
+    let taken = Taken {
+        valid: volume.valid_blocks(rt).saturating_add(unwritten),
+        folder: blocks_of(passes, FOLDER).unwrap_or(0),
+        file,
+    };
+    has_room(&volume.geometry(), taken, bytes)
+}
+
+// How many blocks of data the file of a number has, where the passes have it.
+fn blocks_of<V: VolumeName>(passes: &[FilePass<V>], number: u32) -> Option<u32> {
+    match place_of(passes, number) {
+        Some(place) => Some(passes[place].length()),
+        None => None,
     }
 }
 

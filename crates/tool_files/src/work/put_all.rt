@@ -56,6 +56,7 @@ impl<'a, 'b, 'c, M: Meta, B: Block + Drop> Work<M, B> for PutAll<'a, 'b, 'c> {
             let put = Put {
                 name: file.name,
                 bytes: file.bytes,
+                replaces: true,
                 now: self.now,
             };
             match put.run(rt, alloc, volume, rights)? {

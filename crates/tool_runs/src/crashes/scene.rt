@@ -114,6 +114,7 @@ pub fn put_of<'a>(name: &'a str, bytes: &'a [u8]) -> Put<'a> {
     Put {
         name,
         bytes,
+        replaces: true,
         now: 1,
     }
 }

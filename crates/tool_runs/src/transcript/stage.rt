@@ -1,12 +1,13 @@
 //! What stands ready for the next words, and what a line does.
 use super::input::Input;
+use super::output::{Limit, Output};
 use super::text::{word_at, words_of};
 use file_device::open_image;
 use flash_volume::{Leave, work_on};
 use std::alloc::Global;
 use std::fs::{File, Files, OpenOptions, Permissions};
 use std::io::Write;
-use std::os::unix::fs::{FileExt, PermissionsExt};
+use std::os::unix::fs::{FileExt, PermissionsExt, symlink};
 use std::rt::Runtime;
 use std::sync::Wait;
 use std::{fs, io};
@@ -17,7 +18,8 @@ use tool_words::{Screen, run_words};
 #[derive(Drop)]
 pub struct Stage {
     input: Vec<u8>,
-    fails: bool,
+    failure: Option<io::ErrorKind>,
+    limit: Option<Limit>,
     locked: Option<File>,
 }
 
@@ -25,14 +27,16 @@ impl Stage {
     pub fn new(alloc: Global) -> Stage {
         Stage {
             input: Vec::new(alloc),
-            fails: false,
+            failure: None,
+            limit: None,
             locked: None,
         }
     }
 
-    /// Prints a line, and does what it says: `# ..` does nothing; `input WORD`, `many N` and `failing N` make the input of the words
-    /// that follow; `copy FROM TO`, `cut FILE N`, `spoil FILE N` (the byte at N becomes 2), `protect FILE`, `lock FILE` and `unlock FILE` do something to a file,
-    /// `hide FOLDER` lets nobody read a folder and `show FOLDER` everybody; `files FOLDER N` makes a folder of so many files;
+    /// Prints a line, and does what it says: `# ..` does nothing; `input WORD`, `many N`, `failing N` and `starved N` make the input of
+    /// the words that follow; `full N` and `unread N` let their output fail behind so many bytes, and `taken` takes all; `copy FROM TO`, `cut FILE N`, `spoil FILE N` (the byte at N becomes 2), `protect FILE`, `lock FILE` and `unlock FILE` do something to a file,
+    /// `hide FOLDER` lets nobody read a folder and `show FOLDER` everybody; `files FOLDER N` makes a folder of so many files, and `folder
+    /// PATH` and `link PATH TO` make these;
     /// `halve IMAGE NAME` leaves a removal of the name half done; `rusziveg ..` are the tool's words.
     pub fn step<R: Runtime + AllocGlobal + Wait + Files<File = File>, O: Write>(
         &mut self,
@@ -46,9 +50,16 @@ impl Stage {
         let first = word_at(words, 1);
         match word_at(words, 0) {
             "rusziveg" => self.obey(rt, words, out),
-            "input" => self.take_input(rt.alloc(), first.as_bytes(), false),
-            "many" => self.take_many(rt.alloc(), first, false),
-            "failing" => self.take_many(rt.alloc(), first, true),
+            "input" => self.take_input(rt.alloc(), first),
+            "many" => self.take_many(rt.alloc(), first, None),
+            "failing" => self.take_many(rt.alloc(), first, Some(io::ErrorKind::TimedOut)),
+            "starved" => self.take_many(rt.alloc(), first, Some(io::ErrorKind::OutOfMemory)),
+            "full" => self.take_limit(first, io::ErrorKind::StorageFull),
+            "unread" => self.take_limit(first, io::ErrorKind::BrokenPipe),
+            "taken" => {
+                self.limit = None;
+                Ok(())
+            }
             "files" => make_files(rt, first, word_at(words, 2)),
             "halve" => halve_removal(rt, first, word_at(words, 2)),
             "lock" => self.lock(rt, first),
@@ -70,15 +81,19 @@ impl Stage {
         let screen = Screen {
             progress: false,
             colours: false,
+            quiet: false,
         };
         let mut input = Input {
             rest: self.input.as_slice(),
-            fails: self.fails,
+            failure: self.failure,
         };
-        let mut told = Vec::new(rt.alloc());
+        let mut told = Output {
+            bytes: Vec::new(rt.alloc()),
+            limit: self.limit,
+        };
         let mut errors = Vec::new(rt.alloc());
         let status = run_words(rt, screen, words, &mut input, &mut told, &mut errors);
-        print_lines(out, "", told.as_slice())?;
+        print_lines(out, "", told.bytes.as_slice())?;
         print_lines(out, "| ", errors.as_slice())?;
         if status != 0 {
             writeln!(out, "status {status}")?;
@@ -86,16 +101,27 @@ impl Stage {
         Ok(())
     }
 
-    fn take_input(&mut self, alloc: Global, bytes: &[u8], fails: bool) -> io::Result<()> {
-        self.input = Vec::from_slice(alloc, bytes)?;
-        self.fails = fails;
+    fn take_input(&mut self, alloc: Global, text: &str) -> io::Result<()> {
+        self.input = Vec::from_slice(alloc, text.as_bytes())?;
+        self.failure = None;
         Ok(())
     }
 
-    fn take_many(&mut self, alloc: Global, count: &str, fails: bool) -> io::Result<()> {
+    fn take_many(
+        &mut self,
+        alloc: Global,
+        count: &str,
+        failure: Option<io::ErrorKind>,
+    ) -> io::Result<()> {
         let count = count.parse::<u16>().unwrap_or(0);
         self.input = vec![in alloc; b'm'; count as usize]?;
-        self.fails = fails;
+        self.failure = failure;
+        Ok(())
+    }
+
+    fn take_limit(&mut self, bytes: &str, kind: io::ErrorKind) -> io::Result<()> {
+        let bytes = bytes.parse::<u16>().unwrap_or(0) as usize;
+        self.limit = Some(Limit { bytes, kind });
         Ok(())
     }
 
@@ -168,6 +194,8 @@ fn prepare<R: Files<File = File>>(rt: &R, verb: &str, path: &str, other: &str) -
             permissions.set_readonly(true);
             fs::set_permissions(rt, path, permissions)
         }
+        "folder" => fs::create_dir(rt, path),
+        "link" => symlink(rt, other, path),
         "hide" => fs::set_permissions(rt, path, Permissions::from_mode(0o333)),
         "show" => fs::set_permissions(rt, path, Permissions::from_mode(0o755)),
         _ => Ok(()),

@@ -30,7 +30,7 @@ write_folder-requires g c =
     let size = block_bytes g.V.Numbers.GeometryName.geometry.shape in
     let folder = some_of (λ found. HasFolder size c.as_slice.result.now (map row_of found.items)) c.in_ok-entries.field-0 c.in-Some.entries c.in-Some.is c.in_ok-entries.ensures.some in
     let rows : All IsRow (map row_of c.put_row.new.entries.items) = c.in_ok-put_row.ensures.rows c.in_ok-number.ensures.past folder.spelled.are_rows in
-    record { rows = into (λ es. All IsRow (map row_of es)) c.as_slice-5.result.now c.put_row.new.entries.items (search rules) rows }
+    record { rows = into (λ es. All IsRow (map row_of es)) c.as_slice-6.result.now c.put_row.new.entries.items (search rules) rows }
 
 pub returns-clause-done : goal.returns-clause-done
 returns-clause-done g c =
@@ -51,7 +51,7 @@ returns-clause-done g c =
     let renews : Renews (record { name = name; number = number; bytes = length bytes }) rows renewed
     = into (λ n. Renews (record { name = name; number = number; bytes = n }) rows renewed) (length bytes) _ (search rules) c.in_ok-put_row.ensures.renewed in
     let has : HasFolder size after renewed
-    = into (λ es. HasFolder size after (map row_of es)) c.put_row.new.entries.items c.as_slice-5.result.now (search rules) c.in_ok-write_folder.ensures.folder in
+    = into (λ es. HasFolder size after (map row_of es)) c.put_row.new.entries.items c.as_slice-6.result.now (search rules) c.in_ok-write_folder.ensures.folder in
     let same_between : c.as_mut_slice-passes.result.now ≡ between = search rules in
     let others : (n : ℕ) → n ≢ 1 → file_at n after ≡ file_at n between = λ n other. c.in_ok-write_folder.ensures.others n other ∙ ap (file_at n) same_between in
     let row = c.row_at-row.result in

@@ -1,0 +1,51 @@
+//! What can be done about a fault.
+use flash_volume::Error;
+use std::io;
+use tool_reading::Refusal;
+
+/// What can be done about a file or a stream that failed so; nothing where the failure says it.
+pub fn file_advice(kind: io::ErrorKind) -> &'static str {
+    match kind {
+        io::ErrorKind::OutOfMemory => "; give the program more memory",
+        io::ErrorKind::PermissionDenied => "; see to the rights of the file and of its folder",
+        io::ErrorKind::StorageFull | io::ErrorKind::QuotaExceeded => "; make room for it there",
+        io::ErrorKind::NotFound => "; see to the path",
+        _ => "",
+    }
+}
+
+/// What can be done about a refusal of a volume.
+pub fn volume_advice(error: Error) -> &'static str {
+    match error {
+        Error::NoMemory => "nothing was changed; give the program more memory",
+        Error::Device =>
+            "the file could not be written or settled (is the disk full?); a later run finds the volume as it was",
+        Error::NoSpace =>
+            "nothing was changed; df tells the room; rm a file, or format a larger image (--segments)",
+        Error::NoFile =>
+            "nothing was changed; rm a file, or format an image for more files (--files)",
+        Error::NoNode =>
+            "nothing was changed; rm a file, or format an image with more nodes (--nodes)",
+        Error::TooFar => "nothing was changed; a file can't be so long",
+        Error::BadGeometry => "this is no image of a volume; format makes one",
+        Error::NoPack =>
+            "no checkpoint of the volume can be read; take a copy of the image that check calls sound",
+        Error::BadImage(_) =>
+            "the volume can't be used; check tells the fault, and a copy of the image may be sound",
+        _ => "a later run finds the volume as it was at its last checkpoint",
+    }
+}
+
+/// What can be done about a refusal of a name.
+pub fn name_advice(refusal: Refusal) -> &'static str {
+    match refusal {
+        Refusal::NoFolder =>
+            "it was made by another program; ls shows its files by number, get --number reads them",
+        Refusal::BadName => "give another name",
+        Refusal::NoSuchFile => "ls shows what there is",
+        Refusal::LostFile => "another program deleted it, or an rm was cut off; rm that name first",
+        Refusal::NameTaken => "rm that file first, or give another name",
+        Refusal::NoRoom =>
+            "nothing was changed; df tells the room; rm a file, or format a larger image (--segments)",
+    }
+}

@@ -1,0 +1,311 @@
+//! The program's commands, with their help.
+use clap::{Arg, ArgAction, Command, value_parser};
+use std::alloc::{AllocError, Global};
+
+// The words for the shapes of a volume.
+const SHAPES: [&str; 2] = ["kernel", "tiny"];
+
+// The shells that complete words.
+const SHELLS: [&str; 3] = ["bash", "zsh", "fish"];
+
+// What `--version` tells.
+const VERSION: &str = "0.1.0";
+
+/// The program.
+pub fn program<'a>(alloc: Global) -> Result<Command<'a>, AllocError> {
+    let quiet = flag(
+        alloc,
+        "quiet",
+        "Tells nothing of work that goes well, and no progress",
+    )
+    .short('q')
+    .global(true);
+    let wait = Arg::new(alloc, "wait")
+        .long("wait")
+        .value_name("SECONDS")
+        .help("How long to wait for an image that another program has open")
+        .value_parser(value_parser!(u32))
+        .default_value("1")
+        .global(true);
+    let program = Command::new(alloc, "rusziveg")
+        .version(VERSION)
+        .about(
+            "Flash volumes in image files: makes them, keeps named files in them, cleans, checks and draws them.",
+        )
+        .after_help(
+            "Exit status: 0 done; 1 a volume, an image or a name was refused; 2 the words were; 4 a file, a stream or memory failed.",
+        )
+        .subcommand_required(true)
+        .arg(quiet)?
+        .arg(wait)?
+        .subcommand(format_command(alloc)?)?;
+    let program = with_file_commands(alloc, program)?;
+    let program = with_volume_commands(alloc, program)?;
+    let program = with_folder_commands(alloc, program)?;
+    with_own_commands(alloc, program)
+}
+
+// The commands on files of the volume, and on their list.
+fn with_file_commands<'a>(alloc: Global, program: Command<'a>) -> Result<Command<'a>, AllocError> {
+    program
+        .subcommand(put_command(alloc)?)?
+        .subcommand(append_command(alloc)?)?
+        .subcommand(get_command(alloc)?)?
+        .subcommand(on_names(
+            alloc,
+            "cat",
+            "Writes the bytes of files to standard output, one after the other",
+        )?)?
+        .subcommand(on_names(alloc, "rm", "Removes files")?)?
+        .subcommand(rename_command(alloc)?)?
+        .subcommand(copy_command(alloc)?)?
+        .subcommand(on_image(alloc, "ls", "Lists the files, by name and by number")?.arg(json(
+            alloc,
+        ))?)
+}
+
+// The commands on the whole volume.
+fn with_volume_commands<'a>(
+    alloc: Global,
+    program: Command<'a>,
+) -> Result<Command<'a>, AllocError> {
+    let background = flag(
+        alloc,
+        "background",
+        "Chooses by cost and benefit, for one section that is not urgent",
+    );
+    let check = "Tells whether the image is sound, or its exact fault";
+    let stat = "Tells the numbers of the volume";
+    let room =
+        "Tells how many bytes can be used, are used and are free, and how many are kept for cleaning";
+    let clean = on_image(
+        alloc,
+        "clean",
+        "Cleans sections, so that their segments come free",
+    )?;
+    program
+        .subcommand(clean.arg(background)?)?
+        .subcommand(on_image(alloc, "check", check)?.arg(json(alloc))?)?
+        .subcommand(on_image(alloc, "stat", stat)?.arg(json(alloc))?)?
+        .subcommand(on_image(alloc, "df", room)?.arg(json(alloc))?)?
+        .subcommand(map_command(alloc)?)
+}
+
+// The commands that copy a folder of the system.
+fn with_folder_commands<'a>(
+    alloc: Global,
+    program: Command<'a>,
+) -> Result<Command<'a>, AllocError> {
+    program
+        .subcommand(foldered(
+            alloc,
+            "dump",
+            "Writes each file into FOLDER, under its name or number",
+        )?)?
+        .subcommand(foldered(
+            alloc,
+            "import",
+            "Puts each ordinary file of FOLDER under its name; folders in it, links and pipes are left out, with status 1",
+        )?)
+}
+
+// The commands that tell of the program itself.
+fn with_own_commands<'a>(alloc: Global, program: Command<'a>) -> Result<Command<'a>, AllocError> {
+    let shell = Arg::new(alloc, "shell")
+        .value_name("SHELL")
+        .help("The shell that is to complete the program's words")
+        .value_parser(SHELLS.as_slice())
+        .required(true);
+    let completions = Command::new(alloc, "completions")
+        .about("Writes completions for a shell, which reads them from its folder of completions")
+        .arg(shell)?;
+    let manual = Command::new(alloc, "manual").about("Writes the manual page, which man reads");
+    program.subcommand(completions)?.subcommand(manual)
+}
+
+fn on_image<'a>(alloc: Global, name: &'a str, about: &'a str) -> Result<Command<'a>, AllocError> {
+    let image = Arg::new(alloc, "image")
+        .value_name("IMAGE")
+        .help("The image file")
+        .required(true);
+    Command::new(alloc, name).about(about).arg(image)
+}
+
+fn on_names<'a>(alloc: Global, name: &'a str, about: &'a str) -> Result<Command<'a>, AllocError> {
+    let names = Arg::new(alloc, "names")
+        .value_name("NAME")
+        .help("The files' names on the volume")
+        .num_args(1..)
+        .required(true);
+    on_image(alloc, name, about)?.arg(names)
+}
+
+fn foldered<'a>(alloc: Global, name: &'a str, about: &'a str) -> Result<Command<'a>, AllocError> {
+    let folder = Arg::new(alloc, "folder")
+        .value_name("FOLDER")
+        .help("A folder of the system")
+        .required(true);
+    on_image(alloc, name, about)?.arg(folder)
+}
+
+fn flag<'a>(alloc: Global, name: &'a str, help: &'a str) -> Arg<'a> {
+    Arg::new(alloc, name)
+        .long(name)
+        .help(help)
+        .action(ArgAction::SetTrue)
+}
+
+fn json<'a>(alloc: Global) -> Arg<'a> {
+    flag(alloc, "json", "Writes JSON")
+}
+
+fn name<'a>(alloc: Global) -> Arg<'a> {
+    Arg::new(alloc, "name")
+        .value_name("NAME")
+        .help("The file's name on the volume")
+}
+
+fn no_clobber<'a>(alloc: Global) -> Arg<'a> {
+    flag(
+        alloc,
+        "no-clobber",
+        "Refuses a name that is there; else its file is replaced",
+    )
+}
+
+fn put_command<'a>(alloc: Global) -> Result<Command<'a>, AllocError> {
+    on_image(
+        alloc,
+        "put",
+        "Reads standard input, or FILE, to its end, and makes it the file NAME",
+    )?
+    .arg(name(alloc).required(true))?
+    .arg(read_file(alloc))?
+    .arg(no_clobber(alloc))
+}
+
+fn append_command<'a>(alloc: Global) -> Result<Command<'a>, AllocError> {
+    on_image(
+        alloc,
+        "append",
+        "Reads standard input, or FILE, to its end, and puts it behind what the file NAME has",
+    )?
+    .arg(name(alloc).required(true))?
+    .arg(read_file(alloc))
+}
+
+fn read_file<'a>(alloc: Global) -> Arg<'a> {
+    Arg::new(alloc, "file")
+        .value_name("FILE")
+        .help("A file of the system, read in place of standard input")
+}
+
+fn get_command<'a>(alloc: Global) -> Result<Command<'a>, AllocError> {
+    let file = Arg::new(alloc, "file").value_name("FILE").help(
+        "A new file of the system, written in place of standard output",
+    );
+    let number = number_option(
+        alloc,
+        "number",
+        "N",
+        "The file's number, in place of a name: all its blocks are written",
+    )
+    .value_parser(value_parser!(u32));
+    let offset = number_option(
+        alloc,
+        "offset",
+        "BYTES",
+        "Leaves out so many bytes at the front",
+    );
+    let length = number_option(alloc, "length", "BYTES", "Writes so many bytes at most");
+    on_image(
+        alloc,
+        "get",
+        "Writes the bytes of a file to standard output, or to FILE",
+    )?
+    .arg(name(alloc))?
+    .arg(file)?
+    .arg(number)?
+    .arg(offset)?
+    .arg(length)
+}
+
+fn number_option<'a>(alloc: Global, name: &'a str, value: &'a str, help: &'a str) -> Arg<'a> {
+    Arg::new(alloc, name)
+        .long(name)
+        .value_name(value)
+        .help(help)
+        .value_parser(value_parser!(u64))
+}
+
+fn rename_command<'a>(alloc: Global) -> Result<Command<'a>, AllocError> {
+    let to = Arg::new(alloc, "to")
+        .value_name("NEW")
+        .help("Its new name, which no file has")
+        .required(true);
+    on_image(alloc, "mv", "Gives the file NAME another name")?
+        .arg(name(alloc).required(true))?
+        .arg(to)
+}
+
+fn copy_command<'a>(alloc: Global) -> Result<Command<'a>, AllocError> {
+    let to = Arg::new(alloc, "to")
+        .value_name("NEW")
+        .help("The copy's name")
+        .required(true);
+    on_image(
+        alloc,
+        "cp",
+        "Copies the file NAME, as it is now, to another name",
+    )?
+    .arg(name(alloc).required(true))?
+    .arg(to)?
+    .arg(no_clobber(alloc))
+}
+
+fn map_command<'a>(alloc: Global) -> Result<Command<'a>, AllocError> {
+    let svg = Arg::new(alloc, "svg")
+        .long("svg")
+        .value_name("FILE")
+        .help("Writes a picture (SVG) to a new file");
+    on_image(
+        alloc,
+        "map",
+        "Draws each segment: how full it is, its log, its age",
+    )?
+    .arg(svg.conflicts_with("json")?)?
+    .arg(json(alloc))
+}
+
+fn format_command<'a>(alloc: Global) -> Result<Command<'a>, AllocError> {
+    let shape = Arg::new(alloc, "shape")
+        .long("shape")
+        .value_name("SHAPE")
+        .help("kernel: segments of 512 blocks of 4096 bytes; tiny: of 8 of 64")
+        .value_parser(SHAPES.as_slice())
+        .default_value("kernel");
+    on_image(
+        alloc,
+        "format",
+        "Makes a new image file with an empty volume",
+    )?
+    .arg(shape)?
+    .arg(volume_number(alloc, "segments", "Segments, 16 to 4096", "32"))?
+    .arg(volume_number(alloc, "per-section", "Segments a section, 1 to 16", "1"))?
+    .arg(volume_number(alloc, "files", "The most files, 1 to 1024", "256"))?
+    .arg(volume_number(
+        alloc,
+        "nodes",
+        "The most nodes, as many as files to 65536",
+        "2048",
+    ))
+}
+
+fn volume_number<'a>(alloc: Global, name: &'a str, help: &'a str, other: &'a str) -> Arg<'a> {
+    Arg::new(alloc, name)
+        .long(name)
+        .value_name("N")
+        .help(help)
+        .value_parser(value_parser!(u32))
+        .default_value(other)
+}

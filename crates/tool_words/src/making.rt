@@ -1,0 +1,45 @@
+//! A new volume is made.
+use crate::command_line::Numbers;
+use crate::fault::Fault;
+use crate::limits::ask_numbers;
+use file_device::{FileFault, create_image};
+use flash_volume::{Geometry, Leave, Shape, work_on_new};
+use std::fs;
+use std::fs::{File, Files};
+use std::sync::Wait;
+use tool_files::MakeFolder;
+
+/// Makes an image file with a volume without files. Where that fails, no file is left.
+pub fn make<R: AllocGlobal + Wait + Files<File = File>>(
+    rt: &R,
+    path: &str,
+    numbers: Numbers,
+) -> Result<Geometry, Fault> {
+    ask_numbers(&numbers)?;
+    let geometry = geometry_of(numbers)?;
+    let parts = match create_image(rt, rt.alloc(), path, &geometry) {
+        Ok(parts) => parts,
+        Err(FileFault::Io(error)) => return Err(Fault::of_file(rt.alloc(), path, error)),
+        Err(fault) => return Err(Fault::from(fault)),
+    };
+    match work_on_new(rt, rt.alloc(), parts, geometry, Leave::Close, MakeFolder) {
+        Ok(_) => Ok(geometry),
+        Err(fault) => {
+            // What can't be removed either stays.
+            let _ = fs::remove_file(rt, path);
+            Err(Fault::Unmade(fault.error))
+        }
+    }
+}
+
+fn geometry_of(numbers: Numbers) -> Result<Geometry, Fault> {
+    let Numbers {
+        is_tiny,
+        segments,
+        per_section,
+        files,
+        nodes,
+    } = numbers;
+    let shape = if is_tiny { Shape::TINY } else { Shape::KERNEL };
+    Ok(Geometry::new(shape, segments, per_section, files, nodes)?)
+}

@@ -1,0 +1,141 @@
+//! What is said of a fault, and which status it has.
+use crate::advice::{file_advice, name_advice, volume_advice};
+use crate::fault::Fault;
+use crate::shown::Shown;
+use flash_volume::Error;
+use std::io;
+use std::io::Write;
+
+/// A volume, an image or a name was refused.
+const REFUSED: u8 = 1;
+
+/// The words of the call were refused.
+const MISUSED: u8 = 2;
+
+/// A file or a stream failed, or there was no memory.
+const FAILED: u8 = 4;
+
+// What is said of a file that stands in the way.
+const THERE: &str = "a file of that name is there and stays; give another path, or remove it first";
+
+impl Fault {
+    /// Says on `errors` what is wrong with what, and what can be done, and answers the exit status. `image` is the path of the image
+    /// file. Of a pipe that nobody reads any more nothing is said, and the status is 0.
+    pub fn tell<E: Write>(&self, image: &str, errors: &mut E) -> u8 {
+        if self.is_closed_pipe() {
+            return 0;
+        }
+        let _ = self.write(image, errors);
+        self.status()
+    }
+
+    fn write<E: Write>(&self, image: &str, errors: &mut E) -> io::Result<()> {
+        write!(errors, "rusziveg: ")?;
+        match self {
+            Fault::NoWords => writeln!(errors, "a word of the call is not text (UTF-8)"),
+            Fault::Output(error) => writeln!(errors, "standard output: {error}"),
+            Fault::Untold(done, error) => {
+                writeln!(
+                    errors,
+                    "standard output: {error}; {done}, and that could not be told"
+                )
+            }
+            Fault::Input(error) => writeln!(
+                errors,
+                "standard input: {error}; nothing was changed{}",
+                file_advice(error.kind())
+            ),
+            Fault::File(path, error) => writeln!(
+                errors,
+                "{}: {error}{}",
+                Shown(path.as_str()),
+                file_advice(error.kind())
+            ),
+            Fault::FileThere(path) => writeln!(errors, "{}: {THERE}", Shown(path.as_str())),
+            Fault::NoFiles(path) => writeln!(
+                errors,
+                "{}: there is no ordinary file in the folder",
+                Shown(path.as_str())
+            ),
+            Fault::Beyond(beyond) => writeln!(errors, "{beyond}"),
+            _ => {
+                let image = Shown(image);
+                write!(errors, "{image}: ")?;
+                self.write_of_image(errors)
+            }
+        }
+    }
+
+    // What is wrong with the image, or with what its volume has.
+    fn write_of_image<E: Write>(&self, errors: &mut E) -> io::Result<()> {
+        match self {
+            Fault::Image(error) => match error.kind() {
+                io::ErrorKind::NotFound => {
+                    writeln!(errors, "there is no such file; format makes a new image")
+                }
+                kind => writeln!(errors, "{error}{}", file_advice(kind)),
+            },
+            Fault::Busy => writeln!(
+                errors,
+                "another program has the image open; try again when it has ended, or wait longer (--wait SECONDS)"
+            ),
+            Fault::NotAFile => writeln!(
+                errors,
+                "the image is no ordinary file; give the path of an image file"
+            ),
+            Fault::Unmade(error) => writeln!(
+                errors,
+                "{error}; no image is left (is the disk full?)"
+            ),
+            Fault::TooLong => writeln!(
+                errors,
+                "the bytes are more than the image has; format a larger one (--segments)"
+            ),
+            Fault::Unsettled => writeln!(
+                errors,
+                "the file failed while the change was settled (is the disk full?); a later run finds the volume as it was, or with the change: ls tells"
+            ),
+            _ => self.write_of_volume(errors),
+        }
+    }
+
+    // Why the volume, or a name, was refused.
+    fn write_of_volume<E: Write>(&self, errors: &mut E) -> io::Result<()> {
+        match self {
+            Fault::Volume(error) => writeln!(errors, "{error}; {}", volume_advice(*error)),
+            Fault::Name(refusal) => writeln!(errors, "{refusal}; {}", name_advice(*refusal)),
+            Fault::Named(name, refusal) => writeln!(
+                errors,
+                "{}: {refusal}; {}",
+                Shown(name.as_str()),
+                name_advice(*refusal)
+            ),
+            Fault::NameStays(error) => writeln!(
+                errors,
+                "{error}; the file is gone, and its name stays in the folder; rm another file, then this name again"
+            ),
+            _ => Ok(()),
+        }
+    }
+
+    fn status(&self) -> u8 {
+        match self {
+            Fault::NoWords => MISUSED,
+            Fault::Output(_)
+            | Fault::Untold(_, _)
+            | Fault::Input(_)
+            | Fault::File(_, _)
+            | Fault::Image(_)
+            | Fault::Busy
+            | Fault::Unsettled => FAILED,
+            Fault::Volume(error) | Fault::Unmade(error) | Fault::NameStays(error)
+                if is_failure(*error) => { FAILED }
+            _ => REFUSED,
+        }
+    }
+}
+
+// Whether the device failed, or there was no memory.
+fn is_failure(error: Error) -> bool {
+    matches!(error, Error::NoMemory | Error::Device)
+}
