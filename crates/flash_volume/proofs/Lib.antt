@@ -1,9 +1,11 @@
 pub mod Crewed
 pub mod Dealing
 pub mod Following
+pub mod Lending
 pub mod Refused
 pub mod Results
 pub mod Same
 pub mod Together
 pub mod Visiting
 pub mod Working
+pub mod Served

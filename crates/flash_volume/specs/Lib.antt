@@ -1,3 +1,4 @@
+pub mod Answers
 pub mod Beside
 pub mod Refused
 pub mod Turns

@@ -76,7 +76,7 @@ where
 }
 
 // Leaves a volume.
-fn leave_volume<V: VolumeName, M: Meta, B: Block + Drop, R: Wait>(
+pub(crate) fn leave_volume<V: VolumeName, M: Meta, B: Block + Drop, R: Wait>(
     rt: &R,
     volume: Volume<V, M, B>,
     rights: Rights<V>,

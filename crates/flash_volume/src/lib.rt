@@ -5,6 +5,7 @@
 //! `Work` meets them as one type parameter of its method, and nowhere else.
 #![tactic(auto)]
 
+mod answers;
 mod beside;
 mod block;
 mod crew;
@@ -19,12 +20,17 @@ mod new;
 mod one_work;
 mod rights;
 mod room;
+mod serve;
+mod serve_ladder;
+mod service;
+mod shelf;
 mod side_by_side;
 mod turns;
 mod visit;
 mod work;
 mod works;
 
+pub use answers::{flush, read_block, read_part, sync_passes, write_part};
 pub use area::{CheckpointRoom, Threading};
 pub use beside::Beside;
 pub use block::SharedBlock;
@@ -46,6 +52,9 @@ pub use one_work::work_on;
 pub use rights::Rights;
 pub use rights_names::VolumeName;
 pub use room::{Ending, Room, make_room, usable_blocks};
+pub use serve::serve_volume;
+pub use service::Service;
+pub use shelf::Shelf;
 pub use side_by_side::work_side_by_side;
 pub use visit::Visit;
 pub use volume::{Base, Volume};

@@ -18,7 +18,7 @@ use std::thread::Threads;
 use volume::{SharedName, Volume};
 
 // What one thread does.
-trait Job {
+pub(crate) trait Job {
     type Done;
 
     ghost fits: { Self → Type 0 };
@@ -119,7 +119,7 @@ fn send<'v, V: VolumeName, M: Meta, B: Block + Drop, P: Drop>(
 }
 
 // Does each job on a thread of its own, and answers what each hands back, in the order of the jobs.
-fn do_side_by_side<J: Job + Send + Drop, R: Threads + Wait + Sync>(
+pub(crate) fn do_side_by_side<J: Job + Send + Drop, R: Threads + Wait + Sync>(
     rt: &R,
     jobs: Vec<J>,
 ) -> Result<Vec<J::Done>, AllocError>

@@ -1,0 +1,5 @@
+use Rattle.flash_volume.proofs.serve_ladder.serve_by.Given as goal
+
+-- what was just read of the device
+abbrev pub ghosts-on_mounted : goal.ghosts-on_mounted
+ghosts-on_mounted g a = record { books = a.mounted.books; words = a.mounted.words; geometry = a.mounted.geometry }
