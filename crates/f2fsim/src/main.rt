@@ -77,7 +77,7 @@ fn called<R: Runtime + AllocGlobal + Threads + Wait + Sync, W: Write, E: Write>(
             Some(rule) => run_saving(rt, out, errors, save, rule),
             None => misused(errors),
         },
-        Err(WordsError::Usage) if asks_for_help(words.as_slice()) => tell_help(out, errors),
+        Err(WordsError::Usage) if asks_for_help(words.as_slice()) => tell_help(out),
         Err(WordsError::Usage) => misused(errors),
         Err(WordsError::NoMemory) => Err(io::Error::from(io::ErrorKind::OutOfMemory)),
     }
@@ -97,9 +97,9 @@ fn misused<E: Write>(errors: &mut E) -> io::Result<u8> {
     Ok(MISUSED)
 }
 
-// Tells the usage in a line, as of words that are refused, and all words on the output.
-fn tell_help<W: Write, E: Write>(out: &mut W, errors: &mut E) -> io::Result<u8> {
-    writeln!(errors, "{USAGE}")?;
+// Tells the usage in a line, and all words: on the output, since they were asked for.
+fn tell_help<W: Write>(out: &mut W) -> io::Result<u8> {
+    writeln!(out, "{USAGE}")?;
     writeln!(out, "{HELP}")?;
     Ok(DONE)
 }
