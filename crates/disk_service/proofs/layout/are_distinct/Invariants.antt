@@ -1,0 +1,6 @@
+use Rattle.std.proofs.Common.{◌≡◌, ℕ, ◌<◌, get_or}
+use Rattle.disk_service.proofs.layout.are_distinct.Given as goal
+
+-- of those that were looked at no two are one
+abbrev pub invariant-loop-i : goal.invariant-loop-i
+invariant-loop-i l = (a b : ℕ) → a < b → b < l.i → get_or l.numbers a 0 ≡ get_or l.numbers b 0 → ⊥

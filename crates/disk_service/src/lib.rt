@@ -1,0 +1,28 @@
+//! A disk on the files of a flash volume, served to one client by the NBD protocol: over a stream of requests and a stream of answers,
+//! with many requests in flight, a cleaner in the background and a checkpoint at each flush.
+//!
+//! Who serves greets the client (`greet`), makes a `DiskService` of what it reads from and writes to, and hands that to
+//! `flash_volume::serve_volume` with as many stations as `DiskService::stations` tells.
+#![tactic(auto)]
+
+mod answers;
+mod counts;
+mod disk;
+mod handshake;
+mod keeping;
+mod layout;
+mod orders;
+mod parts;
+mod progress;
+mod reading;
+mod reception;
+mod room;
+mod working;
+mod writing;
+
+pub use counts::Counts;
+pub use disk::{DiskService, DiskSettings};
+pub use handshake::{Export, Greeted, LONGEST_NAME, greet};
+pub use layout::{DiskLayout, Place, place_law};
+pub use parts::{Part, part_at};
+pub use reception::{Farewell, MOST_BYTES};

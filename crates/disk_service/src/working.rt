@@ -1,0 +1,221 @@
+//! A worker: does requests, and answers them.
+ghost use Rattle.std.specs.Prelude.{◌≡◌, ◌≤◌, ◌<◌, ◌+◌, ◌^◌, length, IfOk};
+ghost use Rattle.geometry.specs.Shape.{block_bytes};
+
+use crate::disk::DiskService;
+use crate::orders::{Errand, Order};
+use crate::reading::read_bytes;
+use crate::writing::{Writing, write_bytes, write_zeros};
+use device::{Block, Meta};
+use flash_volume::Shelf;
+use geometry::Error;
+use nbd_words::{Access, ErrorNumber, REPLY_BYTES, judge, simple_reply};
+use rights_names::VolumeName;
+use std::io::{Read, Write};
+use std::sync::Wait;
+use std::time::Clock;
+use volume::Volume;
+
+impl<C: Clock + Drop, I: Read + Drop, O: Write + Drop> DiskService<C, I, O> {
+    // Does requests and answers them, until no more come.
+    pub(crate) fn work<V: VolumeName, M: Meta, B: Block + Drop, R: Wait>(
+        &self,
+        rt: &R,
+        volume: &Volume<V, M, B>,
+        shelf: &Shelf<V>,
+    )
+        requires block { self.now.layout.block_bytes ≡ block_bytes V.Numbers.geometry.shape }
+    {
+        for _ in rt.forever() {
+            match self.orders.take(rt) {
+                Errand::Do(order) => self.obey(rt, volume, shelf, &order),
+                Errand::Refuse { cookie } => self.refuse(rt, ErrorNumber::NoMemory, cookie),
+                Errand::Leave => return,
+            }
+            self.orders.finish();
+        }
+    }
+
+    // Does a request where the disk may, and answers it.
+    fn obey<V: VolumeName, M: Meta, B: Block + Drop, R: Wait>(
+        &self,
+        rt: &R,
+        volume: &Volume<V, M, B>,
+        shelf: &Shelf<V>,
+        order: &Order,
+    )
+        requires block { self.now.layout.block_bytes ≡ block_bytes V.Numbers.geometry.shape }
+    {
+        let cookie = order.request.cookie;
+        let done = match judge(self.disk(), &order.request) {
+            Ok(Access::Read { offset, length }) => {
+                return self.answer_read(rt, volume, shelf, cookie, offset, length);
+            }
+            Ok(
+                Access::Write {
+                    offset,
+                    through,
+                    ..
+                },
+            ) => self.write(rt, volume, shelf, offset, order.bytes.as_slice(), through),
+            Ok(
+                Access::Zero {
+                    offset,
+                    length,
+                    through,
+                },
+            ) => self.write_zeros(rt, volume, shelf, offset, length, through),
+            Ok(Access::Flush) => self.obey_flush(rt, volume, shelf),
+            Ok(Access::Trim { .. } | Access::Leave) => Ok(()),
+            Err(refusal) => return self.refuse(rt, refusal.error_number(), cookie),
+        };
+        match done {
+            Ok(()) => self.answers.answer(rt, Ok(()), cookie),
+            Err(error) => self.refuse(rt, error_number(error), cookie),
+        }
+    }
+
+    // Answers a request with an error.
+    fn refuse<R: Wait>(&self, rt: &R, error: ErrorNumber, cookie: u64) {
+        self.counters.refused.add(1);
+        self.answers.answer(rt, Err(error), cookie);
+    }
+
+    fn answer_read<V: VolumeName, M: Meta, B: Block + Drop, R: Wait>(
+        &self,
+        rt: &R,
+        volume: &Volume<V, M, B>,
+        shelf: &Shelf<V>,
+        cookie: u64,
+        offset: u64,
+        length: u32,
+    )
+        requires block { self.now.layout.block_bytes ≡ block_bytes V.Numbers.geometry.shape }
+        requires fits { offset + length < 2 ^ 64 }
+    {
+        match self.read(rt, volume, shelf, cookie, offset, length) {
+            Ok(reply) => {
+                self.counters.reads.add(1);
+                self.counters.bytes_read.add(u64::from(length));
+                self.answers.send(rt, reply.as_slice());
+            }
+            Err(error) => self.refuse(rt, error_number(error), cookie),
+        }
+    }
+
+    // The whole answer to a read.
+    fn read<V: VolumeName, M: Meta, B: Block + Drop, R: Wait>(
+        &self,
+        rt: &R,
+        volume: &Volume<V, M, B>,
+        shelf: &Shelf<V>,
+        cookie: u64,
+        offset: u64,
+        length: u32,
+    ) -> Result<Vec<u8>, Error>
+        requires block { self.now.layout.block_bytes ≡ block_bytes V.Numbers.geometry.shape }
+        requires fits { offset + length < 2 ^ 64 }
+    {
+        let size = REPLY_BYTES + length as usize;
+        let mut reply = vec![in self.alloc; 0u8; size]?;
+        let bytes = reply.as_mut_slice();
+        bytes[..REPLY_BYTES].copy_from_slice(&simple_reply(Ok(()), cookie));
+        let out = &mut bytes[REPLY_BYTES..];
+        read_bytes(rt, self.alloc, volume, shelf, &self.layout, offset, out)?;
+        Ok(reply)
+    }
+
+    fn write<V: VolumeName, M: Meta, B: Block + Drop, R: Wait>(
+        &self,
+        rt: &R,
+        volume: &Volume<V, M, B>,
+        shelf: &Shelf<V>,
+        offset: u64,
+        bytes: &[u8],
+        through: bool,
+    ) -> Result<(), Error>
+        requires block { self.now.layout.block_bytes ≡ block_bytes V.Numbers.geometry.shape }
+        requires fits { offset + length bytes.now < 2 ^ 64 }
+    {
+        let writing = self.writing();
+        write_bytes(rt, self.alloc, volume, shelf, writing, offset, bytes)?;
+        self.finish_write(rt, volume, shelf, bytes.len() as u64, through)
+    }
+
+    fn write_zeros<V: VolumeName, M: Meta, B: Block + Drop, R: Wait>(
+        &self,
+        rt: &R,
+        volume: &Volume<V, M, B>,
+        shelf: &Shelf<V>,
+        offset: u64,
+        length: u32,
+        through: bool,
+    ) -> Result<(), Error>
+        requires block { self.now.layout.block_bytes ≡ block_bytes V.Numbers.geometry.shape }
+        requires fits { offset + length < 2 ^ 64 }
+    {
+        let writing = self.writing();
+        write_zeros(
+            rt,
+            self.alloc,
+            volume,
+            shelf,
+            writing,
+            offset,
+            length as usize,
+        )?;
+        self.finish_write(rt, volume, shelf, u64::from(length), through)
+    }
+
+    fn writing(&self) -> Writing<'_>
+        ensures layout { result.layout.now ≡ self.now.layout }
+    {
+        Writing {
+            layout: &self.layout,
+            cleaner: &self.cleaner,
+            progress: &self.progress,
+            now: self.now(),
+        }
+    }
+
+    // So many bytes were written. Where they are to be safe before the answer, a checkpoint is written.
+    fn finish_write<V: VolumeName, M: Meta, B: Block + Drop, R: Wait>(
+        &self,
+        rt: &R,
+        volume: &Volume<V, M, B>,
+        shelf: &Shelf<V>,
+        bytes: u64,
+        through: bool,
+    ) -> Result<(), Error> {
+        if through {
+            self.flush(rt, volume, shelf)?;
+            self.counters.asked.add(1);
+        }
+        self.counters.writes.add(1);
+        self.counters.bytes_written.add(bytes);
+        Ok(())
+    }
+
+    fn obey_flush<V: VolumeName, M: Meta, B: Block + Drop, R: Wait>(
+        &self,
+        rt: &R,
+        volume: &Volume<V, M, B>,
+        shelf: &Shelf<V>,
+    ) -> Result<(), Error> {
+        if !self.settings.read_only {
+            self.flush(rt, volume, shelf)?;
+            self.counters.asked.add(1);
+        }
+        self.counters.flushes.add(1);
+        Ok(())
+    }
+}
+
+// What the answer tells of a refusal of the volume.
+fn error_number(error: Error) -> ErrorNumber {
+    match error {
+        Error::NoMemory => ErrorNumber::NoMemory,
+        Error::NoSpace | Error::NoNode => ErrorNumber::NoSpace,
+        _ => ErrorNumber::InputOutput,
+    }
+}
