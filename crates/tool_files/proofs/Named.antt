@@ -76,7 +76,7 @@ module _ (P : ℕ → Type 0) where
   abbrev Each : List Row → Type 0
   Each rows = All Of rows
 
-  renewed_all : (new : Row) (rows after : List Row) → P new.number → Renews new rows after → Each rows → Each after
+  pub renewed_all : (new : Row) (rows after : List Row) → P new.number → Renews new rows after → Each rows → Each after
   renewed_all new [] after mine is all = subst Each (sym is) (All-cons Of new [] mine (All-nil Of))
   renewed_all new (r ∷ rows) after mine (inl h) all =
       subst Each (sym h.1) (All-cons Of new rows mine (All-tail Of r rows all))

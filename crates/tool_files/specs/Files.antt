@@ -1,10 +1,10 @@
 -- What the passes of a volume show of named files.
-use Rattle.std.specs.Prelude.{◌≡◌, ◌≢◌, ◌⊎◌, ℕ, zero, suc, ◌==◌, if◌then◌else◌, List, [], ◌∷◌, Option, Some, None, All, length, take}
+use Rattle.std.specs.Prelude.{◌≡◌, ◌≢◌, ◌<◌, ◌^◌, ◌⊎◌, ℕ, zero, suc, ◌==◌, if◌then◌else◌, List, [], ◌∷◌, Option, Some, None, All, length, take}
 use Rattle.file_cells.specs.Pass.{Pass}
 use Rattle.geometry.specs.File.{File}
 use Rattle.image_reading.specs.Content.{all_bytes}
 use Rattle.tool_files.specs.Content.{HasBytes}
-use Rattle.tool_folder.specs.Folder.{Row, BeginsWith}
+use Rattle.tool_folder.specs.Folder.{Row, BeginsWith, IsRow}
 use Rattle.tool_folder.specs.Name.{IsName}
 use Rattle.tool_folder.specs.Names.{HasNoRow, IsRowOf, Removes, Renames, Renews}
 
@@ -64,6 +64,16 @@ pub record WasPut (size : ℕ) (name bytes : List ℕ) (number : ℕ) (before af
   pub there : file_at number after ≡ Some file
   pub content : HasBytes size bytes file
   pub others : (n : ℕ) → n ≢ 1 → n ≢ number → file_at n after ≡ file_at n before
+
+-- the name is one, the new rows tell the number of a file that has the bytes, and all other rows and files are as they were; the folder's file too
+pub record WasEntered (size : ℕ) (name bytes : List ℕ) (number : ℕ) (rows renewed : List Row) (before after : List Pass) : Type 0 where
+  pub is_name : IsName name
+  pub own : IsNumberFor name number rows before
+  pub renews : Renews (record { name = name; number = number; bytes = length bytes }) rows renewed
+  pub not_folder : 1 < number
+  pub written : WasWritten size bytes number before after
+  pub are_rows : All IsRow renewed
+  pub few : length renewed < 2 ^ 64
 
 -- the name is gone from the folder and its file from the passes, and all others are as they were
 pub record WasRemoved (size : ℕ) (name : List ℕ) (before after : List Pass) : Type 0 where

@@ -6,12 +6,17 @@
 
 mod content;
 mod law;
+mod making_room;
 mod room;
 mod tidy;
 mod walk;
 mod work;
 
 pub use law::{file_law, put_get_law, put_kept_law};
+pub use making_room::work_making_room;
 pub use room::{MakeRoom, Taken, has_room, kept_for_folder};
 pub use tidy::{Clean, Tidied};
-pub use work::{Append, DeleteFile, MakeFolder, NewFile, Put, PutAll, Remove, Rename};
+pub use work::{
+    Append, DeleteFile, FolderRows, MakeFolder, NewFile, Put, PutAll, PutTogether, ReadFolder,
+    Remove, Rename,
+};

@@ -91,6 +91,22 @@ pub struct Taken {
     pub file: Option<u32>,
 }
 
+impl Taken {
+    /// What is taken once the folder has so many bytes, where it has fewer blocks now.
+    pub fn with_folder(self, geometry: &Geometry, bytes: u64) -> Taken {
+        let wanted = bytes.div_ceil(u64::from(geometry.shape.block_bytes().max(1)));
+        let folder = u32::try_from(wanted).unwrap_or(u32::MAX).max(self.folder);
+        let before = with_nodes(geometry.shape, u64::from(self.folder));
+        let after = with_nodes(geometry.shape, u64::from(folder));
+        let more = u32::try_from(after.saturating_sub(before)).unwrap_or(u32::MAX);
+        Taken {
+            valid: self.valid.saturating_add(more),
+            folder,
+            file: self.file,
+        }
+    }
+}
+
 /// Whether a file of so many bytes stays within the room that a volume tells (`usable_blocks`), beside what is taken: its own blocks then
 /// come free, and the folder can be written once more. A file that gets no larger always does.
 pub fn has_room(geometry: &Geometry, taken: Taken, bytes: u64) -> bool {

@@ -3,6 +3,8 @@ mod append;
 mod make_folder;
 mod put;
 mod put_all;
+mod put_together;
+mod read_folder;
 mod remove;
 mod rename;
 
@@ -10,5 +12,7 @@ pub use append::Append;
 pub use make_folder::MakeFolder;
 pub use put::Put;
 pub use put_all::{NewFile, PutAll};
+pub use put_together::PutTogether;
+pub use read_folder::{FolderRows, ReadFolder};
 pub use remove::{DeleteFile, Remove};
 pub use rename::Rename;

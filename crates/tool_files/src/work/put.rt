@@ -2,7 +2,8 @@
 ghost use Rattle.std.specs.Prelude.{◌≡◌, ◌<◌, ℕ, List, None, All, length, map, IfOk, IfErr, IfSome, IfNone, OnOk};
 ghost use Rattle.flash_volume.specs.Worked.{IsOfCall};
 ghost use Rattle.geometry.specs.Shape.{block_bytes};
-ghost use Rattle.tool_files.specs.Files.{file_at, IsThere, WasWritten};
+ghost use Rattle.geometry.specs.declared.error.Error.TheVariants.{NoMemory};
+ghost use Rattle.tool_files.specs.Files.{file_at, IsThere, WasEntered, WasWritten};
 ghost use Rattle.tool_folder.specs.Folder.{Row, IsRow};
 ghost use Rattle.tool_folder.specs.Names.{IsRowOf, IsRowPlace};
 ghost use Rattle.tool_folder.specs.Rows.{row_of};
@@ -17,7 +18,7 @@ use geometry::{Error, Kind};
 use rights_names::VolumeName;
 use std::alloc::Global;
 use std::sync::Wait;
-use tool_folder::{Entry, FOLDER, is_name, put_row, row_at};
+use tool_folder::{Entry, FOLDER, encode, is_name, put_row, row_at};
 use tool_reading::Refusal;
 use volume::Volume;
 
@@ -57,56 +58,86 @@ impl<'a, M: Meta, B: Block + Drop> Work<M, B> for Put<'a> {
         volume: &Volume<V, M, B>,
         rights: &mut Rights<V>,
     ) -> Result<Result<u32, Refusal>, Error> {
-        if !is_name(self.name) {
-            return Ok(Err(Refusal::BadName));
-        }
         let Some(mut entries) = read_folder(rt, alloc, volume, rights.passes.as_slice())? else {
             return Ok(Err(Refusal::NoFolder));
         };
         if !are_there(rights.passes.as_slice(), entries.as_slice()) {
             return Ok(Err(Refusal::LostFile));
         }
-        let row = row_at(entries.as_slice(), self.name);
-        if row.is_some() && !self.replaces {
-            return Ok(Err(Refusal::NameTaken));
-        }
-        let held = entries.as_slice();
-        let bytes = self.bytes.len() as u64;
-        if !fits(rt, volume, rights.passes.as_slice(), held, row, bytes) {
-            return Ok(Err(Refusal::NoRoom));
-        }
         let passes = &mut rights.passes;
-        let number = write_row(rt, alloc, volume, passes, held, row, self.bytes, self.now)?;
-        put_row(alloc, &mut entries, row, self.name, number, bytes)?;
+        let number = match enter_file(rt, alloc, volume, passes, &mut entries, self)? {
+            Ok(number) => number,
+            Err(refusal) => return Ok(Err(refusal)),
+        };
         let passes = rights.passes.as_mut_slice();
         write_folder(rt, alloc, volume, passes, entries.as_slice(), self.now)?;
         Ok(Ok(number))
     }
 }
 
-// Whether there is room for so many bytes of the file of a row, or of a new one.
+/// The file of a name becomes the bytes; where there is none it is made. Its row says so, and the folder's file is left as it is: it is
+/// to be written from the rows. Refused and failing as `Put` is; a refusal changes nothing.
+pub(crate) fn enter_file<V: VolumeName, M: Meta, B: Block + Drop, R: Wait>(
+    rt: &R,
+    alloc: Global,
+    volume: &Volume<V, M, B>,
+    passes: &mut Vec<FilePass<V>>,
+    entries: &mut Vec<Entry>,
+    put: Put<'_>,
+) -> Result<Result<u32, Refusal>, Error>
+    requires rows { All IsRow (map row_of entries.old.items) }
+    requires folder { IsThere passes.old.items 1 }
+    requires there { All (λ row. IsThere passes.old.items row.number) (map row_of entries.old.items) }
+    ensures entered { IfOk result (λ entered. IfOk entered (λ number. WasEntered (block_bytes V.Numbers.geometry.shape) put.entry.name.now put.entry.bytes.now number (map row_of entries.old.items) (map row_of entries.new.items) passes.old.items passes.new.items)) }
+    ensures rows_stay { IfOk result (λ entered. IfErr entered (λ refusal. entries.new.items ≡ entries.old.items)) }
+    ensures files_stay { IfOk result (λ entered. IfErr entered (λ refusal. passes.new.items ≡ passes.old.items)) }
+    ensures error { IfErr result IsOfCall }
+{
+    if !is_name(put.name) {
+        return Ok(Err(Refusal::BadName));
+    }
+    let row = row_at(entries.as_slice(), put.name);
+    if row.is_some() && !put.replaces {
+        return Ok(Err(Refusal::NameTaken));
+    }
+    let held = entries.as_slice();
+    let bytes = put.bytes.len() as u64;
+    if !fits(rt, alloc, volume, passes.as_slice(), held, row, bytes)? {
+        return Ok(Err(Refusal::NoRoom));
+    }
+    let number = write_row(rt, alloc, volume, passes, held, row, put.bytes, put.now)?;
+    put_row(alloc, entries, row, put.name, number, bytes)?;
+    Ok(Ok(number))
+}
+
+// Whether there is room for so many bytes of the file of a row, or of a new one, and for the folder of all rows. The only error is
+// NoMemory.
 fn fits<V: VolumeName, M: Meta, B: Block + Drop, R: Wait>(
     rt: &R,
+    alloc: Global,
     volume: &Volume<V, M, B>,
     passes: &[FilePass<V>],
     entries: &[Entry],
     row: Option<usize>,
     bytes: u64,
-) -> bool
+) -> Result<bool, Error>
     requires within { IfSome row (λ place. place < length entries.now) }
+    ensures error { IfErr result (λ error. error ≡ NoMemory) }
 {
     let file = match row {
         Some(place) => blocks_of(passes, entries[place].number),
         None => None,
     };
-    // Nodes that were never written are valid nowhere yet.
+    // Nodes that were never written are valid nowhere yet, nor are rows.
     let unwritten = volume.checkpoint_room().marked;
     let taken = Taken {
         valid: volume.valid_blocks(rt).saturating_add(unwritten),
         folder: blocks_of(passes, FOLDER).unwrap_or(0),
         file,
     };
-    has_room(&volume.geometry(), taken, bytes)
+    let folder = encode(alloc, entries)?.len() as u64;
+    let geometry = volume.geometry();
+    Ok(has_room(&geometry, taken.with_folder(&geometry, folder), bytes))
 }
 
 // How many blocks of data the file of a number has, where the passes have it.

@@ -1,15 +1,58 @@
+-- The files are entered, and the folder is written behind them, where there is one: so it is as if each had been put.
+use Rattle.std.proofs.Common.{◌≡◌, ◌≢◌, ◌∙◌, ◌++◌, ℕ, All, MatchResult, length, map, take, drop, ap, refl, rules, arith}
+use Rattle.std.proofs.lemmas.Grind.{common_steps}
+use Rattle.std.proofs.lemmas.List.{take_at}
 use Rattle.geometry.specs.Shape.{block_bytes}
-use Rattle.tool_files.proofs.Many.{all_were_put, one_more_put}
+use Rattle.tool_folder.specs.Folder.{Row, IsRow}
+use Rattle.tool_files.specs.Files.{file_at, HasFolder, IsThere}
+use Rattle.tool_files.specs.Many.{WerePut}
+use Rattle.tool_folder.specs.Rows.{row_of}
+use Rattle.tool_folder.proofs.Cases.{into, some_of}
+use Rattle.tool_files.proofs.Many.{all_or_front, some_taken, were_put}
 use Rattle.tool_files.proofs.work.put_all.PutAllWork.run.Goals as goal
 
-pub loop-file-preserved : goal.loop-file-preserved
-loop-file-preserved g c =
+pub enter_all-requires-clause-folder : goal.enter_all-requires-clause-folder
+enter_all-requires-clause-folder g c =
     let size = block_bytes g.V.Numbers.GeometryName.geometry.shape in
-    let put = rw c.in-Ok.is at c.in_ok-run.ensures.done in
-    one_more_put size c.args.self.files.now c.loop-file.file-index _ c.args.rights.now.passes.items c.loop-file.rights.passes.items c.run.new.rights.passes.items c.in-Ok.field-0
-    c.loop-file-test.true c.loop-file.invariant put
+    let folder = some_of (λ found. HasFolder size c.as_slice.result.now (map row_of found.items)) c.in_ok-entries.field-0 c.in-Some.entries c.in-Some.is c.in_ok-entries.ensures.some in
+    let had : HasFolder size c.args.rights.now.passes.items (map row_of c.in-Some.entries.items)
+    = into (λ ps. HasFolder size ps (map row_of c.in-Some.entries.items)) c.args.rights.now.passes.items c.as_slice.result.now (search rules) folder in
+    (had.folder, had.here)
+
+pub enter_all-requires-clause-there : goal.enter_all-requires-clause-there
+enter_all-requires-clause-there g c =
+    let rows = map row_of c.in-Some.entries.items in
+    let there : All (λ (row : Row). IsThere c.as_slice-2.result.now row.number) rows
+    = into (λ es. All (λ (row : Row). IsThere c.as_slice-2.result.now row.number) (map row_of es)) c.in-Some.entries.items c.as_slice-3.result.now (search rules) (c.are_there.ensures (search rules)) in
+    into (λ ps. All (λ (row : Row). IsThere ps row.number) rows) c.args.rights.now.passes.items c.as_slice-2.result.now (search rules) there
+
+pub write_folder-requires : goal.write_folder-requires
+write_folder-requires g c =
+    record { rows = into (λ es. All IsRow (map row_of es)) c.as_slice-4.result.now c.enter_all.new.entries.items (search rules) c.in_ok-entered.ensures.rows }
 
 pub returns-clause-done : goal.returns-clause-done
 returns-clause-done g c =
-    all_were_put (block_bytes g.V.Numbers.GeometryName.geometry.shape) c.args.self.files.now c.loop-file.file-index c.args.rights.now.passes.items c.loop-file.rights.passes.items
-    c.loop-file-test.false c.loop-file.invariant
+    let size = block_bytes g.V.Numbers.GeometryName.geometry.shape in
+    let files = c.args.self.files.now in
+    let before = c.args.rights.now.passes.items in
+    let slice = c.as_slice.result.now in
+    let rows = map row_of c.in-Some.entries.items in
+    let folder : HasFolder size slice rows
+    = some_of (λ found. HasFolder size slice (map row_of found.items)) c.in_ok-entries.field-0 c.in-Some.entries c.in-Some.is c.in_ok-entries.ensures.some in
+    let had : HasFolder size before rows = into (λ ps. HasFolder size ps rows) before slice (search rules) folder in
+    let count = c.in_ok-entered.entered.files in
+    let outcome = c.in_ok-entered.entered.outcome in
+    let between = c.enter_all.new.passes.items in
+    let renewed = map row_of c.enter_all.new.entries.items in
+    let after = c.write_folder.new.passes in
+    let has : HasFolder size after renewed
+    = into (λ es. HasFolder size after (map row_of es)) c.enter_all.new.entries.items c.as_slice-4.result.now (search rules) c.in_ok-write_folder.ensures.folder in
+    let same_between : c.as_mut_slice-passes.result.now ≡ between = search rules in
+    let others : (n : ℕ) → n ≢ 1 → file_at n after ≡ file_at n between = λ n other. c.in_ok-write_folder.ensures.others n other ∙ ap (file_at n) same_between in
+    let some : count ≢ 0 = grind (arith, common_steps) in
+    let were : WerePut size (take count files) before after
+    = were_put size (take count files) rows renewed before before between after (some_taken files count some c.in_ok-entered.ensures.few) had (λ n other. refl)
+    c.in_ok-entered.ensures.entered has others in
+    into (λ ps. MatchResult outcome (λ done. WerePut size files before ps) (λ refusal. (front : ℕ) × WerePut size (take front files) before ps))
+    (take c.enter_all.new.passes.len (after ++ drop (length after) between)) after (take_at after (drop (length after) between) c.enter_all.new.passes.len (search rules))
+    (all_or_front size files count outcome before after c.in_ok-entered.ensures.all were)
