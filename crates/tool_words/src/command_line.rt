@@ -43,6 +43,22 @@ impl Part {
     };
 }
 
+/// Which disk is to be served, and how.
+#[derive(Clone, Copy)]
+pub struct ServeWords<'a> {
+    /// The disk's name.
+    pub disk: &'a str,
+    /// Its bytes, where they are told.
+    pub bytes: Option<u64>,
+    pub read_only: bool,
+    /// How many threads do requests.
+    pub workers: u32,
+    /// The seconds after which a checkpoint has what was written. 0: only where the client asks for one.
+    pub flush_every: u32,
+    /// A new file of the system's for what was done.
+    pub stats: Option<&'a str>,
+}
+
 /// What is to be done. `file` is a file of the system's, in place of a standard stream.
 #[derive(Clone, Copy)]
 pub enum Task<'a> {
@@ -98,6 +114,7 @@ pub enum Task<'a> {
     Import {
         folder: &'a str,
     },
+    Serve(ServeWords<'a>),
     /// Writes completions for a shell.
     Complete {
         shell: &'a str,
@@ -118,6 +135,7 @@ impl<'a> Task<'a> {
             Task::Rename { .. } => Some("the file is renamed"),
             Task::Clean { .. } => Some("the volume is cleaned"),
             Task::Import { .. } => Some("the files are put"),
+            Task::Serve(_) => Some("the disk was served"),
             _ => None,
         }
     }
@@ -185,6 +203,7 @@ fn task_of<'a>(command: &str, found: &ArgMatches<'a>) -> Option<Task<'a>> {
         "import" => Task::Import {
             folder: text_of(found, "folder"),
         },
+        "serve" => Task::Serve(serve_of(found)),
         "completions" => Task::Complete {
             shell: text_of(found, "shell"),
         },
@@ -206,6 +225,17 @@ fn copy_of<'a>(found: &ArgMatches<'a>, name: &'a str) -> Task<'a> {
         name,
         to: text_of(found, "to"),
         replaces: !found.get_flag("no-clobber"),
+    }
+}
+
+fn serve_of<'a>(found: &ArgMatches<'a>) -> ServeWords<'a> {
+    ServeWords {
+        disk: text_of(found, "disk"),
+        bytes: found.get_one::<u64>("size"),
+        read_only: found.get_flag("read-only"),
+        workers: number_of(found, "workers"),
+        flush_every: number_of(found, "flush-every"),
+        stats: found.get_str("stats"),
     }
 }
 

@@ -15,6 +15,7 @@ use crate::map::map;
 use crate::putting::{PutFile, append, copy, put};
 use crate::room::tell_room;
 use crate::screen::Screen;
+use crate::serving::serve;
 use crate::shown::Shown;
 use crate::stat::{list, stat};
 use flash_volume::{Geometry, Leave, Policy};
@@ -22,10 +23,16 @@ use std::fs::{File, Files};
 use std::io::{Read, Write};
 use std::rt::Runtime;
 use std::sync::Wait;
+use std::thread::Threads;
 use tool_files::{Clean, Remove, Rename};
 
 /// Does what the words ask for, and answers the exit status.
-pub fn obey<R: Runtime + AllocGlobal + Wait + Files<File = File>, I: Read, O: Write, E: Write>(
+pub fn obey<
+    R: Runtime + AllocGlobal + Wait + Threads + Sync + Files<File = File>,
+    I: Read + Send,
+    O: Write + Send,
+    E: Write,
+>(
     rt: &R,
     screen: Screen,
     words: &Words<'_>,
@@ -56,6 +63,7 @@ pub fn obey<R: Runtime + AllocGlobal + Wait + Files<File = File>, I: Read, O: Wr
         Task::Stat { json } => stat(rt, image, json, out)?,
         Task::Room { json } => tell_room(rt, image, json, out)?,
         Task::Map { svg, json } => map(rt, screen, image, svg, json, out)?,
+        Task::Serve(words) => serve(rt, screen, image, words, input, out, errors)?,
         Task::Complete { shell } => write_completions(rt.alloc(), shell, out)?,
         Task::Describe => write_manual(rt.alloc(), out)?,
     }

@@ -1,5 +1,6 @@
 //! A picture of the segments, in text.
 use crate::fault::Fault;
+use crate::moment::Ages;
 use crate::screen::Screen;
 use flash_volume::Geometry;
 use image::{Image, SegmentInfo};
@@ -47,8 +48,8 @@ pub fn look_of(image: &Image, segment: u32) -> Look {
     }
 }
 
-/// Draws a sign for each segment: how full it is, in the colour of its log where one is open; then a legend, and the times of the
-/// oldest and the youngest segment with valid blocks.
+/// Draws a sign for each segment: how full it is, in the colour of its log where one is open; then a legend, and when the oldest and the
+/// youngest segment with valid blocks were written, where a time is kept.
 pub fn draw<O: Write>(
     geometry: &Geometry,
     image: &Image,
@@ -128,14 +129,8 @@ fn draw_legend<O: Write>(
         }
         number = number.saturating_add(1);
     }
-    let used = image.sit.iter().filter(|info| info.count > 0);
-    let ages = used.map(|info| info.mtime).min();
-    let used = image.sit.iter().filter(|info| info.count > 0);
-    if let (Some(oldest), Some(youngest)) = (ages, used.map(|info| info.mtime).max()) {
-        writeln!(
-            out,
-            "  the segments in use were last written from {oldest} to {youngest} (seconds since 1970)"
-        )?;
+    if let Some(ages) = Ages::of(image) {
+        writeln!(out, "  the segments in use were last written {ages}")?;
     }
     Ok(())
 }

@@ -5,6 +5,7 @@ use flash_volume::{Error, Fault as VolumeFault, Stage};
 use image_reading::ReadFault;
 use std::alloc::{AllocError, AllocFailed, Global};
 use std::io;
+use tool_disk::DiskFault;
 use tool_reading::Refusal;
 
 /// Why the program stops.
@@ -46,6 +47,10 @@ pub enum Fault {
     Named(String, Refusal),
     /// A file was deleted, and then its name could not be removed.
     NameStays(Error),
+    /// The client's bytes could not be read, or it not be answered, before it was served.
+    Client(io::Error),
+    /// The disk of a name was not served.
+    Disk(String, DiskFault),
 }
 
 impl From<FileFault> for Fault {
@@ -140,6 +145,18 @@ impl Fault {
         match String::from_str(alloc, name) {
             Ok(name) => Fault::Named(name, refusal),
             Err(_) => Fault::Volume(Error::NoMemory),
+        }
+    }
+
+    /// Why the disk of a name was not served.
+    pub fn of_disk(alloc: Global, disk: &str, fault: DiskFault) -> Fault {
+        match fault {
+            DiskFault::Volume(stage, error) => Fault::of_volume(stage, error),
+            DiskFault::Stream(error) => Fault::Client(error),
+            fault => match String::from_str(alloc, disk) {
+                Ok(disk) => Fault::Disk(disk, fault),
+                Err(_) => Fault::Volume(Error::NoMemory),
+            },
         }
     }
 

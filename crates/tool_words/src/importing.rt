@@ -27,8 +27,8 @@ use tool_reading::Refusal;
 ///
 /// What is no ordinary file is left out and named on `errors`, and then the status that is answered is 1 in place of 0.
 ///
-/// The volume is mounted once for all of them, where they have no more bytes than the image and none is refused. Where `out` fails the
-/// files are put nevertheless, and then that is answered.
+/// The volume is mounted, and its folder written, once for all of them, where they have no more bytes than the image and none is refused.
+/// Where `out` fails the files are put nevertheless, and then that is answered.
 pub fn import<R: Runtime + AllocGlobal + Wait + Files<File = File>, O: Write, E: Write>(
     rt: &R,
     screen: Screen,
@@ -210,13 +210,15 @@ fn put_at_once<M: Meta + Drop, B: Block + Drop, R: Runtime + AllocGlobal + Wait>
     Ok((parts, 0))
 }
 
-// How many files are put where so many were refused: those before the one that failed, or half where the checkpoint had no room for all.
+// How many files are put where so many were refused: those before the one that failed, or half where the folder or the checkpoint had no
+// room for all.
 fn fewer_than(most: usize, stage: Stage, error: Error, count: usize) -> Option<usize>
     requires some { 0 < most }
     ensures fewer { IfSome result (λ fewer. fewer < most) }
 {
     match stage {
-        Stage::Work => Some(count.min(most - 1)),
+        Stage::Work if count < most => Some(count),
+        Stage::Work => Some(most / 2),
         Stage::Close if error == Error::NoSpace => Some(most / 2),
         _ => None,
     }

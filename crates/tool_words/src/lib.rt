@@ -19,15 +19,18 @@ mod making;
 mod making_room;
 mod manual;
 mod map;
+mod moment;
 mod new_file;
 mod putting;
 mod room;
 mod run;
 mod screen;
+mod serving;
 mod shown;
 mod stat;
 mod streams;
 mod svg;
+mod svg_legend;
 mod telling;
 mod window;
 

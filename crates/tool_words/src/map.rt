@@ -3,6 +3,7 @@ use crate::draw::{LOGS, Look, draw, look_of};
 use crate::fault::Fault;
 use crate::image_run::{ImageFile, read_image};
 use crate::json_text::write_json;
+use crate::moment::written_at;
 use crate::new_file::{keep_whole, make_new};
 use crate::screen::Screen;
 use crate::svg::draw_svg;
@@ -15,7 +16,7 @@ use std::io::{BufWriter, Write};
 use std::time::Clock;
 
 /// A segment: what it is at a mount, which log appends to it, how many of its blocks are valid, and when one was last written, in seconds
-/// since 1970.
+/// since 1970, where that is kept.
 #[derive(Drop, Serialize)]
 struct Segment {
     segment: u32,
@@ -23,7 +24,7 @@ struct Segment {
     log: Option<&'static str>,
     valid_blocks: u32,
     blocks: u32,
-    written: u64,
+    written: Option<u64>,
 }
 
 /// Draws the segments to `out`, or to a new file where one is named.
@@ -77,7 +78,7 @@ fn segments_of(
             log,
             valid_blocks: info.count,
             blocks: geometry.shape.segment_blocks(),
-            written: info.mtime,
+            written: written_at(info).map(|time| time.0),
         })?;
         segment = segment.saturating_add(1);
     }

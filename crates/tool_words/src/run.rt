@@ -8,6 +8,7 @@ use std::fs::{File, Files};
 use std::io::{Read, Write};
 use std::rt::Runtime;
 use std::sync::Wait;
+use std::thread::Threads;
 use std::{env, io};
 
 // The exit status where the words are refused.
@@ -15,15 +16,13 @@ const MISUSED: u8 = 2;
 
 /// Does what the words ask for, the first of which is the program's own name, and answers the exit status: 0 done; 1 a volume, an
 /// image or a name was refused; 2 the words were; 4 a file, a stream or memory failed. `put` reads `input` to its end; what is asked
-/// for goes to `out`, and what is wrong, with what can be done, to `errors`.
-pub fn run_words<R: Runtime + AllocGlobal + Wait + Files<File = File>, I: Read, O: Write, E: Write>(
-    rt: &R,
-    screen: Screen,
-    words: &[String],
-    input: &mut I,
-    out: &mut O,
-    errors: &mut E,
-) -> u8 {
+/// for goes to `out`, and what is wrong, with what can be done, to `errors`. `serve` answers on `out` what a client asks on `input`.
+pub fn run_words<
+    R: Runtime + AllocGlobal + Wait + Threads + Sync + Files<File = File>,
+    I: Read + Send,
+    O: Write + Send,
+    E: Write,
+>(rt: &R, screen: Screen, words: &[String], input: &mut I, out: &mut O, errors: &mut E) -> u8 {
     let words = match read_words(rt.alloc(), words) {
         Ok(words) => words,
         Err(error) if error.exit_code() == 0 => return tell_help(&error, out, errors),

@@ -1,113 +1,178 @@
 //! A picture of the segments, as SVG.
 use crate::draw::{LOGS, Look, look_of};
 use crate::fault::Fault;
+use crate::moment::{Ages, written_at};
+use crate::svg_legend::{LEGEND, draw_legend, draw_scale};
 use flash_volume::Geometry;
-use image::Image;
+use image::{Image, SegmentInfo};
 use std::io::Write;
 
 // So many segments stand side by side.
 const COLUMNS: u32 = 32;
 
-// The width of a column, and the height of a line, in pixels.
+// The width of a column and of its box, and the height of a line, in pixels.
 const WIDTH: u32 = 20;
+
+const BOX: u32 = 16;
 
 const HEIGHT: u32 = 48;
 
 // The height of a full segment.
 const FULL: u32 = 40;
 
-/// A colour for each log.
-const COLOURS: [&str; 6] = [
-    "#b2182b", "#d6604d", "#2166ac", "#e7298a", "#e6ab02", "#66a61e",
-];
+// Where the first box begins: in front of it and above it stand numbers.
+const LEFT: u32 = 46;
 
-/// Draws a box for each segment, filled as far as its blocks are valid, in the colour of its log where one appends to it, and paler
-/// the older it is where it is sealed. A box tells its numbers where the pointer rests on it.
+const TOP: u32 = 24;
+
+// The room behind the last box, where the scale stands.
+const RIGHT: u32 = 84;
+
+/// So many classes have sealed segments by their age, from the oldest to the youngest.
+pub const AGES: u64 = 6;
+
+/// The colours, on a light page and on a dark one. A picture has a page of its own, since not all that show it tell which they have.
+const STYLE: &str = "<style>
+.page { fill: #ffffff } text { fill: #1f2328 } .tick { fill: #57606a } .box { fill: #f3f4f6; stroke: #9aa4af } .open .box { stroke: currentColor } .full { fill: currentColor }
+.log0 { color: #b2182b } .log1 { color: #e0603c } .log2 { color: #2166ac } .log3 { color: #d4247c } .log4 { color: #d99a00 } .log5 { color: #4d9221 }
+.age0 { color: #cfd6dd } .age1 { color: #b1bbc5 } .age2 { color: #939fac } .age3 { color: #748393 } .age4 { color: #536474 } .age5 { color: #2b3a48 }
+.timeless { color: #b794c7 }
+@media (prefers-color-scheme: dark) {
+.page { fill: #0d1117 } text { fill: #e6edf3 } .tick { fill: #9aa4af } .box { fill: #1a2029; stroke: #57606a }
+.log0 { color: #ff6b6b } .log1 { color: #ff9f68 } .log2 { color: #58a6ff } .log3 { color: #ff7ab8 } .log4 { color: #f2cc60 } .log5 { color: #7ee787 }
+.age0 { color: #343d48 } .age1 { color: #4c5967 } .age2 { color: #687787 } .age3 { color: #8796a6 } .age4 { color: #acb8c4 } .age5 { color: #d8e0e8 }
+.timeless { color: #9a6fb0 }
+}
+</style>";
+
+/// Draws a box for each segment, filled as far as its blocks are valid: in the colour of its log where one appends to it, and by its age
+/// where it is sealed. The numbers of the segments stand at the lines and columns; a box tells its own where the pointer rests on it.
 pub fn draw_svg<O: Write>(geometry: &Geometry, image: &Image, out: &mut O) -> Result<(), Fault> {
     let lines = geometry.segments.div_ceil(COLUMNS);
-    let top = lines.saturating_mul(HEIGHT);
+    let bottom = lines.saturating_mul(HEIGHT).saturating_add(TOP);
     writeln!(
         out,
         "<svg xmlns=\"http://www.w3.org/2000/svg\" width=\"{}\" height=\"{}\" font-family=\"sans-serif\" font-size=\"11\">",
-        COLUMNS * WIDTH + 10,
-        top.saturating_add(90)
+        LEFT + COLUMNS * WIDTH + RIGHT,
+        bottom.saturating_add(LEGEND)
     )?;
-    writeln!(
-        out,
-        "<rect width=\"100%\" height=\"100%\" fill=\"#ffffff\"/>"
-    )?;
-    let youngest = image.sit.iter().map(|info| info.mtime).max().unwrap_or(0);
-    let oldest = oldest_of(image);
+    writeln!(out, "<title>The segments of a volume</title>")?;
+    writeln!(out, "{STYLE}")?;
+    writeln!(out, "<rect class=\"page\" width=\"100%\" height=\"100%\"/>")?;
+    draw_numbers(lines, out)?;
+    draw_scale(LEFT + COLUMNS * WIDTH, TOP, FULL, geometry, out)?;
+    let ages = Ages::of(image);
     let mut segment = 0u32;
     for info in &image.sit {
-        let x = (segment % COLUMNS).saturating_mul(WIDTH).saturating_add(5);
-        let y = (segment / COLUMNS).saturating_mul(HEIGHT).saturating_add(5);
-        let look = look_of(image, segment);
-        let blocks = geometry.shape.segment_blocks().max(1);
-        let full = info.count.saturating_mul(FULL) / blocks;
-        let colour = colour_of(look);
-        let opacity = opacity_of(look, info.mtime, oldest, youngest);
-        writeln!(
-            out,
-            "<g><title>segment {segment}: {} of {blocks} blocks valid, written at {}</title><rect x=\"{x}\" y=\"{y}\" width=\"16\" height=\"{FULL}\" fill=\"#f2f2f2\" stroke=\"{colour}\"/><rect x=\"{x}\" y=\"{}\" width=\"16\" height=\"{full}\" fill=\"{colour}\" fill-opacity=\"0.{opacity}\"/></g>",
-            info.count,
-            info.mtime,
-            y.saturating_add(FULL).saturating_sub(full)
-        )?;
+        let blocks = geometry.shape.segment_blocks();
+        draw_segment(segment, look_of(image, segment), info, blocks, ages, out)?;
         segment = segment.saturating_add(1);
     }
-    draw_legend(top, out)?;
+    draw_legend(LEFT, bottom, geometry, image, ages, out)?;
     writeln!(out, "</svg>")?;
     Ok(())
 }
 
-fn oldest_of(image: &Image) -> u64 {
-    let used = image.sit.iter().filter(|info| info.count > 0);
-    used.map(|info| info.mtime).min().unwrap_or(0)
+// Writes the number of the first segment of each line in front of it, and above the columns how many come before.
+fn draw_numbers<O: Write>(lines: u32, out: &mut O) -> Result<(), Fault> {
+    for line in 0..lines {
+        let y = line
+            .saturating_mul(HEIGHT)
+            .saturating_add(TOP + FULL / 2 + 4);
+        writeln!(
+            out,
+            "<text x=\"{}\" y=\"{y}\" text-anchor=\"end\">{}</text>",
+            LEFT - 8,
+            line.saturating_mul(COLUMNS)
+        )?;
+    }
+    for quarter in 0..COLUMNS / 4 {
+        let column = quarter * 4;
+        writeln!(
+            out,
+            "<text x=\"{}\" y=\"{}\" text-anchor=\"middle\">+{column}</text>",
+            LEFT + column * WIDTH + BOX / 2,
+            TOP - 8
+        )?;
+    }
+    Ok(())
 }
 
-fn colour_of(look: Look) -> &'static str {
+fn draw_segment<O: Write>(
+    segment: u32,
+    look: Look,
+    info: &SegmentInfo,
+    blocks: u32,
+    ages: Option<Ages>,
+    out: &mut O,
+) -> Result<(), Fault> {
+    let x = LEFT + segment % COLUMNS * WIDTH;
+    let y = (segment / COLUMNS)
+        .saturating_mul(HEIGHT)
+        .saturating_add(TOP);
+    let full = info.count.saturating_mul(FULL).div_ceil(blocks.max(1));
+    write!(out, "<g class=\"")?;
+    write_class(look, info, ages, out)?;
+    write!(out, "\"><title>segment {segment}: ")?;
     match look {
-        Look::Free => "#cccccc",
-        Look::Open(log) => COLOURS[log.min(5)],
-        Look::Sealed => "#444444",
+        Look::Free => write!(out, "free")?,
+        Look::Open(log) => write!(out, "{} appends", LOGS[log.min(5)])?,
+        Look::Sealed => write!(out, "sealed")?,
     }
-}
-
-// The tenths of how opaque a segment is: 9 for the youngest and for those that are open, down to 3 for the oldest.
-fn opacity_of(look: Look, time: u64, oldest: u64, youngest: u64) -> u64 {
-    let span = youngest.saturating_sub(oldest);
-    if look != Look::Sealed || span == 0 {
-        return 9;
+    write!(out, ", {} of {blocks} blocks valid", info.count)?;
+    if let Some(time) = written_at(info) {
+        write!(out, ", written {time} UTC")?;
     }
-    let age = youngest.saturating_sub(time);
-    9u64.saturating_sub(age / (span / 6 + 1)).max(3)
-}
-
-fn draw_legend<O: Write>(top: u32, out: &mut O) -> Result<(), Fault> {
-    let y = top.saturating_add(24);
-    let mut x = 5u32;
-    for (name, colour) in LOGS.iter().zip(COLOURS) {
-        draw_key(x, y, colour, name, out)?;
-        x = x.saturating_add(100);
-    }
-    let y = y.saturating_add(24);
-    draw_key(5, y, "#444444", "sealed, paler the older", out)?;
-    draw_key(205, y, "#cccccc", "free", out)?;
-    writeln!(
-        out,
-        "<text x=\"5\" y=\"{}\">each box is a segment, filled as far as its blocks are valid; a log appends to a coloured one</text>",
-        y.saturating_add(24)
-    )?;
+    write!(out, "</title>")?;
+    draw_box(x, y, BOX, FULL, full, out)?;
+    writeln!(out, "</g>")?;
     Ok(())
 }
 
-fn draw_key<O: Write>(x: u32, y: u32, colour: &str, name: &str, out: &mut O) -> Result<(), Fault> {
-    writeln!(
+/// Draws a box, filled from below so many pixels high.
+pub fn draw_box<O: Write>(
+    x: u32,
+    y: u32,
+    width: u32,
+    height: u32,
+    full: u32,
+    out: &mut O,
+) -> Result<(), Fault> {
+    write!(
         out,
-        "<rect x=\"{x}\" y=\"{}\" width=\"10\" height=\"10\" fill=\"{colour}\"/><text x=\"{}\" y=\"{y}\">{name}</text>",
-        y.saturating_sub(9),
-        x.saturating_add(14)
+        "<rect class=\"box\" x=\"{x}\" y=\"{y}\" width=\"{width}\" height=\"{height}\"/>"
     )?;
+    if full > 0 {
+        let top = y.saturating_add(height).saturating_sub(full);
+        write!(
+            out,
+            "<rect class=\"full\" x=\"{x}\" y=\"{top}\" width=\"{width}\" height=\"{full}\"/>"
+        )?;
+    }
     Ok(())
+}
+
+// Writes the class of a segment, which has its colour.
+fn write_class<O: Write>(
+    look: Look,
+    info: &SegmentInfo,
+    ages: Option<Ages>,
+    out: &mut O,
+) -> Result<(), Fault> {
+    match (look, ages) {
+        (Look::Free, _) => write!(out, "free")?,
+        (Look::Open(log), _) => write!(out, "open log{}", log.min(5))?,
+        (Look::Sealed, Some(ages)) if info.mtime > 0 => {
+            write!(out, "age{}", age_of(info.mtime, ages))?
+        }
+        _ => write!(out, "timeless")?,
+    }
+    Ok(())
+}
+
+// The class of a time: the highest for the youngest.
+fn age_of(time: u64, ages: Ages) -> u64 {
+    let span = ages.youngest.saturating_sub(ages.oldest);
+    let age = ages.youngest.saturating_sub(time);
+    (AGES - 1).saturating_sub(age / (span / AGES + 1))
 }

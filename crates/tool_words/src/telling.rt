@@ -5,6 +5,7 @@ use crate::shown::Shown;
 use flash_volume::Error;
 use std::io;
 use std::io::Write;
+use tool_disk::DiskFault;
 
 /// A volume, an image or a name was refused.
 const REFUSED: u8 = 1;
@@ -58,6 +59,10 @@ impl Fault {
                 Shown(path.as_str())
             ),
             Fault::Beyond(beyond) => writeln!(errors, "{beyond}"),
+            Fault::Client(error) => writeln!(
+                errors,
+                "the client: {error}; a disk is served to an NBD client behind standard input and output"
+            ),
             _ => {
                 let image = Shown(image);
                 write!(errors, "{image}: ")?;
@@ -114,6 +119,7 @@ impl Fault {
                 errors,
                 "{error}; the file is gone, and its name stays in the folder; rm another file, then this name again"
             ),
+            Fault::Disk(disk, fault) => write_of_disk(Shown(disk.as_str()), fault, errors),
             _ => Ok(()),
         }
     }
@@ -126,12 +132,39 @@ impl Fault {
             | Fault::Input(_)
             | Fault::File(_, _)
             | Fault::Image(_)
+            | Fault::Client(_)
             | Fault::Busy
             | Fault::Unsettled => FAILED,
             Fault::Volume(error) | Fault::Unmade(error) | Fault::NameStays(error)
                 if is_failure(*error) => { FAILED }
             _ => REFUSED,
         }
+    }
+}
+
+// Why a disk was not served.
+fn write_of_disk<E: Write>(disk: Shown<'_>, fault: &DiskFault, errors: &mut E) -> io::Result<()> {
+    match fault {
+        DiskFault::NoDisk => writeln!(
+            errors,
+            "{disk}: there is no such disk; give --size BYTES to make it"
+        ),
+        DiskFault::OtherSize(bytes) => writeln!(
+            errors,
+            "{disk}: the disk has {bytes} bytes; leave --size out"
+        ),
+        DiskFault::OddSize(block) => writeln!(
+            errors,
+            "{disk}: a disk has whole blocks of {block} bytes; give another --size"
+        ),
+        DiskFault::Broken => writeln!(
+            errors,
+            "{disk}: its files are not the parts of one disk; rm them, or give another name (--disk)"
+        ),
+        DiskFault::Files(refusal) => {
+            writeln!(errors, "{disk}: {refusal}; {}", name_advice(*refusal))
+        }
+        _ => Ok(()),
     }
 }
 

@@ -88,7 +88,8 @@ fn with_volume_commands<'a>(
         .subcommand(on_image(alloc, "check", check)?.arg(json(alloc))?)?
         .subcommand(on_image(alloc, "stat", stat)?.arg(json(alloc))?)?
         .subcommand(on_image(alloc, "df", room)?.arg(json(alloc))?)?
-        .subcommand(map_command(alloc)?)
+        .subcommand(map_command(alloc)?)?
+        .subcommand(serve_command(alloc)?)
 }
 
 // The commands that copy a folder of the system.
@@ -275,6 +276,57 @@ fn map_command<'a>(alloc: Global) -> Result<Command<'a>, AllocError> {
     )?
     .arg(svg.conflicts_with("json")?)?
     .arg(json(alloc))
+}
+
+fn serve_command<'a>(alloc: Global) -> Result<Command<'a>, AllocError> {
+    let disk = Arg::new(alloc, "disk")
+        .long("disk")
+        .value_name("NAME")
+        .help("The disk's name: its parts are the files NAME.00, NAME.01 and so on")
+        .default_value("disk");
+    let stats = Arg::new(alloc, "stats")
+        .long("stats")
+        .value_name("FILE")
+        .help("Writes to a new file, as JSON, what was done");
+    let size = number_option(
+        alloc,
+        "size",
+        "BYTES",
+        "The disk's size; where there is no such disk it is made",
+    );
+    let about =
+        "Serves a disk to a client by the NBD protocol, over standard input and output, and closes when it leaves";
+    on_image(alloc, "serve", about)?
+        .arg(disk)?
+        .arg(size)?
+        .arg(flag(
+            alloc,
+            "read-only",
+            "Refuses what would change the disk, and writes nothing",
+        ))?
+        .arg(threads_option(alloc))?
+        .arg(flush_option(alloc))?
+        .arg(stats)
+}
+
+fn threads_option<'a>(alloc: Global) -> Arg<'a> {
+    Arg::new(alloc, "workers")
+        .long("workers")
+        .value_name("N")
+        .help("How many threads do requests, 1 to 16")
+        .value_parser(value_parser!(u32).range(1..=16))
+        .default_value("4")
+}
+
+fn flush_option<'a>(alloc: Global) -> Arg<'a> {
+    Arg::new(alloc, "flush-every")
+        .long("flush-every")
+        .value_name("SECONDS")
+        .help(
+            "After so long a checkpoint has what was written, asked for or not; 0: only where the client asks",
+        )
+        .value_parser(value_parser!(u32))
+        .default_value("5")
 }
 
 fn format_command<'a>(alloc: Global) -> Result<Command<'a>, AllocError> {
