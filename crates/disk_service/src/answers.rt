@@ -1,5 +1,9 @@
 //! The stream of answers.
-use nbd_words::{ErrorNumber, simple_reply};
+ghost use Rattle.std.specs.Prelude.{◌≡◌, ◌++◌, replicate, IfOk};
+ghost use Rattle.nbd_words.specs.Request.{reply_bytes};
+
+use nbd_words::{ErrorNumber, REPLY_BYTES, simple_reply};
+use std::alloc::{AllocError, Global};
 use std::io;
 use std::io::Write;
 use std::sync::atomic::{AtomicBool, Ordering};
@@ -43,4 +47,15 @@ impl<O: Write + Drop> Answers<O> {
 fn write_out<O: Write>(output: &mut O, bytes: &[u8]) -> io::Result<()> {
     output.write_all(bytes)?;
     output.flush()
+}
+
+/// The answer to a read of so many bytes that was done, with zeros for the bytes.
+pub(crate) fn read_reply(alloc: Global, cookie: u64, length: u32) -> Result<Vec<u8>, AllocError>
+    ensures bytes { IfOk result (λ reply. reply.items ≡ reply_bytes 0 cookie ++ replicate length 0) }
+{
+    let size = REPLY_BYTES + length as usize;
+    let mut reply = Vec::with_capacity(alloc, size)?;
+    reply.extend_from_slice(&simple_reply(Ok(()), cookie))?;
+    reply.resize(size, 0)?;
+    Ok(reply)
 }

@@ -1,6 +1,6 @@
 //! A disk that is served to one client.
-ghost use Rattle.std.specs.Prelude.{◌≡◌};
-ghost use Rattle.geometry.specs.Shape.{block_bytes};
+ghost use Rattle.std.specs.Prelude.{◌≡◌, IfErr};
+ghost use Rattle.geometry.specs.declared.error.Error.TheVariants.{NoMemory};
 
 use crate::answers::Answers;
 use crate::counts::{Counters, Counts};

@@ -46,7 +46,7 @@ pub enum Greeted {
 }
 
 // What comes after the answer to an option.
-#[derive(Clone, Copy, Debug, PartialEq, Eq)]
+#[derive(Clone, Copy)]
 enum Next {
     Option,
     End(Greeted),

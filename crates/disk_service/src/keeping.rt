@@ -13,7 +13,7 @@ use volume::Volume;
 const PAUSE_MILLISECONDS: u64 = 10;
 
 /// What the keeper remembers from one look to the next.
-#[derive(Clone, Copy, Debug, PartialEq, Eq)]
+#[derive(Drop)]
 struct Watch {
     /// It has begun to clean, and goes on until enough segments are free.
     cleans: bool,

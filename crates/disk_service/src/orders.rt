@@ -1,5 +1,6 @@
 //! The queue of what a client asks, between who takes requests and who does them.
-ghost use Rattle.std.specs.Prelude.{◌≡◌, vec_len};
+ghost use Rattle.std.specs.Prelude.{◌≡◌, vec_len, IfErr};
+ghost use Rattle.geometry.specs.declared.error.Error.TheVariants.{NoMemory};
 ghost use Rattle.nbd_words.specs.Fields.{words_of};
 ghost use Rattle.nbd_words.specs.Request.{data_bytes};
 
@@ -43,7 +44,9 @@ pub(crate) struct Orders {
 }
 
 impl Orders {
-    pub fn new(alloc: Global) -> Result<Orders, Error> {
+    pub fn new(alloc: Global) -> Result<Orders, Error>
+        ensures error { IfErr result (λ error. error ≡ NoMemory) }
+    {
         let (sender, receiver) = bounded(alloc, WAITING)?;
         Ok(Orders {
             sender,

@@ -31,7 +31,7 @@ const SEGMENTS_A_RISE: u32 = 64;
 
 /// How many segments have to be free, that cleaning is urgent no more, that it needn't begin, and that it ends. The first is the least and
 /// the last is the largest, so that it does not begin again right after its end.
-#[derive(Clone, Copy, Debug, PartialEq, Eq)]
+#[derive(Clone, Copy)]
 pub(crate) struct Thresholds {
     pub urgent: u32,
     pub low: u32,

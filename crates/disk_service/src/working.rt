@@ -1,7 +1,9 @@
 //! A worker: does requests, and answers them.
-ghost use Rattle.std.specs.Prelude.{◌≡◌, ◌≤◌, ◌<◌, ◌+◌, ◌^◌, length, IfOk};
+ghost use Rattle.std.specs.Prelude.{◌≡◌, ◌≤◌, ◌<◌, ◌+◌, ◌^◌, length, take, vec_len, IfOk};
 ghost use Rattle.geometry.specs.Shape.{block_bytes};
+ghost use Rattle.nbd_words.specs.Request.{reply_bytes};
 
+use crate::answers::read_reply;
 use crate::disk::DiskService;
 use crate::orders::{Errand, Order};
 use crate::reading::read_bytes;
@@ -9,7 +11,7 @@ use crate::writing::{Writing, write_bytes, write_zeros};
 use device::{Block, Meta};
 use flash_volume::Shelf;
 use geometry::Error;
-use nbd_words::{Access, ErrorNumber, REPLY_BYTES, judge, simple_reply};
+use nbd_words::{Access, ErrorNumber, REPLY_BYTES, judge};
 use rights_names::VolumeName;
 use std::io::{Read, Write};
 use std::sync::Wait;
@@ -115,12 +117,11 @@ impl<C: Clock + Drop, I: Read + Drop, O: Write + Drop> DiskService<C, I, O> {
     ) -> Result<Vec<u8>, Error>
         requires block { self.now.layout.block_bytes ≡ block_bytes V.Numbers.geometry.shape }
         requires fits { offset + length < 2 ^ 64 }
+        ensures head { IfOk result (λ reply. take 16 reply.items ≡ reply_bytes 0 cookie) }
+        ensures whole { IfOk result (λ reply. vec_len reply ≡ 16 + length) }
     {
-        let size = REPLY_BYTES + length as usize;
-        let mut reply = vec![in self.alloc; 0u8; size]?;
-        let bytes = reply.as_mut_slice();
-        bytes[..REPLY_BYTES].copy_from_slice(&simple_reply(Ok(()), cookie));
-        let out = &mut bytes[REPLY_BYTES..];
+        let mut reply = read_reply(self.alloc, cookie, length)?;
+        let out = &mut reply.as_mut_slice()[REPLY_BYTES..];
         read_bytes(rt, self.alloc, volume, shelf, &self.layout, offset, out)?;
         Ok(reply)
     }

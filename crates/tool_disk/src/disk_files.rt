@@ -2,13 +2,15 @@
 ghost use Rattle.std.specs.Prelude.{ℕ, IfOk};
 ghost use Rattle.device.specs.Parts.{IsBlockRun};
 
+use crate::disk_parts::PutParts;
 use crate::fault::DiskFault;
 use crate::stripes::{STRIPES, blocks_in, stripe_name, stripes_of};
 use flash_volume::{Block, Leave, Meta, Parts, work_on};
 use std::alloc::{AllocError, Global};
 use std::sync::Wait;
-use tool_files::{FolderRows, NewFile, PutTogether, ReadFolder, work_making_room};
-use tool_folder::row_at;
+use tool_files::{FolderRows, NewFile, ReadFolder, work_making_room};
+use tool_folder::{is_name, row_at};
+use tool_reading::Refusal;
 
 /// The files of a disk by their numbers, in the order in which blocks are dealt to them, and how many blocks the disk has.
 #[derive(Drop)]
@@ -140,6 +142,9 @@ fn make<M: Meta + Drop, B: Block + Drop, R: AllocGlobal + Wait>(
         return Err(DiskFault::OddSize(block_bytes));
     };
     let names = names_of(alloc, disk, stripes_of(blocks))?;
+    if !names.iter().all(|name| is_name(name.as_str())) {
+        return Err(DiskFault::Files(Refusal::BadName));
+    }
     let zeros = zeros_of(alloc, blocks, block_bytes)?;
     let files = files_of(
         alloc,
@@ -206,7 +211,6 @@ fn put_together<M: Meta + Drop, B: Block + Drop, R: AllocGlobal + Wait>(
     requires run { (bytes : ℕ) × IsBlockRun B.address_of B.content_of bytes 1 parts.blocks.items }
     ensures run { IfOk result (λ parts. (bytes : ℕ) × IsBlockRun B.address_of B.content_of bytes 1 parts.blocks.items) }
 {
-    let done = work_making_room(rt, parts, PutTogether { files, now }, bytes, now)?;
-    done.output?;
+    let done = work_making_room(rt, parts, PutParts { files, now }, bytes, now)?;
     Ok(done.parts)
 }

@@ -2,6 +2,7 @@
 #![tactic(auto)]
 
 mod disk_files;
+mod disk_parts;
 mod fault;
 mod serving;
 mod stripes;

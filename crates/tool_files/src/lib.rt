@@ -17,6 +17,5 @@ pub use making_room::work_making_room;
 pub use room::{MakeRoom, Taken, has_room, kept_for_folder};
 pub use tidy::{Clean, Tidied};
 pub use work::{
-    Append, DeleteFile, FolderRows, MakeFolder, NewFile, Put, PutAll, PutTogether, ReadFolder,
-    Remove, Rename,
+    Append, DeleteFile, FolderRows, MakeFolder, NewFile, Put, PutAll, ReadFolder, Remove, Rename,
 };

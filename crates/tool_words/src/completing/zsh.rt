@@ -38,8 +38,7 @@ fn write_first_words<O: Write>(
     out: &mut O,
 ) -> Result<(), Fault> {
     writeln!(out, "    _arguments -C \\")?;
-    write_options(alloc, program.get_arguments(), out)?;
-    writeln!(out, "            '--help[{HELP}]' \\")?;
+    write_general_options(alloc, program, out)?;
     writeln!(out, "            '--version[{VERSION}]' \\")?;
     writeln!(
         out,
@@ -65,8 +64,7 @@ fn write_arguments<O: Write>(
     writeln!(out, "    case ${{words[1]}} in")?;
     for command in program.get_subcommands() {
         writeln!(out, "        {}) _arguments \\", command.get_name())?;
-        writeln!(out, "            '--help[{HELP}]' \\")?;
-        write_options(alloc, program.get_arguments(), out)?;
+        write_general_options(alloc, program, out)?;
         write_options(alloc, command.get_arguments(), out)?;
         write_words(command, out)?;
     }
@@ -86,6 +84,17 @@ fn write_words<O: Write>(command: &Command<'_>, out: &mut O) -> Result<(), Fault
         Some(_) => writeln!(out, "            '*:file:_files' ;;")?,
         None => writeln!(out, "            ;;")?,
     }
+    Ok(())
+}
+
+// Writes the options that stand in front of a command and behind it.
+fn write_general_options<O: Write>(
+    alloc: Global,
+    program: &Command<'_>,
+    out: &mut O,
+) -> Result<(), Fault> {
+    write_options(alloc, program.get_arguments(), out)?;
+    writeln!(out, "            '--help[{HELP}]' \\")?;
     Ok(())
 }
 

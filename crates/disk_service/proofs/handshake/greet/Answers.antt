@@ -1,5 +1,5 @@
 -- What was read before this option, and then its head and its data.
-use Rattle.std.proofs.Common.{◌≡◌, ◌∙◌, ◌++◌, ℕ, List, Option, ap, refl}
+use Rattle.std.proofs.Common.{◌∙◌, ◌++◌, ℕ, List, Option, ap, refl}
 use Rattle.std.specs.Io.KnownBytes.{Consumes}
 use Rattle.nbd_words.specs.Options.{head_bytes, head_of}
 use Rattle.disk_service.specs.declared.handshake.Next.TheVariants.{End}
