@@ -12,6 +12,7 @@ use std::io::Write;
 use std::process::ExitCode;
 use std::rt::Runtime;
 use std::sync::Wait;
+use std::thread::Threads;
 use tool_words::{Fault, words_of_call};
 use transcript::play_steps;
 
@@ -26,7 +27,7 @@ fn main(rt: HostRuntime) -> ExitCode {
 }
 
 // Does what the word says, and answers the exit status.
-fn run<R: Runtime + AllocGlobal + Wait + Files<File = File>, O: Write>(
+fn run<R: Runtime + AllocGlobal + Wait + Threads + Sync + Files<File = File>, O: Write>(
     rt: &R,
     out: &mut O,
 ) -> Result<u8, Fault> {

@@ -10,6 +10,7 @@ use std::io::Write;
 use std::os::unix::fs::{FileExt, PermissionsExt, symlink};
 use std::rt::Runtime;
 use std::sync::Wait;
+use std::thread::Threads;
 use std::{fs, io};
 use tool_files::DeleteFile;
 use tool_words::{Screen, run_words};
@@ -38,7 +39,7 @@ impl Stage {
     /// `hide FOLDER` lets nobody read a folder and `show FOLDER` everybody; `files FOLDER N` makes a folder of so many files, and `folder
     /// PATH` and `link PATH TO` make these;
     /// `halve IMAGE NAME` leaves a removal of the name half done; `rusziveg ..` are the tool's words.
-    pub fn step<R: Runtime + AllocGlobal + Wait + Files<File = File>, O: Write>(
+    pub fn step<R: Runtime + AllocGlobal + Wait + Threads + Sync + Files<File = File>, O: Write>(
         &mut self,
         rt: &R,
         line: &str,
@@ -72,7 +73,7 @@ impl Stage {
     }
 
     // Runs the tool's words, and prints what they said.
-    fn obey<R: Runtime + AllocGlobal + Wait + Files<File = File>, O: Write>(
+    fn obey<R: Runtime + AllocGlobal + Wait + Threads + Sync + Files<File = File>, O: Write>(
         &mut self,
         rt: &R,
         words: &[String],
