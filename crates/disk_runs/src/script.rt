@@ -3,6 +3,8 @@
 //! `volume SEGMENTS TITLE` begins a case. `client NAME` begins a client, with the words `size=BYTES`, `read-only` and `failing=N` behind
 //! it. Each other line has what the client sends: bytes in hexadecimal, `XX*N` for N bytes of one value, and `'text` for a word as it
 //! stands. What comes behind `#` is a remark.
+ghost use Rattle.std.specs.Prelude.{◌<◌, IfSome};
+
 use crate::client::{Case, Client};
 use program_trials::Fault;
 use std::alloc::Global;
@@ -116,7 +118,9 @@ fn push_hexadecimal(bytes: &mut Vec<u8>, word: &str) -> Result<bool, Fault> {
 }
 
 // The value of a digit in hexadecimal.
-fn value_of(digit: u8) -> Option<u8> {
+fn value_of(digit: u8) -> Option<u8>
+    ensures { IfSome result (λ value. value < 16) }
+{
     if digit.is_ascii_digit() {
         Some(digit - b'0')
     } else if b'a' <= digit && digit <= b'f' {
