@@ -6,7 +6,7 @@ use Rattle.std.proofs.lemmas.Nat.{div-mul-add, mod-mul-add, div-add-mod'}
 use Rattle.std.proofs.lemmas.Bool.{cases_eq, cases_lt}
 use Rattle.tree.specs.declared.spare.Spare.{Spare}
 use Rattle.tree.specs.declared.spare.Spare.TheVariants.{Ticket, Token}
-use Rattle.tree.specs.Tree.{Same, SetsAt, SwapsOne, HandsOut, AreNone, UsefulIn, entry_at}
+use Rattle.tree.specs.Tree.{Same, SetsAt, SwapsOne, HandsOut, HandsOutAt, AreNone, UsefulIn, entry_at}
 
 -- the entries but one stay
 pub others_stay : {C : Type 0} (xs ys : List (Option C)) (at j : ℕ) (y : Option C) → ys ≡ set xs at y → j ≢ at → entry_at ys j ≡ entry_at xs j
@@ -44,6 +44,14 @@ module _ {C L : Type 0} (find : Option C → ℕ → Option L) (span : ℕ) (xs 
               | inr off ↦ ap (λ x. find x (j % span)) (others_stay xs ys at (j / span) (entry_at ys at) set_at off)
             ],
       )
+
+  pub erases_below : (i : ℕ) (spare : Spare L) → i < span → HandsOutAt (find (entry_at xs at)) (find (entry_at ys at)) i spare
+      → HandsOutAt (λ j. find (entry_at xs (j / span)) (j % span)) (λ j. find (entry_at ys (j / span)) (j % span)) (at * span + i) spare
+  erases_below i (Token t) lt same = same_below same
+  erases_below i (Ticket t) lt h =
+      let d : (at * span + i) / span ≡ at = div-mul-add at span i lt in
+      let m : (at * span + i) % span ≡ i = mod-mul-add at span i lt in
+      (rw (d, m) h.0, sets_below i None lt h.1)
 
   module _ (bound : (i : ℕ) → span ≤ i → find (entry_at xs at) i ≡ None) where
     inside : (t : L) (i : ℕ) → find (entry_at xs at) i ≡ Some t → i < span

@@ -21,6 +21,11 @@ abbrev pub HandsOut : {L : Type 0} → (ℕ → Option L) → (ℕ → Option L)
 HandsOut old new from (Ticket t) = (i : ℕ) × (from ≤ i) × (old i ≡ Some t) × SetsAt old new i None
 HandsOut old new from (Token k) = Same old new
 
+-- the same of one index
+abbrev pub HandsOutAt : {L : Type 0} → (ℕ → Option L) → (ℕ → Option L) → ℕ → Spare L → Type 0
+HandsOutAt old new i (Ticket t) = (old i ≡ Some t) × SetsAt old new i None
+HandsOutAt old new i (Token k) = Same old new
+
 -- one ticket went from an index, and another came there
 abbrev pub SwapsOne : {L : Type 0} → (ℕ → Option L) → (ℕ → Option L) → L → L → Type 0
 SwapsOne old new before after = (i : ℕ) × (old i ≡ Some before) × SetsAt old new i (Some after)
@@ -97,6 +102,10 @@ SparesPast asked i = (first end : ℕ) → i < end → asked first end ≡ false
 -- and, of the nodes from `start` on, about those alone
 abbrev pub AsksPast : (ℕ → ℕ → Bool) → ℕ → ℕ → Type 0
 AsksPast asked start i = (first end : ℕ) → start ≤ first → first < end → asked first end ≡ true → i < end
+
+-- of the nodes from `start` on, it asks about those alone that hold an index
+abbrev pub AsksHolding : (ℕ → ℕ → Bool) → ℕ → ℕ → Type 0
+AsksHolding asked start i = (first end : ℕ) → start ≤ first → first < end → asked first end ≡ true → (first ≤ i) × (i < end)
 
 -- of the nodes between two indexes, each that one test asks about one of two others asks about
 abbrev pub AsksEither : ℕ → ℕ → (ℕ → ℕ → Bool) → (ℕ → ℕ → Bool) → (ℕ → ℕ → Bool) → Type 0

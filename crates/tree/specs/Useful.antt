@@ -5,7 +5,7 @@ use Rattle.std.proofs.lemmas.Nat.{div-mul-add, div-add-mod'}
 use Rattle.std.proofs.lemmas.Bool.{cases_eq, cases_lt}
 use Rattle.std.proofs.Math.Nat.{mul-le-mul_left}
 use Rattle.tree.specs.Laws.{no_leaf, times_positive}
-use Rattle.tree.specs.Tree.{UsefulIn, UsefulBelow, ShapedIn, ShapedBelow, AsksEither, find_in, find_below, entry_at}
+use Rattle.tree.specs.Tree.{UsefulIn, UsefulBelow, ShapedIn, ShapedBelow, AsksEither, AsksHolding, find_in, find_below, entry_at}
 
 -- the indexes of an entry lie within those of its node
 pub within : (k e span : ℕ) → k < e → k * span + span ≤ e * span
@@ -39,6 +39,34 @@ module _ {C : Type 0} (Useful : (ℕ → ℕ → Bool) → ℕ → Option C → 
     unasked asked first s w elsewhere_all =
         either asked (λ _ _. false) (λ _ _. false) first s w (λ start end from some to a. absurd (elsewhere_all start end from some to a)) (never first s) (never first s)
 
+    -- a test that asks about no node but on the way to an index: what holds below the one entry there holds of all
+    pub way_in : (e : ℕ) (asked : ℕ → ℕ → Bool) (first i : ℕ) (xs : List (Option C)) → ShapedIn Shaped e xs
+        → AsksHolding asked first (first + i) → Useful asked (first + i / span * span) (entry_at xs (i / span)) → UsefulIn Useful span asked first xs
+    way_in e asked first i xs w test there =
+        entries_below e xs w asked first (λ k lt. elim (cases_eq k (i / span)) [
+          | inl same ↦ rw same there
+          | inr ne ↦
+              unasked asked (first + k * span) (entry_at xs k) (w.1 k)
+              (λ start end from some to a. let h = test start end (omega arith) some a in elsewhere k i span ne (omega arith) (omega arith))
+        ])
+
+    -- the same of a range of entries, where the index may lie before it or past it
+    pub way_from : (e : ℕ) (asked : ℕ → ℕ → Bool) (first i : ℕ) (xs : List (Option C)) → ShapedIn Shaped e xs
+        → (first ≤ i → i < first + e * span → UsefulIn Useful span asked first xs)
+        → ((start end : ℕ) → asked start end ≡ true → (start ≤ i) × (i < end)) → UsefulIn Useful span asked first xs
+    way_from e asked first i xs w inside holds =
+        let none_here : ((k start end : ℕ) → k < e → first + k * span ≤ start → end ≤ first + k * span + span → start ≤ i → i < end → ⊥) → UsefulIn Useful span asked first xs =
+        λ no. entries_below e xs w asked first (λ k lt.
+        unasked asked (first + k * span) (entry_at xs k) (w.1 k)
+        (λ start end from some to a. let h = holds start end a in no k start end lt from to h.0 h.1)) in
+        elim (cases_lt i first) [
+          | inl before ↦ none_here (λ k start end lt from to at below. omega arith)
+          | inr from ↦ elim (cases_lt i (first + e * span)) [
+            | inl to ↦ inside from to
+            | inr past ↦ none_here (λ k start end lt from to at below. let far = within k e span lt in omega arith)
+          ]
+        ]
+
     module _ {L : Type 0} (find : Option C → ℕ → Option L)
         (found : (asked : ℕ → ℕ → Bool) (first i : ℕ) (s : Option C) (t : L) → Shaped s → find s i ≡ Some t
         → ((start end : ℕ) → asked start end ≡ true → (start ≤ first + i) × (first + i < end)) → Useful asked first s) where
@@ -61,17 +89,8 @@ module _ {C : Type 0} (Useful : (ℕ → ℕ → Bool) → ℕ → Option C → 
           → (first ≤ i → i < first + e * span → find_in find span xs (i - first) ≡ Some t)
           → ((start end : ℕ) → asked start end ≡ true → (start ≤ i) × (i < end)) → UsefulIn Useful span asked first xs
       found_from e asked first i xs t w inside holds =
-          let none_here : ((k start end : ℕ) → k < e → first + k * span ≤ start → end ≤ first + k * span + span → start ≤ i → i < end → ⊥) → UsefulIn Useful span asked first xs =
-          λ no. entries_below e xs w asked first (λ k lt.
-          unasked asked (first + k * span) (entry_at xs k) (w.1 k)
-          (λ start end from some to a. let h = holds start end a in no k start end lt from to h.0 h.1)) in
-          elim (cases_lt i first) [
-            | inl before ↦ none_here (λ k start end lt from to at below. omega arith)
-            | inr from ↦ elim (cases_lt i (first + e * span)) [
-              | inl to ↦ found_in e asked first (i - first) xs t w (inside from to) (λ start end a. let h = holds start end a in (omega arith, omega arith))
-              | inr past ↦ none_here (λ k start end lt from to at below. let far = within k e span lt in omega arith)
-            ]
-          ]
+          way_from e asked first i xs w
+          (λ from to. found_in e asked first (i - first) xs t w (inside from to) (λ start end a. let h = holds start end a in (omega arith, omega arith))) holds
 
 module _ {B C : Type 0} (slots : B → List (Option C)) (Useful : (ℕ → ℕ → Bool) → ℕ → Option C → Type 0) (span : ℕ) where
   pub never_below : ((first : ℕ) (s : Option C) → Useful (λ _ _. false) first s)

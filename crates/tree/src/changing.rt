@@ -1,6 +1,6 @@
 //! What comes and goes below one entry.
 ghost use Rattle.std.specs.Prelude.{◌≡◌, ℕ, ◌+◌, ◌^◌, ◌<◌, Bool, false, Some, None, is_none, OnOk, OnErr, IfOk, IfErr, MatchOption};
-ghost use Rattle.tree.specs.Tree.{SetsAt, Same, KeepsNamers, EmptyFrom, HandsOut, SwapsOne, SparesIndex, SparesPast, AsksPast};
+ghost use Rattle.tree.specs.Tree.{SetsAt, Same, KeepsNamers, EmptyFrom, HandsOut, HandsOutAt, SwapsOne, SparesIndex, SparesPast, AsksPast, AsksHolding};
 ghost use Rattle.tree.specs.Change.{Weighing, ticket_weight, ChangesSlot, WeighsAs, nothing, each_naming};
 
 use crate::entries::Pruned;
@@ -42,6 +42,21 @@ pub trait Changing: Subtree {
         ensures none { MatchOption result
             ((slot.new ≡ slot.old) × EmptyFrom (Self.find entries slot.old) from × (from ≡ 0 → slot.old ≡ None)) (λ _. Unit {0}) }
         ensures out { MatchOption result (Unit {0}) (λ spare. HandsOut (Self.find entries slot.old) (Self.find entries slot.new) from spare) }
+        ensures change { MatchOption result (Unit {0})
+            (λ spare. (out : Weighing Self.Leaf → ℕ) × WeighsAs spare out × ChangesSlot Self.number Self.weight (is_none slot.new) slot.old slot.new out nothing) };
+
+    /// Hands out the ticket at the index, or else the token of a node on the way to it that names nothing.
+    fn erase(slot: &mut Option<Self>, entries: usize, index: usize) -> Option<Spare<Self::Leaf>>
+        requires some { 0 < entries }
+        requires fits { Self.span_of entries < 2 ^ 64 }
+        requires inside { index < Self.span_of entries }
+        requires shaped { Self.shaped entries slot.old }
+        ensures shaped { Self.shaped entries slot.new }
+        ensures namer { KeepsNamers (Self.find entries slot.new) (Self.namer entries slot.old) (Self.namer entries slot.new) }
+        ensures useful { (asked : ℕ → ℕ → Bool) (first : ℕ) → SparesIndex asked (first + index) → Self.useful entries asked first slot.old → Self.useful entries asked first slot.new }
+        ensures way { MatchOption result ((asked : ℕ → ℕ → Bool) (first : ℕ) → AsksHolding asked first (first + index) → Self.useful entries asked first slot.new) (λ _. Unit {0}) }
+        ensures none { MatchOption result ((slot.new ≡ slot.old) × (Self.find entries slot.old index ≡ None)) (λ _. Unit {0}) }
+        ensures out { MatchOption result (Unit {0}) (λ spare. HandsOutAt (Self.find entries slot.old) (Self.find entries slot.new) index spare) }
         ensures change { MatchOption result (Unit {0})
             (λ spare. (out : Weighing Self.Leaf → ℕ) × WeighsAs spare out × ChangesSlot Self.number Self.weight (is_none slot.new) slot.old slot.new out nothing) };
 
@@ -95,6 +110,17 @@ impl<B: Block> Changing for Ticket<B> {
         }
     }
 
+    fn erase(
+        slot: &mut Option<Ticket<B>>,
+        _entries: usize,
+        _index: usize,
+    ) -> Option<Spare<Ticket<B>>> {
+        match slot.take() {
+            Some(ticket) => Some(Spare::Ticket(ticket)),
+            None => None,
+        }
+    }
+
     fn migrate(
         _slot: &mut Option<Ticket<B>>,
         _entries: usize,
@@ -132,6 +158,25 @@ impl<C: Changing> Changing for Branch<C> {
                 Some(branch) => Some(Spare::Token(branch.into_token())),
                 None => unreachable!(),
             },
+        }
+    }
+
+    fn erase(slot: &mut Option<Branch<C>>, entries: usize, index: usize) -> Option<Spare<C::Leaf>> {
+        let names_nothing = match slot {
+            Some(branch) => {
+                if let Some(spare) = branch.entries.erase(entries, entries, index) {
+                    return Some(spare);
+                }
+                branch.entries.name_nothing()
+            }
+            None => return None,
+        };
+        if !names_nothing {
+            return None;
+        }
+        match slot.take() {
+            Some(branch) => Some(Spare::Token(branch.into_token())),
+            None => unreachable!(),
         }
     }
 

@@ -11,6 +11,7 @@ use std::alloc::{AllocError, Global};
 
 mod change;
 mod cut;
+mod erase;
 mod migrate;
 
 /// The entries of a node, each of which names a ticket, a node or nothing, and whether one was changed since they were
@@ -44,6 +45,13 @@ impl<C> Entries<C> {
     {
         let Entries { slots, dirty: _ } = self;
         slots.destroy();
+    }
+
+    /// Whether no entry names anything.
+    pub fn name_nothing(&self) -> bool
+        ensures { IsTrue result ↔ AreNone self.now.slots.items }
+    {
+        names_nothing(&self.slots)
     }
 
     // Marks the entries, where one of them was changed.
