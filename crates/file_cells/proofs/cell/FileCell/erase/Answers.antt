@@ -1,0 +1,10 @@
+use Rattle.file_calls.specs.Erased.{erased}
+use Rattle.file_cells.proofs.Lodging.{cell_shows, pass_changed}
+use Rattle.file_cells.proofs.cell.FileCell.erase.Goals as goal
+
+pub returns-clause-file : goal.returns-clause-file
+returns-clause-file g c =
+    let p = c.pass.inside in
+    let shows = cell_shows g.V.Books.BooksName.books.book g.V.Numbers.GeometryName.geometry c.self.inside.number c.self.inside.account _ c.in-Some.file c.self.invariant c.in-Some.is p.account.content c.compare.ensures.same in
+    pass_changed g.V.Books.BooksName.books.book g.V.Numbers.GeometryName.geometry.files p.number p.account c.note_file.new.pass c.erase_lodged.new.file c.note_file.ensures.pass c.args.pass.now c.in-Some.file c.pass.view_is shows
+    (λ x. erased x c.args.from c.args.to) c.erase_lodged.ensures.file
