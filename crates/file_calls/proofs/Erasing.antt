@@ -4,7 +4,7 @@ use borrow.Author.Tests.{lt-ltb, le-ltb}
 use Rattle.std.proofs.lemmas.Bool.{cases_lt}
 use Rattle.std.specs.FinMap.{get, get-retain_keys, nat_cmp-IsAntisymmetric}
 use Rattle.nodes.specs.declared.file.FileState.{FileState}
-use Rattle.nodes.specs.File.{IsFile, Shows, ticket_at, content_of, file_of}
+use Rattle.nodes.specs.File.{IsFile, ticket_at, content_of, file_of}
 use Rattle.nodes.proofs.Files.{shows_file_of, only_file}
 use Rattle.file_calls.specs.Erased.{erased}
 

@@ -1,9 +1,8 @@
 -- Each turn takes a ticket or a token off the way to the index, and gives it back: file and hand lose the same, as where a file is cut
 -- there; once nothing is left to take, the index is a hole.
-use Rattle.std.proofs.Common.{◌≡◌, ◌≢◌, ℕ, ◌≤◌, Option, Some, None, refl, rules, ap, sym, ◌∙◌, inl, inr, arith}
-use Rattle.std.proofs.lemmas.Bool.{cases_eq}
+use Rattle.std.proofs.Common.{ℕ, ◌≤◌, Option, refl, rules, ap, sym, ◌∙◌, arith}
 use Rattle.geometry.specs.Shape.{block_bytes}
-use Rattle.tree.specs.declared.spare.Spare.TheVariants.{Ticket, Token}
+use Rattle.tree.specs.declared.spare.Spare.TheVariants.{Ticket}
 use Rattle.tree.specs.Tree.{HandsOut, HandsOutAt}
 use Rattle.nodes.specs.File.{ticket_at}
 use Rattle.nodes_law.specs.Law.{ragged}

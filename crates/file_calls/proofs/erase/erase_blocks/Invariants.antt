@@ -13,6 +13,6 @@ invariant-loop-index g l = record {
   others : (j : ℕ) → (l.from ≤ j → j < l.index → ⊥) → ticket_at l.file j ≡ ticket_at l.initial.file j;
   length : l.file.length ≡ l.initial.file.length;
   kind : l.file.kind ≡ l.initial.file.kind;
-  useful : IsUseful each_node l.initial.file → IsUseful each_node l.file;
   reached : l.index ≤ max l.from l.end;
+  useful : IsUseful each_node l.initial.file → IsUseful each_node l.file;
 }
