@@ -1,6 +1,6 @@
 -- Taking all that is lodged into an empty hand and lodging it again loses nothing: so what a call makes of the hand is
 -- what the account has after it, and the hand is empty again.
-use Rattle.std.proofs.Common.{◌≡◌, ◌<◌, ℕ, true, Option, Some, None, List, [], ◌∷◌, ◌++◌, refl, sym, ap, subst, ◌∙◌, arith}
+use Rattle.std.proofs.Common.{◌≡◌, ◌<◌, ◌≤◌, ℕ, length, true, Option, Some, None, List, [], ◌∷◌, ◌++◌, refl, sym, ap, subst, ◌∙◌, arith}
 use Rattle.std.specs.Prelude.{is_some, MatchOption, unwrap_or, replicate}
 use Rattle.tickets.specs.Placed.{Placed}
 use Rattle.nodes.proofs.Files.{shows_file_of}
@@ -8,7 +8,8 @@ use Rattle.atomic_table.specs.Seated.{TableId}
 use Rattle.geometry.specs.Weights.{weigh}
 use Rattle.geometry.specs.declared.geometry.Geometry.{Geometry}
 use Rattle.geometry.specs.declared.kind.Kind.{Kind}
-use Rattle.geometry.specs.File.{File, bytes_at, new_file}
+use Rattle.geometry.specs.File.{File, Block, bytes_at, new_file}
+use Rattle.geometry.specs.Shape.{block_bytes}
 use Rattle.rights_books.specs.Accounts.{FileView, HandView, PassView}
 use Rattle.rights_books.specs.declared.claim.Content.{Content}
 use Rattle.rights_books.specs.declared.claim.Entry.{Entry}
@@ -21,10 +22,10 @@ use Rattle.nodes.specs.File.{IsFile, IsBare, inode_of, ticket_at, blocks_below, 
 use Rattle.nodes.specs.Held.{AreHeld, no_others}
 use Rattle.nodes_law.specs.Law.{FileStateLaw}
 use Rattle.nodes_law.proofs.Lasting.{law_new}
-use Rattle.file_calls.specs.Contents.{InHand, Serves}
+use Rattle.file_calls.specs.Contents.{InHand, Serves, AreWhole as Whole}
 use Rattle.file_calls.proofs.Born.{stored_new, in_hand_new}
 use Rattle.file_cells.specs.Cell.{IsLodged, IsCell, CellView}
-use Rattle.file_cells.specs.Pass.{Pass, IsPassOf}
+use Rattle.file_cells.specs.Pass.{Pass, IsPassOf, AreWhole, AreWithin}
 
 pub same_number : {B L : Type 0} {x y : CellView B L} → x ≡ y → x.number ≡ y.number
 same_number {B} {L} is = ap (λ (c : CellView B L). c.number) is
@@ -137,16 +138,47 @@ module _ {B L : Type 0} (book : TableId) (geometry : Geometry) (number : ℕ) (a
 pub no_cell : {B L : Type 0} (book : TableId) (geometry : Geometry) (number : ℕ) (a : FileView) → IsCell {B = B} {L = L} book geometry number a None → (c : Content) → a.content ≡ Some c → ⊥
 no_cell book geometry number a was c same = no_pass a.content c was.keeps.2 same
 
-module _ {B L : Type 0} (book : TableId) (files number : ℕ) (p p3 : PassView) (g : FileState B L) (note : p3 ≡ record p { content = as_content (file_of g) }) where
-  pub pass_noted : (length : ℕ) → IsPassOf book files number length p → IsPassOf book files number g.length p3
-  pass_noted length was = subst (IsPassOf book files number g.length) (sym note) (record {
-    book_is = was.book_is;
-    inode_is = was.inode_is;
-    some = was.some;
-    within = was.within;
-    length_is = refl;
-  })
+-- ---- the blocks that a pass shows
 
+-- what a file holds at each index has a block's bytes
+whole_content : (o : Option Placed) (block : Block) (bytes : ℕ) → ((t : Placed) → o ≡ Some t → length t.content ≡ bytes) → content_of o ≡ Some block → length block ≡ bytes
+whole_content None block bytes all is = let no = ap (λ (x : Option Block). is_some x) is in cc
+whole_content (Some t) block bytes all is = ap (λ (x : Option Block). length (unwrap_or x [])) (sym is) ∙ all t refl
+
+module _ {B L : Type 0} (geometry : Geometry) (g : FileState B L) (is : IsFile g) where
+  pub shown_whole : g.shape ≡ geometry.shape → Whole (block_bytes g.shape) (ticket_at g) → AreWhole (block_bytes geometry.shape) (as_file (as_content (file_of g)))
+  shown_whole same whole =
+      subst (AreWhole (block_bytes geometry.shape)) (sym (as_file_again (file_of g)))
+      (λ i block at. whole_content (ticket_at g i) block (block_bytes g.shape) (whole i) (sym ((shows_file_of g is).blocks i) ∙ at) ∙ ap block_bytes same)
+
+  pub shown_inside : AreWithin (as_file (as_content (file_of g)))
+  shown_inside = subst AreWithin (sym (as_file_again (file_of g))) (λ i past. (shows_file_of g is).blocks i ∙ ap content_of (is.within i past))
+
+  -- a file without blocks has none that is not whole
+  pub none_whole : g.length ≡ 0 → Whole (block_bytes g.shape) (ticket_at g)
+  none_whole none i t at = absurd (let nothing = is.within i (omega (arith, none)) in let there : ticket_at g i ≡ Some t = at in cc)
+
+module _ {B L : Type 0} (book : TableId) (geometry : Geometry) (number : ℕ) (p3 : PassView) (g : FileState B L) where
+  -- a pass that shows the file
+  pub pass_of : (blocks : ℕ) → blocks ≡ g.length → p3.book ≡ book → p3.inode ≡ number → 0 < number → number ≤ geometry.files → p3.content ≡ as_content (file_of g)
+      → g.shape ≡ geometry.shape → IsFile g → Whole (block_bytes g.shape) (ticket_at g) → IsPassOf book geometry number blocks p3
+  pass_of blocks long book_is inode_is some within shows same is whole = record {
+    book_is = book_is;
+    inode_is = inode_is;
+    some = some;
+    within = within;
+    length_is = ap (λ (c : Content). c.length) shows ∙ sym long;
+    whole = subst (λ c. AreWhole (block_bytes geometry.shape) (as_file c)) (sym shows) (shown_whole geometry g is same whole);
+    inside = subst (λ c. AreWithin (as_file c)) (sym shows) (shown_inside geometry g is);
+  }
+
+  pub pass_noted : (p : PassView) (a : FileView) (before blocks : ℕ) → p3 ≡ record p { content = as_content (file_of g) } → IsLodged geometry a g → blocks ≡ g.length
+      → IsPassOf book geometry number before p → IsPassOf book geometry number blocks p3
+  pass_noted p a before blocks note lodged long was =
+      pass_of blocks long (ap (λ (x : PassView). x.book) note ∙ was.book_is) (ap (λ (x : PassView). x.inode) note ∙ was.inode_is) was.some was.within
+      (ap (λ (x : PassView). x.content) note) lodged.shape_is lodged.stored.file lodged.stored.whole
+
+module _ {B L : Type 0} (number : ℕ) (p p3 : PassView) (g : FileState B L) (note : p3 ≡ record p { content = as_content (file_of g) }) where
   pub pass_changed : (old : Pass) (f : FileState B L) → record { number = number; file = as_file p.content } ≡ old → as_file p.content ≡ file_of f
       → (change : File → File) → file_of g ≡ change (file_of f) → ◌≡◌ {A = Pass} (record { number = number; file = as_file p3.content }) (record old { file = change old.file })
   pass_changed old f seen shows change is =

@@ -1,11 +1,11 @@
-use Rattle.std.proofs.Common.{◌≡◌, ◌<◌, sym, ap, subst, ◌∙◌}
+use Rattle.std.proofs.Common.{◌≡◌, ◌<◌, ◌≤◌, sym, ap, subst, ◌∙◌}
 use Rattle.geometry.specs.declared.geometry.Geometry.{Geometry}
 use Rattle.geometry.specs.File.{new_file}
-use Rattle.rights_books.specs.Accounts.{PassView}
+use Rattle.rights_books.specs.Accounts.{FileView, PassView}
 use Rattle.rights_books.specs.Rules.{bare_entry}
 use Rattle.file_cells.specs.Cell.{IsCell}
 use Rattle.file_cells.specs.Pass.{Pass}
-use Rattle.file_cells.proofs.Lodging.{same_number, cell_born, fresh_pass}
+use Rattle.file_cells.proofs.Lodging.{same_number, cell_born, fresh_pass, none_whole, pass_of}
 use Rattle.file_cells.proofs.cell.FileCell.begin.Goals as goal
 
 pub invariant_of-self : goal.invariant_of-self
@@ -32,3 +32,19 @@ returns-in-None-replace-clause-pass g c =
     ∙ (fresh_pass f c.args.kind c.issue_file-account.result v.number (ap (λ (x : PassView). x.content) c.issue_file-account.ensures.pass)
     c.in-Ok.ensures.kind c.in-Ok.ensures.length
     ∙ ap (λ n. let p : Pass = record { number = n; file = new_file c.args.kind } in p) numbered)
+
+pub of-pass-requires : goal.of-pass-requires
+of-pass-requires g c =
+    let book = g.V.Books.BooksName.books.book in
+    let geometry = g.V.Numbers.GeometryName.geometry in
+    let v = c.self.inside in
+    let f = c.in-Ok.file in
+    let new = c.in-Ok.ensures in
+    let numbered : v.number ≡ c.args.self.now.number = same_number c.self.view_is in
+    let is = c.issue_file-account.ensures.pass in
+    let full = c.lodge_all.ensures.file in
+    pass_of book geometry v.number c.issue_file-account.result f 0 (sym new.length)
+    (ap (λ (x : PassView). x.book) is ∙ ap (λ (x : FileView). x.book) full ∙ c.self.invariant.book_is)
+    (ap (λ (x : PassView). x.inode) is ∙ ap (λ (x : FileView). x.inode) full ∙ c.self.invariant.inode_is)
+    (subst (λ n. 0 < n) (sym numbered) c.requires.some) (subst (λ n. n ≤ geometry.files) (sym numbered) c.requires.within)
+    (ap (λ (x : PassView). x.content) is) (new.shape ∙ ap (λ (x : Geometry). x.shape) c.geometry.ensures) new.file (none_whole geometry f new.file new.length)
