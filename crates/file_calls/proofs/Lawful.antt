@@ -8,8 +8,8 @@ use Rattle.nodes.specs.declared.file.FileState.{FileState}
 use Rattle.nodes.specs.declared.spare.SparePath.{SparePath}
 use Rattle.nodes.specs.Marks.{MarksNode, lengthened, unchanged}
 use Rattle.nodes.specs.Lacking.{spare_tokens}
-use Rattle.nodes_law.specs.Law.{HaveOwnTokens}
-use Rattle.nodes_law.proofs.Lasting.{law_plant, own_planted, law_put}
+use Rattle.nodes_law.specs.Law.{FileStateLaw, HaveOwnTokens}
+use Rattle.nodes_law.proofs.Lasting.{law_plant, own_planted}
 use Rattle.file_calls.specs.Beside.{HasLawBeside}
 
 module _ {B L : Type 0} (files : ℕ) (old new : FileState B L) (s t : SparePath B L) (was : HasLawBeside files old s) (shape : new.shape ≡ old.shape) where
@@ -26,11 +26,11 @@ module _ {B L : Type 0} (files : ℕ) (old new : FileState B L) (s t : SparePath
     own = own_of change.token (own_planted files old.shape old.token.number s t was.own n tokens);
   }
 
--- a ticket comes, and one may go
-pub lawful_put : {B L : Type 0} (files : ℕ) (old new : FileState B L) (s : SparePath B L) → HasLawBeside files old s → new.shape ≡ old.shape
-    → (index : ℕ) (before : Option Placed) (t : Placed) → MarksNode (lengthened index) old new (λ w. ticket_weight w before) (λ w. w.ticket t) → 0 < t.mark.address
-    → HasLawBeside files new s
-lawful_put files old new s was shape index before t change some = record {
-  law = law_put files old new was.law shape index before t change some;
-  own = own_of files old new s s was shape change.token was.own;
-}
+  -- a call that does nothing to the spare nodes
+  pub lawful_served : FileStateLaw files new → new.token.number ≡ old.token.number → HasLawBeside files new s
+  lawful_served law number = record {
+    law = law;
+    own =
+        subst (λ (h : Shape). HaveOwnTokens files h new.token.number s) (sym shape)
+        (subst (λ (n : ℕ). HaveOwnTokens files old.shape n s) (sym number) was.own);
+  }
