@@ -7,16 +7,12 @@ use crate::layout::{Stripe, first_index};
 use crate::writing::{Writing, write_zeros};
 use device::{Block, Meta};
 use file_cells::FilePass;
-use flash_volume::Shelf;
+use flash_volume::{Shelf, erase_in_room};
 use geometry::Error;
 use rights_names::VolumeName;
 use std::alloc::Global;
 use std::sync::Wait;
 use volume::Volume;
-
-// The nodes that may keep some of their blocks where a run of them is given back: the inode, and at either end a direct node and two on the
-// way to it.
-const MARKED: u32 = 7;
 
 /// Gives back each block of a disk that lies whole in an access: it reads as zeros then. What of the access lies in other blocks stays as
 /// it is.
@@ -96,7 +92,7 @@ fn whole_blocks(offset: u64, length: u32, block_bytes: u32) -> Whole
     }
 }
 
-// Gives back blocks of one file. Where the nodes that keep some of their blocks might find no places, a checkpoint is written before.
+// Gives back blocks of one file, beside others who write.
 fn erase_stripe<V: VolumeName, M: Meta, B: Block + Drop, R: Wait>(
     rt: &R,
     volume: &Volume<V, M, B>,
@@ -105,10 +101,6 @@ fn erase_stripe<V: VolumeName, M: Meta, B: Block + Drop, R: Wait>(
     run: Stripe,
 ) -> Result<(), Error> {
     let _beside = writing.cleaner.beside_others(rt);
-    let room = volume.checkpoint_room();
-    if room.marked.saturating_add(MARKED) > room.places {
-        let _stored = volume.sync(rt, &[])?;
-    }
     let Some(mut guard) = shelf.write(rt, run.number) else {
         return Err(Error::NoFile);
     };
@@ -132,5 +124,5 @@ fn erase_run<V: VolumeName, M: Meta, B: Block + Drop, R: Wait>(
 {
     let from = u32::try_from(run.from).unwrap_or(u32::MAX);
     let to = u32::try_from(run.to).unwrap_or(u32::MAX);
-    volume.erase(rt, pass, from, to)
+    erase_in_room(rt, volume, pass, from, to)
 }
