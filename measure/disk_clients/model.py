@@ -9,30 +9,29 @@ from .server import MEGABYTE, Volume
 MOST_IN_FLIGHT = 32
 SIZES = (1, 7, 511, 512, 4095, 4096, 4097, 65_535, 65_536)
 KINDS = ("write",) * 9 + ("read",) * 8 + ("zero",) * 2 + ("trim", "flush")
+BLOCK = 4096
 
 
 class Model:
-    """What the disk must show. After a trim nothing is known of the bytes that it names."""
+    """What the disk must show. A trim gives blocks that lie whole in it back, and they read as zeros; the rest stays."""
 
     def __init__(self, size):
         self.bytes = bytearray(size)
-        self.known = bytearray(b"\xff" * size)
 
     def write(self, offset, data):
         self.bytes[offset : offset + len(data)] = data
-        self.known[offset : offset + len(data)] = b"\xff" * len(data)
 
-    def forget(self, offset, length):
-        self.known[offset : offset + length] = bytes(length)
+    def trim(self, offset, length):
+        first, end = -(-offset // BLOCK) * BLOCK, (offset + length) // BLOCK * BLOCK
+        if first < end:
+            self.bytes[first:end] = bytes(end - first)
 
     def differs(self, offset, data):
-        """The first byte of the disk that is known and is not as read, or None."""
+        """The first byte of the disk that is not as read, or None."""
         wanted = self.bytes[offset : offset + len(data)]
         if wanted == data:
             return None
-        known = self.known[offset : offset + len(data)]
-        places = (at for at in range(len(data)) if known[at] and wanted[at] != data[at])
-        return next((offset + at for at in places), None)
+        return next(offset + at for at in range(len(data)) if wanted[at] != data[at])
 
 
 class Client:
@@ -71,9 +70,10 @@ class Client:
             data = nbd.Buffer(length)
             cookie = self.handle.aio_pread(data, offset)
         elif kind == "zero":
-            cookie = self.handle.aio_zero(length, offset, flags=through)
+            kept = nbd.CMD_FLAG_NO_HOLE if self.chance.random() < 0.5 else 0
+            cookie = self.handle.aio_zero(length, offset, flags=through | kept)
         elif kind == "trim":
-            cookie = self.handle.aio_trim(length, offset)
+            cookie = self.handle.aio_trim(length, offset, flags=through)
         else:
             cookie = self.handle.aio_flush()
         self.in_flight[cookie] = (kind, offset, length, data)
@@ -92,7 +92,7 @@ class Client:
         elif kind == "zero":
             self.model.write(offset, bytes(length))
         elif kind == "trim":
-            self.model.forget(offset, length)
+            self.model.trim(offset, length)
         elif kind == "read":
             place = self.model.differs(offset, data.to_bytearray())
             if place is not None:

@@ -100,11 +100,12 @@ fn print_served<O: Write>(served: &Served, out: &mut O) -> Result<(), Fault> {
     match (served.counts, served.farewell) {
         (Some(counts), Some(farewell)) => writeln!(
             out,
-            "{} reads of {} bytes, {} writes of {} bytes, {} flushes, {} refused: {farewell:?}",
+            "{} reads of {} bytes, {} writes of {} bytes, {} trims, {} flushes, {} refused: {farewell:?}",
             counts.reads,
             counts.bytes_read,
             counts.writes,
             counts.bytes_written,
+            counts.trims,
             counts.flushes,
             counts.refused
         )?,

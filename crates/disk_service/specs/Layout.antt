@@ -1,6 +1,7 @@
 -- Where the blocks of a disk lie.
-use Rattle.std.specs.Prelude.{◌≡◌, ◌<◌, ◌*◌, ◌/◌, ◌%◌, ◌^◌, ◌≤◌, ℕ, List, length, slice_index}
+use Rattle.std.specs.Prelude.{◌≡◌, ◌<◌, ◌+◌, ◌*◌, ◌↔◌, ◌/◌, ◌%◌, ◌^◌, ◌≤◌, ℕ, List, length, slice_index}
 use Rattle.disk_service.specs.declared.layout.Place.{Place}
+use Rattle.disk_service.specs.declared.layout.Stripe.{Stripe}
 
 -- no number stands twice
 abbrev pub AreDistinct : List ℕ → Type 0
@@ -18,3 +19,7 @@ pub record CanLie (numbers : List ℕ) (block_bytes blocks : ℕ) : Type 0 where
 pub record IsPlaceOf (numbers : List ℕ) (block : ℕ) (place : Place) : Type 0 where
   pub file : slice_index numbers (block % length numbers) ≡ place.number
   pub index : place.index ≡ block / length numbers
+
+-- of n stripes, one has just those indices whose blocks lie in a range: index i of stripe k is block i n + k
+abbrev pub HasIndices : ℕ → ℕ → ℕ → ℕ → Stripe → Type 0
+HasIndices n k first end stripe = (i : ℕ) → ((stripe.from ≤ i) × (i < stripe.to)) ↔ ((first ≤ i * n + k) × (i * n + k < end))

@@ -9,6 +9,8 @@ pub struct Counts {
     pub reads: u64,
     /// WRITE and WRITE_ZEROES requests that were done.
     pub writes: u64,
+    /// TRIM requests that were done.
+    pub trims: u64,
     /// FLUSH requests that were done.
     pub flushes: u64,
     /// Requests that were answered with an error.
@@ -54,6 +56,7 @@ impl Counter {
 pub(crate) struct Counters {
     pub reads: Counter,
     pub writes: Counter,
+    pub trims: Counter,
     pub flushes: Counter,
     pub refused: Counter,
     pub bytes_read: Counter,
@@ -67,6 +70,7 @@ impl Counters {
         Counters {
             reads: Counter::new(),
             writes: Counter::new(),
+            trims: Counter::new(),
             flushes: Counter::new(),
             refused: Counter::new(),
             bytes_read: Counter::new(),
@@ -81,6 +85,7 @@ impl Counters {
         Counts {
             reads: self.reads.get(),
             writes: self.writes.get(),
+            trims: self.trims.get(),
             flushes: self.flushes.get(),
             refused: self.refused.get(),
             bytes_read: self.bytes_read.get(),

@@ -1,6 +1,6 @@
 //! Where the blocks of a disk lie.
-ghost use Rattle.std.specs.Prelude.{◌≡◌, ◌≤◌, ◌<◌, ◌*◌, true, false, ℕ, List, length, slice_index, SomeIndex, IfSome, IfNone};
-ghost use Rattle.disk_service.specs.Layout.{AreDistinct, CanLie, IsPlaceOf};
+ghost use Rattle.std.specs.Prelude.{◌≡◌, ◌≤◌, ◌<◌, ◌+◌, ◌*◌, ◌↔◌, true, false, ℕ, List, length, slice_index, SomeIndex, IfSome, IfNone};
+ghost use Rattle.disk_service.specs.Layout.{AreDistinct, CanLie, IsPlaceOf, HasIndices};
 
 // How many indices a file has.
 const INDICES: u64 = 1 << 32;
@@ -20,6 +20,14 @@ pub struct DiskLayout {
 pub struct Place {
     pub number: u32,
     pub index: u32,
+}
+
+/// The blocks of a range that lie in one file: the number of the file, and the first of their indices and the end of them.
+#[derive(Clone, Copy, Debug, PartialEq, Eq)]
+pub struct Stripe {
+    pub number: u32,
+    pub from: u64,
+    pub to: u64,
 }
 
 impl DiskLayout {
@@ -60,6 +68,20 @@ impl DiskLayout {
         })
     }
 
+    /// The blocks from `first` up to `end`, which is not among them, that lie in the file of one stripe.
+    pub fn stripe(&self, stripe: usize, first: u64, end: u64) -> Stripe
+        requires stripe { stripe < length self.now.numbers.items }
+        ensures file { slice_index self.now.numbers.items stripe ≡ result.number }
+        ensures indices { HasIndices (length self.now.numbers.items) stripe first end result }
+    {
+        let stripes = self.numbers.len() as u64;
+        Stripe {
+            number: self.numbers[stripe],
+            from: first_index(first, stripe as u64, stripes),
+            to: first_index(end, stripe as u64, stripes),
+        }
+    }
+
     /// The numbers of the files, in the order of the stripes.
     pub fn numbers(&self) -> &[u32] {
         self.numbers.as_slice()
@@ -77,6 +99,20 @@ impl DiskLayout {
         ensures { result ≡ self.now.blocks * self.now.block_bytes }
     {
         self.blocks * u64::from(self.block_bytes)
+    }
+}
+
+// The least index of a stripe whose block is at or past a block.
+pub(crate) fn first_index(block: u64, stripe: u64, stripes: u64) -> u64
+    requires stripe { stripe < stripes }
+    ensures { (i : ℕ) → (result ≤ i) ↔ (block ≤ i * stripes + stripe) }
+{
+    let past = block.saturating_sub(stripe);
+    let whole = past / stripes;
+    if whole * stripes < past {
+        whole + 1
+    } else {
+        whole
     }
 }
 

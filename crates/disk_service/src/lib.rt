@@ -8,6 +8,7 @@
 mod answers;
 mod counts;
 mod disk;
+mod erasing;
 mod handshake;
 mod keeping;
 mod layout;
@@ -23,6 +24,6 @@ mod writing;
 pub use counts::Counts;
 pub use disk::{DiskService, DiskSettings};
 pub use handshake::{Export, Greeted, LONGEST_NAME, greet};
-pub use layout::{DiskLayout, Place, place_law};
+pub use layout::{DiskLayout, Place, Stripe, place_law};
 pub use parts::{Part, part_at};
 pub use reception::{Farewell, MOST_BYTES};

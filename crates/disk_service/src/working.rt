@@ -5,6 +5,7 @@ ghost use Rattle.nbd_words.specs.Request.{reply_bytes};
 
 use crate::answers::read_reply;
 use crate::disk::DiskService;
+use crate::erasing::{erase_blocks, zero_bytes};
 use crate::orders::{Errand, Order};
 use crate::reading::read_bytes;
 use crate::writing::{Writing, write_bytes, write_zeros};
@@ -65,10 +66,18 @@ impl<C: Clock + Drop, I: Read + Drop, O: Write + Drop> DiskService<C, I, O> {
                     offset,
                     length,
                     through,
+                    keep,
                 },
-            ) => self.write_zeros(rt, volume, shelf, offset, length, through),
+            ) => self.write_zeros(rt, volume, shelf, offset, length, through, keep),
             Ok(Access::Flush) => self.obey_flush(rt, volume, shelf),
-            Ok(Access::Trim { .. } | Access::Leave) => Ok(()),
+            Ok(
+                Access::Trim {
+                    offset,
+                    length,
+                    through,
+                },
+            ) => self.erase(rt, volume, shelf, offset, length, through),
+            Ok(Access::Leave) => Ok(()),
             Err(refusal) => return self.refuse(rt, refusal.error_number(), cookie),
         };
         match done {
@@ -151,21 +160,40 @@ impl<C: Clock + Drop, I: Read + Drop, O: Write + Drop> DiskService<C, I, O> {
         offset: u64,
         length: u32,
         through: bool,
+        keep: bool,
     ) -> Result<(), Error>
         requires block { self.now.layout.block_bytes ≡ block_bytes V.Numbers.geometry.shape }
         requires fits { offset + length < 2 ^ 64 }
     {
         let writing = self.writing();
-        write_zeros(
-            rt,
-            self.alloc,
-            volume,
-            shelf,
-            writing,
-            offset,
-            length as usize,
-        )?;
+        if keep {
+            let count = length as usize;
+            write_zeros(rt, self.alloc, volume, shelf, writing, offset, count)?;
+        } else {
+            zero_bytes(rt, self.alloc, volume, shelf, writing, offset, length)?;
+        }
         self.finish_write(rt, volume, shelf, u64::from(length), through)
+    }
+
+    fn erase<V: VolumeName, M: Meta, B: Block + Drop, R: Wait>(
+        &self,
+        rt: &R,
+        volume: &Volume<V, M, B>,
+        shelf: &Shelf<V>,
+        offset: u64,
+        length: u32,
+        through: bool,
+    ) -> Result<(), Error>
+        requires fits { offset + length < 2 ^ 64 }
+    {
+        let writing = self.writing();
+        erase_blocks(rt, volume, shelf, writing, offset, length)?;
+        if through {
+            self.flush(rt, volume, shelf)?;
+            self.counters.asked.add(1);
+        }
+        self.counters.trims.add(1);
+        Ok(())
     }
 
     fn writing(&self) -> Writing<'_>

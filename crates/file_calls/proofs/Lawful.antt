@@ -1,36 +1,33 @@
 -- The law of a file with spare nodes beside it, through the calls on both.
-use Rattle.std.proofs.Common.{◌≡◌, ℕ, ◌+◌, ◌<◌, true, Option, sym, subst}
+use Rattle.std.proofs.Common.{◌≡◌, ℕ, ◌+◌, true, sym, ap, subst}
 use Rattle.geometry.specs.declared.shape.Shape.{Shape}
 use Rattle.rights_books.specs.declared.claim.Entry.{Entry}
-use Rattle.tickets.specs.Placed.{Placed}
-use Rattle.tree.specs.Change.{TreeNode, nothing, ticket_weight}
+use Rattle.tree.specs.Change.{TreeNode, nothing}
 use Rattle.nodes.specs.declared.file.FileState.{FileState}
 use Rattle.nodes.specs.declared.spare.SparePath.{SparePath}
-use Rattle.nodes.specs.Marks.{MarksNode, lengthened, unchanged}
+use Rattle.nodes.specs.Marks.{MarksNode, unchanged}
 use Rattle.nodes.specs.Lacking.{spare_tokens}
-use Rattle.nodes_law.specs.Law.{HaveOwnTokens}
-use Rattle.nodes_law.proofs.Lasting.{law_plant, own_planted, law_put}
+use Rattle.nodes_law.specs.Law.{FileStateLaw, HaveOwnTokens}
+use Rattle.nodes_law.proofs.Lasting.{law_plant, own_planted}
 use Rattle.file_calls.specs.Beside.{HasLawBeside}
 
 module _ {B L : Type 0} (files : ℕ) (old new : FileState B L) (s t : SparePath B L) (was : HasLawBeside files old s) (shape : new.shape ≡ old.shape) where
-  own_of : new.token ≡ old.token → HaveOwnTokens files old.shape old.token.number t → HaveOwnTokens files new.shape new.token.number t
-  own_of token own =
-      subst (λ (h : Shape). HaveOwnTokens files h new.token.number t) (sym shape)
-      (subst (λ (k : Entry). HaveOwnTokens files old.shape k.number t) (sym token) own)
+  own_of : new.token.number ≡ old.token.number → (u : SparePath B L) → HaveOwnTokens files old.shape old.token.number u → HaveOwnTokens files new.shape new.token.number u
+  own_of number u own =
+      subst (λ (h : Shape). HaveOwnTokens files h new.token.number u) (sym shape)
+      (subst (λ (n : ℕ). HaveOwnTokens files old.shape n u) (sym number) own)
 
   -- a spare node comes into the file
   pub lawful_planted : (n : TreeNode) → n.dirty ≡ true → MarksNode unchanged old new nothing (λ w. w.node n)
       → ((h : Entry → ℕ) → spare_tokens h t + h n.token ≡ spare_tokens h s) → HasLawBeside files new t
   lawful_planted n fresh change tokens = record {
     law = law_plant files old new was.law shape s t was.own n fresh tokens change;
-    own = own_of change.token (own_planted files old.shape old.token.number s t was.own n tokens);
+    own = own_of (ap (λ (k : Entry). k.number) change.token) t (own_planted files old.shape old.token.number s t was.own n tokens);
   }
 
--- a ticket comes, and one may go
-pub lawful_put : {B L : Type 0} (files : ℕ) (old new : FileState B L) (s : SparePath B L) → HasLawBeside files old s → new.shape ≡ old.shape
-    → (index : ℕ) (before : Option Placed) (t : Placed) → MarksNode (lengthened index) old new (λ w. ticket_weight w before) (λ w. w.ticket t) → 0 < t.mark.address
-    → HasLawBeside files new s
-lawful_put files old new s was shape index before t change some = record {
-  law = law_put files old new was.law shape index before t change some;
-  own = own_of files old new s s was shape change.token was.own;
-}
+  -- a call that does nothing to the spare nodes
+  pub lawful_served : FileStateLaw files new → new.token.number ≡ old.token.number → HasLawBeside files new s
+  lawful_served law number = record {
+    law = law;
+    own = own_of number s was.own;
+  }

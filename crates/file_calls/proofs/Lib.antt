@@ -3,3 +3,4 @@ pub mod Serving
 pub mod Beside
 pub mod Lawful
 pub mod Born
+pub mod Erasing

@@ -1,18 +1,20 @@
 -- An index's owner is the number of the node that names it and the slot: where a call keeps that node's number, each
 -- ticket that stood there is owned as before.
-use Rattle.std.proofs.Common.{◌≡◌, ℕ, ◌<◌, ◌≤◌, Option, Some, None, IsSome, MatchOption, refl, sym, ap, subst, ◌∙◌, inl, inr, arith}
+use Rattle.std.proofs.Common.{◌≡◌, ℕ, ◌*◌, ◌-◌, ◌/◌, ◌%◌, ◌<◌, ◌≤◌, Option, Some, None, IsSome, MatchOption, refl, sym, ap, subst, ◌∙◌, inl, inr, arith}
 use Rattle.std.proofs.lemmas.Bool.{cases_eq, cases_lt}
 use Rattle.geometry.specs.declared.owner.Owner.{Owner}
 use Rattle.geometry.specs.declared.owner.Owner.TheVariants.{Data}
-use Rattle.geometry.specs.Path.{largest_length, path}
+use Rattle.geometry.specs.Path.{inode_entries, node_entries, largest_length, path}
 use Rattle.tickets.specs.Placed.{Placed}
-use Rattle.tree.specs.Tree.{SetsAt, Same, KeepsNamers}
+use Rattle.tree.specs.declared.branch.Branch.{Branch}
+use Rattle.tree.specs.Tree.{SetsAt, Same, KeepsNamers, entry_at, find_in, missing_in}
 use Rattle.tree.specs.Laws.{no_leaf}
 use Rattle.tree.specs.Spares.{KeepsNames}
 use Rattle.nodes.specs.declared.file.FileState.{FileState}
-use Rattle.nodes.specs.File.{IsFile, ticket_at, missing_to}
+use Rattle.nodes.specs.File.{IsFile, joined, ticket_at, missing_to, missing_direct, missing_indirect, missing_double}
 use Rattle.nodes.specs.Lacking.{last_entry}
-use Rattle.nodes.specs.Owners.{AreNamed, owner_at, named_by, namer_at}
+use Rattle.nodes.specs.Owners.{AreNamed, owner_at, named_by, namer_at, namer_direct, namer_indirect, namer_double}
+use Rattle.nodes.proofs.Joined.{at_first, at_rest}
 use Rattle.nodes.proofs.Namers.{owner_named}
 use Rattle.nodes.proofs.Owners.{owner_there}
 
@@ -26,6 +28,54 @@ stands_below f is short i t at = elim (cases_lt i f.length) [
 some_namer : (x : Option ℕ) (s : ℕ) (o : Owner) → named_by x s ≡ Some o → (n : ℕ) × (x ≡ Some n)
 some_namer None s o at = absurd (cc)
 some_namer (Some n) s o at = (n, refl)
+
+-- where a node names an index, none is missing on the way to it
+abbrev Leads : (ℕ → Option ℕ) → (ℕ → ℕ) → Type 0
+Leads names missing = (k n : ℕ) → names k ≡ Some n → missing k ≡ 0
+
+module _ (w : ℕ) (n o : ℕ → Option ℕ) (m l : ℕ → ℕ) where
+  leads_joined : Leads n m → Leads o l → Leads (joined w n o) (joined w m l)
+  leads_joined first rest k x at = elim (cases_lt k w) [
+    | inl lt ↦ at_first w m l k lt ∙ first k x (sym (at_first w n o k lt) ∙ at)
+    | inr ge ↦ at_rest w m l k ge ∙ rest (k - w) x (sym (at_rest w n o k ge) ∙ at)
+  ]
+
+module _ (e : ℕ) where
+  leads_direct : (b : Option (Branch Placed)) → Leads (namer_direct e b) (missing_direct e b)
+  leads_direct None k x at = absurd (cc)
+  leads_direct (Some b) k x at = refl
+
+  leads_indirect : (b : Option (Branch (Branch Placed))) → Leads (namer_indirect e b) (missing_indirect e b)
+  leads_indirect None k x at = absurd (cc)
+  leads_indirect (Some b) k x at = leads_direct (entry_at b.entries.slots.items (k / (e * 1))) (k % (e * 1)) x at
+
+  leads_double : (b : Option (Branch (Branch (Branch Placed)))) → Leads (namer_double e b) (missing_double e b)
+  leads_double None k x at = absurd (cc)
+  leads_double (Some b) k x at = leads_indirect (entry_at b.entries.slots.items (k / (e * (e * 1)))) (k % (e * (e * 1))) x at
+
+leads_to : {B L : Type 0} (f : FileState B L) → Leads (namer_at f) (missing_to f)
+leads_to f =
+    let d = inode_entries f.shape in
+    let e = node_entries f.shape in
+    let one = find_in (namer_direct e) (e * 1) f.direct.slots.items in
+    let two = find_in (namer_indirect e) (e * (e * 1)) f.indirect.slots.items in
+    let three = find_in (namer_double e) (e * (e * (e * 1))) f.double.slots.items in
+    let no_one = missing_in (missing_direct e) (e * 1) f.direct.slots.items in
+    let no_two = missing_in (missing_indirect e) (e * (e * 1)) f.indirect.slots.items in
+    let no_three = missing_in (missing_double e) (e * (e * (e * 1))) f.double.slots.items in
+    leads_joined d (λ _. Some f.token.number) (joined (2 * e) one (joined (2 * (e * e)) two three)) (λ _. 0) (joined (2 * e) no_one (joined (2 * (e * e)) no_two no_three))
+    (λ k x at. refl)
+    (leads_joined (2 * e) one (joined (2 * (e * e)) two three) no_one (joined (2 * (e * e)) no_two no_three)
+    (λ k x at. leads_direct e (entry_at f.direct.slots.items (k / (e * 1))) (k % (e * 1)) x at)
+    (leads_joined (2 * (e * e)) two three no_two no_three
+    (λ k x at. leads_indirect e (entry_at f.indirect.slots.items (k / (e * (e * 1)))) (k % (e * (e * 1))) x at)
+    (λ k x at. leads_double e (entry_at f.double.slots.items (k / (e * (e * (e * 1))))) (k % (e * (e * (e * 1)))) x at)))
+
+-- the way to an index that has an owner is there
+pub owned_there : {B L : Type 0} (f : FileState B L) (i : ℕ) → i < largest_length f.shape → (o : Owner) → owner_at f (path f.shape i) ≡ Some o → missing_to f i ≡ 0
+owned_there f i inside o at =
+    let n = some_namer (namer_at f i) (last_entry (path f.shape i)) o (sym (owner_named f i inside) ∙ at) in
+    leads_to f i n.0 n.1
 
 module _ {B L : Type 0} (old new : FileState B L) (shape : new.shape ≡ old.shape) (i : ℕ) (inside : i < largest_length new.shape) where
   before : i < largest_length old.shape

@@ -2,11 +2,12 @@
 ghost use Rattle.std.specs.Prelude.{◌≡◌, ◌<◌, ◌≤◌, ◌⊎◌, true, false, length, OnOk, OnErr, IfOk, IfErr};
 ghost use Rattle.geometry.specs.declared.error.Error.TheVariants.{NoMemory, NoNode, NoSpace, Device};
 ghost use Rattle.geometry.specs.File.{bytes_at, written, cut_to};
+ghost use Rattle.file_calls.specs.Erased.{erased};
 ghost use Rattle.geometry.specs.Path.{largest_length};
 ghost use Rattle.geometry.specs.Shape.{block_bytes};
 ghost use Rattle.rights_permits.specs.Turns.{at_home};
 
-use crate::lodged::{cut_lodged, note_file, recount, write_lodged};
+use crate::lodged::{cut_lodged, erase_lodged, note_file, recount, write_lodged};
 use crate::marks::Marks;
 use crate::pass::FilePass;
 use area::{MainArea, Numbered};
@@ -150,6 +151,34 @@ impl<V: VolumeName, B: Block + Drop> FileCell<V, B> {
         let account = &mut self.account;
         let marks = &mut self.marks;
         cut_lodged(rt, area, hand, account, file, marks, length);
+        note_file::<B, Brand>(area.books(), account, &mut pass.account, file);
+        pass.length = file.length();
+    }
+
+    /// Gives back the blocks of the file at the indexes from `from` up to `to`, as `file_calls::erase_blocks` does: they read as zeros,
+    /// and the length stays. It takes no memory, and is never refused.
+    pub fn erase<R: Wait>(
+        &mut self,
+        rt: &R,
+        area: &MainArea<V, B>,
+        hand: &mut Permit,
+        pass: &mut FilePass<V>,
+        from: u32,
+        to: u32,
+    )
+        requires hand { hand.old ≡ at_home V.Books.books.book }
+        requires number { self.old.number ≡ pass.old.number }
+        ensures file { pass.new ≡ record pass.old { file = erased pass.old.file from to } }
+        ensures hand { hand.new ≡ hand.old }
+        ensures number { self.new.number ≡ self.old.number }
+    {
+        area.books().compare(&self.account, &pass.account);
+        let Some(file) = &mut self.state else {
+            unreachable!();
+        };
+        let account = &mut self.account;
+        let marks = &mut self.marks;
+        erase_lodged(rt, area, hand, account, file, marks, from, to);
         note_file::<B, Brand>(area.books(), account, &mut pass.account, file);
         pass.length = file.length();
     }

@@ -6,6 +6,7 @@ ghost use Rattle.geometry.specs.File.{written, cut_to};
 ghost use Rattle.geometry.specs.Path.{largest_length};
 ghost use Rattle.geometry.specs.Shape.{block_bytes};
 ghost use Rattle.rights_books.specs.Contents.{as_content};
+ghost use Rattle.file_calls.specs.Erased.{erased};
 ghost use Rattle.nodes.specs.File.{IsFile, file_of};
 ghost use Rattle.rights_permits.specs.Turns.{at_home};
 ghost use Rattle.file_cells.specs.Cell.{IsLodged};
@@ -13,7 +14,7 @@ ghost use Rattle.file_cells.specs.Cell.{IsLodged};
 use crate::marks::{Marks, direct_node};
 use area::MainArea;
 use device::Block;
-use file_calls::{cut_blocks, give_up, write_block};
+use file_calls::{cut_blocks, erase_blocks, give_up, write_block};
 use geometry::{Error, Kind, Shape};
 use nodes::FileState;
 use rights_books::{Books, FileAccount, Noted, PassAccount, Permit};
@@ -121,6 +122,33 @@ pub(crate) fn cut_lodged<V: VolumeName, B: Block + Drop, R: Wait>(
     recount(area, file.kind(), marks, after);
     area.books().unlodge_all(account, hand);
     cut_blocks(rt, area, hand, file, length);
+    area.books().lodge_all(account, hand);
+}
+
+// Gives back blocks of a file, as `erase_blocks` does.
+pub(crate) fn erase_lodged<V: VolumeName, B: Block + Drop, R: Wait>(
+    rt: &R,
+    area: &MainArea<V, B>,
+    hand: &mut Permit,
+    account: &mut FileAccount,
+    file: &mut FileState<B>,
+    marks: &mut Marks,
+    from: u32,
+    to: u32,
+)
+    requires hand { hand.old ≡ at_home V.Books.books.book }
+    requires book { account.old.book ≡ V.Books.books.book }
+    requires lodged { IsLodged V.Numbers.geometry account.old file.old }
+    ensures lodged { IsLodged V.Numbers.geometry account.new file.new }
+    ensures number { file.new.token.number ≡ file.old.token.number }
+    ensures account { (account.new.book ≡ account.old.book) × (account.new.inode ≡ account.old.inode) × (account.new.content ≡ account.old.content) }
+    ensures hand { hand.new ≡ hand.old }
+    ensures file { file_of file.new ≡ erased (file_of file.old) from to }
+{
+    let after = marks.after_erase(area.geometry().shape, file.length());
+    recount(area, file.kind(), marks, after);
+    area.books().unlodge_all(account, hand);
+    erase_blocks(rt, area, hand, file, from, to);
     area.books().lodge_all(account, hand);
 }
 

@@ -76,6 +76,12 @@ impl Marks {
         next.within(shape, length)
     }
 
+    // After blocks between two indexes of a file that had a length were given back: at either end a node may keep some of its blocks.
+    pub(crate) fn after_erase(self, shape: Shape, length: u32) -> Marks {
+        let first = self.after_cut(shape, length);
+        first.after_cut(shape, length)
+    }
+
     // The inode is marked too.
     fn with_inode(mut self) -> Marks {
         self.nodes.direct = self.nodes.direct.max(1);

@@ -4,3 +4,4 @@ pub mod RoomLemmas
 pub mod NamedLemmas
 pub mod FaultLemmas
 pub mod LengthLemmas
+pub mod UsedLemmas

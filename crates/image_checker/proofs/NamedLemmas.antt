@@ -218,7 +218,7 @@ pub walk_stop : (image : Image) (inode : ℕ) (ok : Bool) (old new last : List M
 walk_stop image inode ok old new last fails added = clash_stop ok old new last (own_names image inode) _ fails added
 
 -- a node's data names, cut at a slot
-data_split : (nid from k : ℕ) (xs : List ℕ) → data_names nid from xs ≡ data_names nid from (take k xs) ++ data_names nid (from + k) (drop k xs)
+pub data_split : (nid from k : ℕ) (xs : List ℕ) → data_names nid from xs ≡ data_names nid from (take k xs) ++ data_names nid (from + k) (drop k xs)
 data_split nid from zero xs = let e : from ≡ from + 0 = omega arith in ap (λ f. data_names nid f xs) e
 data_split nid from (suc k) [] = refl
 data_split nid from (suc k) (zero ∷ xs) =

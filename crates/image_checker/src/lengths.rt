@@ -8,6 +8,7 @@ ghost use Rattle.image.specs.View.{image_view};
 ghost use Rattle.image.specs.Walk.{inodes};
 ghost use Rattle.image_checker.specs.Lengths.{EndsBelow, FileEndsBelow};
 
+use crate::used::used_of;
 use geometry::{Geometry, Shape};
 use image::Image;
 
@@ -15,16 +16,8 @@ use image::Image;
 pub fn addresses_end_below(addresses: &[u32], count: u32, limit: u64) -> bool
     ensures { IsTrue result ↔ ((k : ℕ) → k < count → slice_index addresses.now k ≢ 0 → k < limit) }
 {
-    for k in 0..count {
-        let address = match addresses.get(k as usize) {
-            Some(address) => *address,
-            None => 0,
-        };
-        if address != 0 && u64::from(k) >= limit {
-            return false;
-        }
-    }
-    true
+    let some = addresses.len().min(count as usize);
+    used_of(&addresses[..some]) as u64 <= limit
 }
 
 /// Whether a node's addresses that are not 0 are at indexes below a limit.

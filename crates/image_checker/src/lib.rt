@@ -10,5 +10,7 @@ mod naming;
 mod numbers;
 mod range;
 mod trees;
+mod used;
 
 pub use faults::check;
+pub use used::used_of;

@@ -8,6 +8,7 @@ ghost use Rattle.image.specs.Walk.{data_names, own_names, names_below, names, wa
 ghost use Rattle.image_checker.specs.Named.{AreNamed, HasAdded, HasRoom};
 
 use crate::trees::fits;
+use crate::used::used_of;
 use geometry::{Geometry, Mark, Owner};
 use image::Image;
 use std::alloc::{AllocError, Global};
@@ -55,7 +56,7 @@ impl Named {
         ensures added { IfOk result (λ ok. HasAdded ok self.old.names.items (data_names nid 0 addresses.now) self.new.names.items) }
         ensures sized { length self.new.map.items ≡ length self.old.map.items }
     {
-        for slot in 0..addresses.len() {
+        for slot in 0..used_of(addresses) {
             let address = addresses[slot];
             if address != 0 {
                 let owner = Owner::Data(nid, slot as u32);

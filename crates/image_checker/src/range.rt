@@ -8,6 +8,7 @@ ghost use Rattle.image.specs.Rules.{IsPlace, IsEntry, HasRange, NodesHaveEntries
 ghost use Rattle.image.specs.View.{image_view, node_view, node_or_none};
 ghost use Rattle.geometry.specs.Class.{class_code};
 
+use crate::used::used_of;
 use geometry::{Class, Geometry, Kind, Shape};
 use image::class::class_code;
 use image::{Image, Node, NodeEntry, Place, SegmentInfo};
@@ -53,7 +54,8 @@ pub fn bits_in_range(geometry: &Geometry, segments: &[SegmentInfo]) -> bool
 pub fn all_up_to(numbers: &[u32], bound: u32) -> bool
     ensures { IsTrue result ↔ All (λ a. a ≤ bound) numbers.now }
 {
-    numbers.iter().all(|number| *number <= bound)
+    let some = &numbers[..used_of(numbers)];
+    some.iter().all(|number| *number <= bound)
 }
 
 /// Whether a node has as many addresses and children as one of its class.

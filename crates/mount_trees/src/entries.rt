@@ -12,6 +12,7 @@ use crate::load::Load;
 use crate::room::NodeRoom;
 use crate::stock::Stock;
 use image::Image;
+use image_checker::used_of;
 use std::alloc::{AllocError, Global};
 use tree::{Entries, Slots};
 
@@ -34,18 +35,6 @@ pub fn make_rooms<C: Load>(
             Err(error)
         }
     }
-}
-
-// From which place on all of these numbers are 0.
-fn used_of(numbers: &[u32]) -> usize
-    ensures within { result ≤ length numbers.now }
-    ensures past { (k : ℕ) → result ≤ k → slice_index numbers.now k ≡ 0 }
-{
-    let mut used = numbers.len();
-    while used > 0 && numbers[used - 1] == 0 {
-        used -= 1;
-    }
-    used
 }
 
 // The memory of what each of these numbers names, the last one's first.

@@ -19,6 +19,10 @@ unknown_flags kind = if kind == 6 then 0xFFFC else 0xFFFE
 abbrev pub is_through : Words → Bool
 is_through words = not (bit_and words.flags 1 == 0)
 
+-- the flag NO_HOLE
+abbrev pub keeps_room : Words → Bool
+keeps_room words = not (bit_and words.flags 2 == 0)
+
 -- an access is at the place and of the length that the request tells, and all of it lies on the disk
 pub record IsOnDisk (disk : Disk) (words : Words) (offset length : ℕ) : Type 0 where
   pub there : offset ≡ words.offset
@@ -34,8 +38,8 @@ IsAllowed disk words (Write offset length through) =
 IsAllowed disk words Flush = (words.kind ≡ 3) × IsOnDisk disk words 0 0
 IsAllowed disk words (Trim offset length through) =
     (words.kind ≡ 4) × IsOnDisk disk words offset length × (disk.read_only ≡ false) × (through ≡ is_through words)
-IsAllowed disk words (Zero offset length through) =
-    (words.kind ≡ 6) × IsOnDisk disk words offset length × (disk.read_only ≡ false) × (through ≡ is_through words)
+IsAllowed disk words (Zero offset length through keep) =
+    (words.kind ≡ 6) × IsOnDisk disk words offset length × (disk.read_only ≡ false) × (through ≡ is_through words) × (keep ≡ keeps_room words)
 IsAllowed disk words Leave = words.kind ≡ 2
 
 -- why it may not: what is said here can't be where an access is allowed

@@ -38,11 +38,12 @@ pub enum Access {
         length: u32,
         through: bool,
     },
-    /// Zeros are to be read from here on, and their room is kept.
+    /// Zeros are to be read from here on. `keep`: their room is kept, so that a later write finds it.
     Zero {
         offset: u64,
         length: u32,
         through: bool,
+        keep: bool,
     },
     /// The client goes. Nothing is answered.
     Leave,
@@ -87,6 +88,8 @@ impl Refusal {
 }
 
 const FLAG_FUA: u16 = 1;
+
+const FLAG_NO_HOLE: u16 = 2;
 
 // All flags but FUA, which each request may have.
 const BUT_FUA: u16 = 0xFFFE;
@@ -134,6 +137,7 @@ pub fn judge(disk: Disk, request: &Request) -> Result<Access, Refusal>
                 offset,
                 length,
                 through,
+                keep: request.flags & FLAG_NO_HOLE != 0,
             })
         }
         _ => Err(Refusal::Unknown),

@@ -6,7 +6,7 @@ use Rattle.std.proofs.lemmas.Bool.{cases_lt, cases_eq}
 use Rattle.tickets.specs.Placed.{Placed}
 use Rattle.tree.specs.declared.spare.Spare.{Spare}
 use Rattle.tree.specs.declared.spare.Spare.TheVariants.{Ticket, Token}
-use Rattle.tree.specs.Tree.{SetsAt, Same, HandsOut, SwapsOne, EmptyFrom}
+use Rattle.tree.specs.Tree.{SetsAt, Same, HandsOut, HandsOutAt, SwapsOne, EmptyFrom}
 use Rattle.nodes.specs.File.{joined, content_of}
 
 module _ {A : Type 0} (w : ℕ) (f g : ℕ → A) where
@@ -91,6 +91,13 @@ empty_joined w f g from a b j h = elim (cases_lt j w) [
 ]
 
 -- what is handed out leaves nothing where nothing was
+pub hands_at_empty : (old new : ℕ → Option Placed) (i : ℕ) (spare : Spare Placed) → HandsOutAt old new i spare → (n : ℕ) → EmptyFrom old n → EmptyFrom new n
+hands_at_empty old new i (Token t) s n empty j h = s j ∙ empty j h
+hands_at_empty old new i (Ticket t) s n empty j h = elim (cases_eq j i) [
+  | inl e ↦ ap new e ∙ s.1.0
+  | inr ne ↦ s.1.1 j ne ∙ empty j h
+]
+
 pub hands_empty : (old new : ℕ → Option Placed) (from : ℕ) (spare : Spare Placed) → HandsOut old new from spare → (n : ℕ) → EmptyFrom old n → EmptyFrom new n
 hands_empty old new from (Token t) s n empty j h = s j ∙ empty j h
 hands_empty old new from (Ticket t) s n empty j h = elim (cases_eq j s.0) [

@@ -1,7 +1,7 @@
 -- An index falls to exactly one range, and the others keep what they have: so a change of the entries of one range at
 -- an index is a change of the file at that index alone.
 use Rattle.std.proofs.Common.{◌≡◌, ◌≢◌, ℕ, ◌+◌, ◌-◌, ◌*◌, ◌^◌, ◌<◌, ◌≤◌, Bool, Option, Some, None, Ok, Err, refl, ap, sym, subst, ◌∙◌, arith, lit<}
-use Rattle.std.specs.Prelude.{IfOk, OnErr}
+use Rattle.std.specs.Prelude.{IfOk, OnErr, MatchOption}
 use Rattle.std.specs.declared.result.Result.{Result}
 use Rattle.geometry.specs.declared.shape.Shape.{Shape}
 use Rattle.geometry.specs.declared.shape.Shape.TheVariants.{Tiny, Kernel}
@@ -9,25 +9,28 @@ use Rattle.geometry.specs.Path.{inode_entries, node_entries, largest_length, pat
 use Rattle.tickets.specs.Placed.{Placed}
 use Rattle.tree.specs.declared.entries.Entries.{Entries}
 use Rattle.tree.specs.declared.spare.Spare.{Spare}
-use Rattle.tree.specs.Tree.{SetsAt, Same, SparesIndex, SparesPast, HandsOut, SwapsOne, KeepsNamers, UsefulIn, ShapedIn, EmptyFrom, find_in, missing_in, only_at_zero}
+use Rattle.tree.specs.declared.spare.Spare.TheVariants.{Ticket, Token}
+use Rattle.tree.specs.Tree.{SetsAt, Same, SparesIndex, SparesPast, AsksHolding, HandsOut, HandsOutAt, SwapsOne, KeepsNamers, UsefulIn, ShapedIn, EmptyFrom, find_in, missing_in, only_at_zero}
 use Rattle.tree.specs.Change.{Weighing, WeighsAs, ticket_weight, ChangesEntries, nothing}
 use Rattle.tree.specs.Spares.{KeepsNames, lacking_in}
 use Rattle.nodes.specs.declared.file.FileState.{FileState}
 use Rattle.nodes.specs.declared.spare.SparePath.{SparePath}
 use Rattle.nodes.specs.declared.place.Spot.{Spot}
-use Rattle.nodes.specs.File.{IsFile, joined, ticket_at, ends_at, missing_to, in_tickets, in_direct, in_indirect, in_double, find_direct, find_indirect, find_double, missing_direct, missing_indirect, missing_double, address_of, nid_of, weight_direct, weight_indirect, weight_double}
+use Rattle.nodes.specs.File.{IsFile, below_weight, joined, ticket_at, ends_at, missing_to, in_tickets, in_direct, in_indirect, in_double, find_direct, find_indirect, find_double, missing_direct, missing_indirect, missing_double, address_of, nid_of, weight_direct, weight_indirect, weight_double}
 use Rattle.nodes.specs.Lacking.{lacking_to, lacking_direct, lacking_indirect, lacking_double}
 use Rattle.nodes.specs.Marks.{MarksNode, unchanged}
 use Rattle.nodes.specs.Owners.{namer_at, namer_direct, namer_indirect, namer_double}
 use Rattle.nodes.specs.Places.{Range, OfTickets, OfDirect, OfIndirect, OfDouble, Named, span_of, width_of, first_of, shaped_of, entries_of, LiesIn}
-use Rattle.nodes.specs.Puts.{Puts, Cuts, Swaps}
-use Rattle.nodes.specs.Useful.{IsUseful, useful_direct, useful_indirect, useful_double}
+use Rattle.nodes.specs.Puts.{Puts, Cuts, Swaps, Erases, IsHole}
+use Rattle.nodes.specs.Useful.{IsUseful, holds, useful_direct, useful_indirect, useful_double}
 use Rattle.nodes.proofs.Bounds.{entries_positive, past_tickets, past_direct, past_indirect}
 use Rattle.nodes.proofs.Four.{same_1, same_2, same_3, same_4, sets_1, sets_2, sets_3, sets_4, hands_1, hands_2, hands_3, hands_4, swaps_1, swaps_2, swaps_3, swaps_4}
-use Rattle.nodes.proofs.Joined.{at_first, hands_empty, swaps_empty}
+use Rattle.nodes.proofs.Joined.{at_first, hands_empty, hands_at_empty, swaps_empty}
 use Rattle.nodes.proofs.Lacking.{in_second, in_third, in_fourth}
 use Rattle.nodes.proofs.Namers.{same_direct, same_indirect, same_double, keeps_direct, keeps_indirect, keeps_double, names_direct, names_indirect, names_double}
 use Rattle.nodes.proofs.Paths.{path_is}
+use Rattle.nodes.proofs.Useful.{useful_way, holding}
+use Rattle.tree.proofs.Balance.{fewer}
 use Rattle.nodes.proofs.Ranges.{marks_tickets, marks_direct, marks_indirect, marks_double, file_tickets, file_direct, file_indirect, file_double}
 
 -- ---- the ranges
@@ -329,6 +332,83 @@ puts f ok i low t out spot r is x put =
       kind = head.2;
       file = is_file f r x ok done.shaped (λ j h. (let other : j ≢ i = omega arith in set.1 j other ∙ ok.within j h));
     }
+
+-- ---- the ticket at an index goes, or the token of a node on the way to it
+
+-- what `erase` made of the entries of a range
+pub record ErasesIn {B L : Type 0} (r : Range) (f : FileState B L) (e count k : ℕ) (x : Entries (Named r)) (result : Option (Spare Placed)) : Type 0 where
+  pub shaped : ShapedIn (shaped_of r e) count x.slots.items
+  pub namer : KeepsNamers (find_of r e x) (namer_of r e (entries_of r f)) (namer_of r e x)
+  pub useful : (asked : ℕ → ℕ → Bool) (first : ℕ) → SparesIndex asked (first + k) → useful_of r e asked first (entries_of r f) → useful_of r e asked first x
+  pub way : MatchOption result ((asked : ℕ → ℕ → Bool) (first : ℕ) → AsksHolding asked first (first + k) → useful_of r e asked first x) (λ _. Unit {0})
+  pub none : MatchOption result ((x ≡ entries_of r f) × (find_of r e (entries_of r f) k ≡ None)) (λ _. Unit {0})
+  pub out : MatchOption result (Unit {0}) (λ spare. HandsOutAt (find_of r e (entries_of r f)) (find_of r e x) k spare)
+  pub change : MatchOption result (Unit {0}) (λ spare. (out : Weighing Placed → ℕ) × WeighsAs spare out × ChangesOf r (entries_of r f) x out nothing)
+
+module _ {B L : Type 0} (f : FileState B L) (ok : IsFile f) (i : ℕ) (spot : Spot) where
+  -- the entries of a range stayed, so the file did
+  stays : (r : Range) (x : Entries (Named r)) → x ≡ entries_of r f → with_entries r f x ≡ f
+  stays OfTickets x same k = record f { tickets = same k }
+  stays OfDirect x same k = record f { direct = same k }
+  stays OfIndirect x same k = record f { indirect = same k }
+  stays OfDouble x same k = record f { double = same k }
+
+  -- each node on the way below the entries names something, so each that holds the index does
+  holds_way : (r : Range) → LiesIn r f i spot
+      → (let e = node_entries f.shape in useful_of r e (holds i) (first_of r f.shape) (entries_of r f)) → IsUseful (holds i) f
+  holds_way OfTickets is way =
+      let inside = rw is.count at is.inside in
+      let at = is.index in
+      useful_way f ok i (λ from to. absurd (omega arith)) (λ from to. absurd (omega arith)) (λ from to. absurd (omega arith))
+  holds_way OfDirect is way =
+      let inside = rw (is.count, is.entries) at is.inside in
+      let at = is.index in
+      useful_way f ok i (λ from to. way) (λ from to. absurd (omega arith)) (λ from to. absurd (omega arith))
+  holds_way OfIndirect is way =
+      let inside = rw (is.count, is.entries) at is.inside in
+      let at = is.index in
+      useful_way f ok i (λ from to. absurd (omega arith)) (λ from to. way) (λ from to. absurd (omega arith))
+  holds_way OfDouble is way =
+      let inside = rw (is.count, is.entries) at is.inside in
+      let at = is.index in
+      useful_way f ok i (λ from to. absurd (omega arith)) (λ from to. absurd (omega arith)) (λ from to. way)
+
+  hands_at : (r : Range) → LiesIn r f i spot → (x : Entries (Named r)) (spare : Spare Placed)
+      → HandsOutAt (find_of r (node_entries f.shape) (entries_of r f)) (find_of r (node_entries f.shape) x) spot.index spare
+      → HandsOutAt (ticket_at f) (ticket_at (with_entries r f x)) i spare
+  hands_at r is x (Token k) s = same f r x s
+  hands_at r is x (Ticket t) s = (
+    found_there f i spot r is ∙ ap (λ e. find_of r e (entries_of r f) spot.index) is.entries ∙ s.0,
+    sets f r x i spot.index None is.index (rw (is.entries, is.count) at is.inside) s.1,
+  )
+
+  pub erases : (r : Range) → LiesIn r f i spot → (x : Entries (Named r)) (result : Option (Spare Placed)) → ErasesIn r f spot.entries spot.count spot.index x result
+      → MatchOption result ((with_entries r f x ≡ f) × IsHole f i) (λ _. Unit {0}) × MatchOption result (Unit {0}) (λ spare. Erases f (with_entries r f x) i spare)
+  erases r is x None erase =
+      let done = rw (is.entries, is.count) at erase in
+      let way = subst (λ y. useful_of r (node_entries f.shape) (holds i) (first_of r f.shape) y) done.none.0
+      (done.way (holds i) (first_of r f.shape) (λ start end _ _ a. subst (λ k. (start ≤ k) × (k < end)) is.index (holding i start end a))) in (
+        (stays r x done.none.0, record { nothing = found_there f i spot r is ∙ ap (λ e. find_of r e (entries_of r f) spot.index) is.entries ∙ done.none.1; way = holds_way r is way }),
+        tt,
+      )
+  erases r is x (Some spare) erase =
+      let done = rw (is.entries, is.count) at erase in
+      let hand = hands_at r is x spare done.out in
+      let head = head_kept f r x in
+      let change = marks f r done.change.0 nothing x done.change.2 in (
+        tt,
+        record {
+          out = hand;
+          namer = keeps f r x done.namer;
+          useful = λ asked spares. useful f r x asked (done.useful asked (first_of r f.shape) (subst (SparesIndex asked) is.index spares));
+          change = (done.change.0, done.change.1, change);
+          fewer = fewer change.own (below_weight f) (below_weight (with_entries r f x)) done.change.0 spare change.trades done.change.1;
+          long = head.0;
+          shape = head.1;
+          kind = head.2;
+          file = is_file f r x ok done.shaped (hands_at_empty (ticket_at f) (ticket_at (with_entries r f x)) i spare hand f.length ok.within);
+        },
+      )
 
 -- ---- a ticket or a token goes, or a ticket is swapped
 

@@ -7,8 +7,8 @@ use Rattle.geometry.specs.Path.{inode_entries, node_entries}
 use Rattle.tickets.specs.Placed.{Placed}
 use Rattle.tree.specs.declared.branch.Branch.{Branch}
 use Rattle.tree.specs.Laws.{times_positive, nothing_at_zero}
-use Rattle.tree.specs.Tree.{AsksEither, SparesIndex, SparesPast, AsksPast, only_at_zero, entry_at}
-use Rattle.tree.specs.Useful.{never_below, either_below, entries_below, found_below, found_from}
+use Rattle.tree.specs.Tree.{AsksEither, SparesIndex, SparesPast, AsksPast, AsksHolding, UsefulIn, only_at_zero, entry_at}
+use Rattle.tree.specs.Useful.{never_below, either_below, entries_below, found_below, found_from, way_from}
 use Rattle.nodes.specs.declared.file.FileState.{FileState}
 use Rattle.nodes.specs.File.{IsFile, IsBare, ticket_at, joined, in_tickets, in_direct, in_indirect, in_double, find_direct, find_indirect, find_double, shaped_direct, shaped_indirect, shaped_double}
 use Rattle.nodes.specs.Useful.{each_node, holds, is_off, reaches, ends_by, useful_direct, useful_indirect, useful_double, IsUseful}
@@ -25,7 +25,7 @@ by_spares i first end h = rw (lt-ltb i end h)
 pub reaching : (i start : ℕ) → AsksPast (reaches i) start i
 reaching i start first end h k is = elim (cases_lt i end) [ inl lt ↦ lt | inr ge ↦ absurd (let no : ◌≡◌ {A = Bool} false true = sym (le-ltb i end ge) ∙ is in cc) ]
 
-holding : (i first end : ℕ) → holds i first end ≡ true → (first ≤ i) × (i < end)
+pub holding : (i first end : ℕ) → holds i first end ≡ true → (first ≤ i) × (i < end)
 holding i first end is = elim (cases_lt i first) [
   | inl lt ↦ absurd (let no : ◌≡◌ {A = Bool} false true = rw (lt-ltb i first lt) at is in cc)
   | inr ge ↦ elim (cases_lt i end) [
@@ -119,6 +119,18 @@ module _ {B L : Type 0} (f : FileState B L) (ok : IsFile f) where
         (λ k _. either_double e p asked one other (d + 2 * e + 2 * (e * e) + k * (e * (e * (e * 1)))) (entry_at f.double.slots.items k) (ok.double.1 k) (λ first end _ _ _ _. test first end) (a.double k) (b.double k));
   }
 
+  -- where in the range that an index falls to each node on the way to it names something, all that hold it do
+  pub useful_way : (i : ℕ)
+      → (d ≤ i → i < d + 2 * (e * 1) → UsefulIn (useful_direct e) (e * 1) (holds i) d f.direct.slots.items)
+      → (d + 2 * e ≤ i → i < d + 2 * e + 2 * (e * (e * 1)) → UsefulIn (useful_indirect e) (e * (e * 1)) (holds i) (d + 2 * e) f.indirect.slots.items)
+      → (d + 2 * e + 2 * (e * e) ≤ i → i < d + 2 * e + 2 * (e * e) + 1 * (e * (e * (e * 1))) → UsefulIn (useful_double e) (e * (e * (e * 1))) (holds i) (d + 2 * e + 2 * (e * e)) f.double.slots.items)
+      → IsUseful (holds i) f
+  useful_way i direct indirect double = record {
+    direct = way_from (useful_direct e) (shaped_direct e) (e * 1) (λ _ _. tt) (either_direct e p) (never_direct e) 2 (holds i) d i f.direct.slots.items ok.direct direct (holding i);
+    indirect = way_from (useful_indirect e) (shaped_indirect e) (e * (e * 1)) (λ _ _. tt) (either_indirect e p) (never_indirect e) 2 (holds i) (d + 2 * e) i f.indirect.slots.items ok.indirect indirect (holding i);
+    double = way_from (useful_double e) (shaped_double e) (e * (e * (e * 1))) (λ _ _. tt) (either_double e p) (never_double e) 1 (holds i) (d + 2 * e + 2 * (e * e)) i f.double.slots.items ok.double double (holding i);
+  }
+
   -- the nodes on the way to a ticket name something
   useful_on : (i : ℕ) (t : Placed) → ticket_at f i ≡ Some t → IsUseful (holds i) f
   useful_on i t is =
@@ -145,6 +157,10 @@ module _ {B L : Type 0} (f : FileState B L) (ok : IsFile f) where
   -- where each node off the way to an index names something and a ticket stands there, each node does
   pub useful_found : (i : ℕ) (t : Placed) → ticket_at f i ≡ Some t → IsUseful (is_off i) f → IsUseful each_node f
   useful_found i t is off = useful_either each_node (is_off i) (holds i) (off_or_on i) off (useful_on i t is)
+
+  -- where each node off the way to an index names something, and each on it, all do
+  pub useful_hole : (i : ℕ) → IsUseful (is_off i) f → IsUseful (holds i) f → IsUseful each_node f
+  useful_hole i off on = useful_either each_node (is_off i) (holds i) (off_or_on i) off on
 
   -- a node reaches past an index, or it does not
   pub useful_cut : (i : ℕ) → IsUseful (ends_by i) f → IsUseful (reaches i) f → IsUseful each_node f

@@ -3,7 +3,7 @@ ghost use Rattle.std.specs.Prelude.{Bool, ◌≡◌, ℕ, ◌+◌, ◌-◌, ◌^
 ghost use Rattle.geometry.specs.Path.{inode_entries, node_entries, largest_length};
 ghost use Rattle.geometry.specs.File.{File, written, cut_to};
 ghost use Rattle.tickets.specs.Placed.{Placed};
-ghost use Rattle.tree.specs.Tree.{SetsAt, Same, KeepsNamers, EmptyFrom, HandsOut, SparesIndex, SparesPast, AsksPast};
+ghost use Rattle.tree.specs.Tree.{SetsAt, Same, KeepsNamers, EmptyFrom, HandsOut, HandsOutAt, SparesIndex, SparesPast, AsksPast, AsksHolding};
 ghost use Rattle.tree.specs.Change.{Weighing, ticket_weight, WeighsAs, nothing};
 ghost use Rattle.nodes.specs.Marks.{unchanged, lengthened, shortened};
 
@@ -17,7 +17,7 @@ impl<B: Block> FileState<B> {
     ghost use Rattle.nodes.specs.File.{IsFile, IsBare, Shows, ticket_at, missing_to, count_of, inode_of, below_weight};
     ghost use Rattle.nodes.specs.Owners.{namer_at};
     ghost use Rattle.nodes.specs.Marks.{MarksNode};
-    ghost use Rattle.nodes.specs.Puts.{Puts, Cuts, IsCutTo};
+    ghost use Rattle.nodes.specs.Puts.{Puts, Cuts, IsCutTo, Erases, IsHole};
     ghost use Rattle.nodes.specs.Useful.{IsUseful, each_node, is_off, reaches, ends_by};
 
     /// Puts a ticket at the index, and hands out the one that stood there: the file is the written file. Marks the node that
@@ -96,6 +96,22 @@ impl<B: Block> FileState<B> {
         }
         self.shorten(length);
         None
+    }
+
+    /// Hands out the ticket at the index, or else the token of a node on the way to it that names nothing, and marks the node
+    /// that named it. None: the index is a hole, and nothing has changed. The length stays.
+    pub fn erase(&mut self, index: u32) -> Option<Spare<Ticket<B>>>
+        requires inside { index < largest_length self.old.shape }
+        requires file { IsFile self.old }
+        ensures hole { MatchOption result ((self.new ≡ self.old) × IsHole self.old index) (λ _. Unit {0}) }
+        ensures erased { MatchOption result (Unit {0}) (λ spare. Erases self.old self.new index spare) }
+    {
+        match self.place(index) {
+            Place::InTickets(at) => self.tickets.erase(at.count, at.entries, at.index),
+            Place::InDirect(at) => self.direct.erase(at.count, at.entries, at.index),
+            Place::InIndirect(at) => self.indirect.erase(at.count, at.entries, at.index),
+            Place::InDouble(at) => self.double.erase(at.count, at.entries, at.index),
+        }
     }
 
     fn shorten(&mut self, length: u32)

@@ -72,8 +72,14 @@ fn use_group<R: Runtime + Threads + Wait + Sync>(
 fn tell<R: Runtime>(rt: &R, group: &Group, volumes: u32, counts: &Counts) -> Result<(), Fault> {
     if group.threads == 1 {
         println!(rt;
-            "{volumes} {}: {} writes, for {} of them room was made, {} checkpoints, {} cleans, {} mounts",
-            group.name, counts.writes, counts.made, counts.checkpoints, counts.cleans, counts.mounts
+            "{volumes} {}: {} writes, for {} of them room was made, {} erasures, {} checkpoints, {} cleans, {} mounts",
+            group.name,
+            counts.writes,
+            counts.made,
+            counts.erasures,
+            counts.checkpoints,
+            counts.cleans,
+            counts.mounts
         )?;
         return Ok(());
     }

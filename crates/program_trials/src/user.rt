@@ -14,6 +14,12 @@ pub enum Deed {
         count: u32,
         tag: u32,
     },
+    /// So many blocks from an index on are given back. The file stays as long.
+    Erase {
+        file: usize,
+        index: u32,
+        count: u32,
+    },
     /// A file is cut to a length.
     Cut {
         file: usize,
@@ -32,6 +38,9 @@ pub enum Deed {
     /// The volume is closed and mounted again.
     Mount,
 }
+
+// The tag of a hole, which has zeros. No write has it.
+const HOLE: u32 = 0;
 
 /// What a user has, and how much is done.
 #[derive(Clone, Copy)]
@@ -69,11 +78,11 @@ pub fn tagged_block(
     block_of(alloc, found, size)
 }
 
-/// Whether a block has this tag, and was written at this index.
+/// Whether a block has this tag, and was written at this index, or is a hole and has zeros.
 pub fn has_tag(block: &[u8], tag: u32, index: u32) -> bool {
     let found = Found {
         writer: tag,
-        write: index,
+        write: if tag == HOLE { 0 } else { index },
     };
     found_in(block) == found
 }
@@ -124,7 +133,16 @@ impl User {
                 let within = length.saturating_sub(index).min(self.plan.span);
                 self.write(file, index, within)
             }
-            160..164 if length > 2 => Deed::Cut {
+            160 if length > 0 => {
+                let index = self.chance.number_below(length);
+                let most = length.saturating_sub(index);
+                Deed::Erase {
+                    file,
+                    index,
+                    count: self.chance.number_below(most).saturating_add(1),
+                }
+            }
+            161..164 if length > 2 => Deed::Cut {
                 file,
                 length: length.saturating_sub(
                     self.chance.number_below(length / 2).saturating_add(1),
@@ -166,6 +184,11 @@ impl User {
             } => {
                 if let Some(tags) = self.files.get_mut(file) {
                     put_tags(tags, index as usize, count as usize, tag)?;
+                }
+            }
+            Deed::Erase { file, index, count } => {
+                if let Some(tags) = self.files.get_mut(file) {
+                    put_tags(tags, index as usize, count as usize, HOLE)?;
                 }
             }
             Deed::Cut { file, length } => {

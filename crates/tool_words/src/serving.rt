@@ -24,6 +24,7 @@ struct Report {
     client_left: bool,
     reads: u64,
     writes: u64,
+    trims: u64,
     flushes: u64,
     /// Requests that were answered with an error.
     refused: u64,
@@ -47,6 +48,7 @@ impl Report {
             client_left: served.farewell == Some(Farewell::Left),
             reads: counts.reads,
             writes: counts.writes,
+            trims: counts.trims,
             flushes: counts.flushes,
             refused: counts.refused,
             bytes_read: counts.bytes_read,
@@ -123,9 +125,10 @@ fn tell<E: Write>(report: &Report, disk: &str, errors: &mut E) {
     let disk = Shown(disk);
     let _ = writeln!(
         errors,
-        "{disk}: {} reads, {} writes, {} flushes, {} refused; {} sections cleaned, {} blocks moved",
+        "{disk}: {} reads, {} writes, {} trims, {} flushes, {} refused; {} sections cleaned, {} blocks moved",
         report.reads,
         report.writes,
+        report.trims,
         report.flushes,
         report.refused,
         report.sections_cleaned,

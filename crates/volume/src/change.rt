@@ -2,6 +2,7 @@
 ghost use Rattle.std.specs.Prelude.{◌≡◌, ◌≢◌, ◌<◌, ◌≤◌, ◌↔◌, ◌⊎◌, length, OnOk, OnErr, IfOk, IfErr, IsErrOf};
 ghost use Rattle.geometry.specs.declared.error.Error.TheVariants.{NoMemory, Device, NoSpace, NoFile, NoNode, TooFar, BadLength, Wounded};
 ghost use Rattle.geometry.specs.File.{new_file, written, cut_to};
+ghost use Rattle.file_calls.specs.Erased.{erased};
 ghost use Rattle.geometry.specs.Path.{largest_length};
 ghost use Rattle.geometry.specs.Shape.{block_bytes};
 ghost use Rattle.rights_permits.specs.Turns.{at_home};
@@ -125,6 +126,45 @@ impl<V: VolumeName, M: Meta, B: Block + Drop> Volume<V, M, B> {
     {
         let mut cell = self.lock_file(rt, pass.number());
         cell.cut(rt, &self.area, hand, pass, length);
+    }
+
+    /// Gives back the blocks of a file at the indexes from `from` up to `to`, which is not among them: they become holes, which read as
+    /// zeros, and the length stays. It takes no memory (Linux `fallocate(2)`, `FALLOC_FL_PUNCH_HOLE`).
+    ///
+    /// Nodes that keep some of their blocks are marked, and written by the next checkpoint; `checkpoint_room` tells whether they find
+    /// places. The only error is Wounded, where a checkpoint failed while it was written; then the file is as before.
+    pub fn erase<R: Wait>(
+        &self,
+        rt: &R,
+        pass: &mut FilePass<V>,
+        from: u32,
+        to: u32,
+    ) -> Result<(), Error>
+        ensures file { OnOk result (pass.new ≡ record pass.old { file = erased pass.old.file from to }) }
+        ensures err { OnErr result (pass.new ≡ pass.old) }
+        ensures error { IfErr result (λ error. error ≡ Wounded) }
+    {
+        let number = pass.number();
+        let mut permit = self.area.turnstile().enter_by(rt, number)?;
+        self.erase_by(rt, &mut permit.hand, pass, from, to);
+        self.area.turnstile().leave_by(rt, number, permit);
+        Ok(())
+    }
+
+    fn erase_by<R: Wait>(
+        &self,
+        rt: &R,
+        hand: &mut Permit,
+        pass: &mut FilePass<V>,
+        from: u32,
+        to: u32,
+    )
+        requires hand { hand.old ≡ at_home V.Books.books.book }
+        ensures hand { hand.new ≡ hand.old }
+        ensures file { pass.new ≡ record pass.old { file = erased pass.old.file from to } }
+    {
+        let mut cell = self.lock_file(rt, pass.number());
+        cell.erase(rt, &self.area, hand, pass, from, to);
     }
 
     /// Deletes a file, and spends its pass: all that the file has is given back, its inode's number too. It takes no memory.

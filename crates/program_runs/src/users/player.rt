@@ -1,7 +1,9 @@
 //! What a user does on a volume between two mounts.
 use crate::users::held::{Held, has_tags};
 use device::{Block, Meta};
-use flash_volume::{Ending, Error, Kind, Policy, Rights, Volume, VolumeName, Work, make_room};
+use flash_volume::{
+    Ending, Error, Kind, Policy, Rights, Volume, VolumeName, Work, erase_in_room, make_room,
+};
 use program_trials::{Deed, User, tagged_block};
 use std::alloc::Global;
 use std::sync::Wait;
@@ -16,6 +18,7 @@ pub struct Counts {
     /// Of them those for which room was made, and those that found none after all.
     pub made: u64,
     pub refused: u64,
+    pub erasures: u64,
     pub checkpoints: u64,
     pub cleans: u64,
     pub mounts: u64,
@@ -28,6 +31,7 @@ impl Counts {
         writes: 0,
         made: 0,
         refused: 0,
+        erasures: 0,
         checkpoints: 0,
         cleans: 0,
         mounts: 0,
@@ -39,6 +43,7 @@ impl Counts {
         self.writes = self.writes.saturating_add(others.writes);
         self.made = self.made.saturating_add(others.made);
         self.refused = self.refused.saturating_add(others.refused);
+        self.erasures = self.erasures.saturating_add(others.erasures);
         self.checkpoints = self.checkpoints.saturating_add(others.checkpoints);
         self.cleans = self.cleans.saturating_add(others.cleans);
         self.mounts = self.mounts.saturating_add(others.mounts);
@@ -187,6 +192,12 @@ impl Player {
                     count: written,
                     tag,
                 });
+            }
+            Deed::Erase { file, index, count } => {
+                increment(&mut self.counts.erasures);
+                if let Some(pass) = rights.passes.get_mut(file) {
+                    erase_in_room(rt, volume, pass, index, index.saturating_add(count))?;
+                }
             }
             Deed::Cut { file, length } => {
                 if let Some(pass) = rights.passes.get_mut(file) {

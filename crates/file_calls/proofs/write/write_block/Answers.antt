@@ -45,3 +45,6 @@ pub give_back-requires-clause-whole : goal.give_back-requires-clause-whole
 give_back-requires-clause-whole g c =
     let done = c.write_with-done.ensures in
     ap (λ s. spare_tokens (ragged (block_bytes s)) c.write_with-done.new.spares) (sym (done.serves.shape ∙ c.requires.shape)) ∙ done.law.own.whole
+
+pub returns-in-Some-clause-law : goal.returns-in-Some-clause-law
+returns-in-Some-clause-law g c = c.append_over.ensures.law g.V.Numbers.GeometryName.geometry.files c.requires.law

@@ -1,7 +1,9 @@
-use Rattle.std.proofs.Common.{◌++◌, ◌∙◌, sym, ap, length}
+use Rattle.std.proofs.Common.{◌≡◌, ◌++◌, ◌∙◌, sym, ap, length, take, arith}
+use Rattle.image.specs.Walk.{data_names}
 use Rattle.image_checker.specs.declared.naming.Named.{Named}
 use Rattle.image.proofs.NameLemmas.{names_more_none}
 use Rattle.image_checker.proofs.NamedLemmas.{data_more, data_stop}
+use Rattle.image_checker.proofs.UsedLemmas.{data_used}
 use Rattle.image_checker.proofs.naming.Named.push_data.Goals.{then-address-ne0+in_ok-fresh+else-not-fresh, else-address-ne0}
 use Rattle.image_checker.proofs.naming.Named.push_data.Goals as goal
 
@@ -25,3 +27,11 @@ loop-slot-preserved c =
         sized = ap (λ (v : Named). length v.map.items) w.self-is ∙ c.loop-slot.invariant.sized;
       }
     ]
+
+pub returns-clause-added : goal.returns-clause-added
+returns-clause-added c =
+    let xs = c.args.addresses.now in
+    let used = c.used_of-slot-end.result in
+    let whole : c.loop-slot.slot ≡ used = omega arith in
+    c.loop-slot.invariant.so_far
+    ∙ ap (λ ns. c.args.self.now.names.items ++ ns) (ap (λ n. data_names c.args.nid 0 (take n xs)) whole ∙ data_used xs used c.used_of-slot-end.ensures.past c.args.nid)

@@ -1,6 +1,6 @@
 use Rattle.std.proofs.Common.{◌≡◌, ℕ, ◌≤◌, length}
 use Rattle.std.specs.Prelude.{slice_index}
-use Rattle.mount_trees.proofs.entries.used_of.Given as goal
+use Rattle.image_checker.proofs.used.used_rows.Given as goal
 
 abbrev pub invariant-loop-used : goal.invariant-loop-used
 invariant-loop-used l = record {
