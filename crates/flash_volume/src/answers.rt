@@ -1,5 +1,5 @@
 //! What a request for bytes comes to, under the lock of its file.
-ghost use Rattle.std.specs.Prelude.{◌≡◌, ◌<◌, ◌≤◌, ◌+◌, length, map, reverse, take, drop, IfOk, IfErr, OnOk, OnErr};
+ghost use Rattle.std.specs.Prelude.{◌≡◌, ◌<◌, ◌≤◌, ◌+◌, ◌⊎◌, length, map, reverse, take, drop, IfOk, IfErr, OnOk, OnErr};
 ghost use Rattle.checkpoint.specs.Files.{files_of};
 ghost use Rattle.checkpoint.specs.Holding.{IsInPack};
 ghost use Rattle.checkpoint_image.specs.View.{taken_view};
@@ -8,6 +8,7 @@ ghost use Rattle.close_area.specs.Refused.{IsNotWritten};
 ghost use Rattle.flash_volume.specs.Answers.{block_of, laid_over};
 ghost use Rattle.geometry.specs.File.{written};
 ghost use Rattle.geometry.specs.Shape.{block_bytes};
+ghost use Rattle.geometry.specs.declared.error.Error.TheVariants.{TooFar, Wounded, NoMemory, NoNode, NoSpace, Device};
 ghost use Rattle.image.specs.Rules.{IsLawful};
 
 use crate::shelf::Shelf;
@@ -30,6 +31,7 @@ pub fn read_block<V: VolumeName, M: Meta, B: Block + Drop, R: Wait>(
 ) -> Result<(), Error>
     requires block { length block.old ≡ block_bytes V.Numbers.geometry.shape }
     ensures bytes { OnOk result (block.new ≡ block_of (block_bytes V.Numbers.geometry.shape) pass.now.file index) }
+    ensures error { IfErr result (λ error. error ≡ Device) }
 {
     let below = volume.read(rt, pass, index, block)?;
     if !below {
@@ -39,6 +41,7 @@ pub fn read_block<V: VolumeName, M: Meta, B: Block + Drop, R: Wait>(
 }
 
 /// Reads bytes that lie in one block of a file, from a byte of it on, into `out`: those that the pass shows. `block` has room for a block.
+/// The only error is Device.
 pub fn read_part<V: VolumeName, M: Meta, B: Block + Drop, R: Wait>(
     rt: &R,
     volume: &Volume<V, M, B>,
@@ -51,6 +54,7 @@ pub fn read_part<V: VolumeName, M: Meta, B: Block + Drop, R: Wait>(
     requires block { length block.old ≡ block_bytes V.Numbers.geometry.shape }
     requires within { from + length out.old ≤ block_bytes V.Numbers.geometry.shape }
     ensures bytes { OnOk result (out.new ≡ take (length out.old) (drop from (block_of (block_bytes V.Numbers.geometry.shape) pass.now.file index))) }
+    ensures error { IfErr result (λ error. error ≡ Device) }
 {
     read_block(rt, volume, pass, index, block)?;
     let end = from + out.len();
@@ -74,6 +78,7 @@ pub fn write_part<V: VolumeName, M: Meta, B: Block + Drop, R: Wait>(
     requires within { from + length bytes.now ≤ block_bytes V.Numbers.geometry.shape }
     ensures file { OnOk result (pass.new ≡ record pass.old { file = written pass.old.file index (laid_over (block_of (block_bytes V.Numbers.geometry.shape) pass.old.file index) from bytes.now) }) }
     ensures err { OnErr result (pass.new ≡ pass.old) }
+    ensures error { IfErr result (λ error. (error ≡ TooFar) ⊎ ((error ≡ Wounded) ⊎ ((error ≡ NoMemory) ⊎ ((error ≡ NoNode) ⊎ ((error ≡ NoSpace) ⊎ (error ≡ Device)))))) }
 {
     read_block(rt, volume, pass, index, block)?;
     let end = from + bytes.len();

@@ -12,7 +12,8 @@ use Rattle.geometry.specs.Shape.{block_bytes}
 use Rattle.geometry.specs.declared.shape.Shape.{Shape}
 use Rattle.geometry.specs.declared.shape.Shape.TheVariants.{Tiny, Kernel}
 use Rattle.image_reading.specs.Content.{front_bytes}
-use Rattle.tool_files.specs.Content.{HasBytes, IsBlockSet}
+use Rattle.byte_files.specs.Bytes.{HasBytes}
+use Rattle.tool_files.specs.Content.{IsBlockSet}
 
 pub block_some : (shape : Shape) → 0 < block_bytes shape
 block_some Tiny = lit< tt

@@ -2,7 +2,7 @@
 use Rattle.std.proofs.Common.{◌≡◌, ◌≢◌, ◌∙◌, ◌++◌, ℕ, zero, suc, List, [], ◌∷◌, Some, None, cond, ◌==◌, set, remove, ap, sym, subst, refl, inl, inr, ne_eqb, eq-eqb}
 use Rattle.std.proofs.lemmas.Bool.{cases_eq}
 use Rattle.file_cells.specs.Pass.{Pass}
-use Rattle.tool_files.specs.Content.{HasBytes}
+use Rattle.byte_files.specs.Bytes.{HasBytes}
 use Rattle.tool_files.specs.Files.{file_at, IsPlace, WasWritten}
 
 pub set_file : (number : ℕ) (passes : List Pass) (place : ℕ) (pass : Pass) → IsPlace number passes place → pass.number ≡ number

@@ -3,7 +3,7 @@ use Rattle.std.specs.Prelude.{◌≡◌, ◌≢◌, ◌<◌, ◌^◌, ◌⊎◌,
 use Rattle.file_cells.specs.Pass.{Pass}
 use Rattle.geometry.specs.File.{File}
 use Rattle.image_reading.specs.Content.{all_bytes}
-use Rattle.tool_files.specs.Content.{HasBytes}
+use Rattle.byte_files.specs.Bytes.{HasBytes}
 use Rattle.tool_folder.specs.Folder.{Row, BeginsWith, IsRow}
 use Rattle.tool_folder.specs.Name.{IsName}
 use Rattle.tool_folder.specs.Names.{HasNoRow, IsRowOf, Removes, Renames, Renews}

@@ -2,7 +2,7 @@
 use Rattle.std.specs.Prelude.{◌≡◌, ◌≢◌, ◌⊎◌, ℕ, List, [], ◌∷◌, Some, All, length}
 use Rattle.file_cells.specs.Pass.{Pass}
 use Rattle.geometry.specs.File.{File}
-use Rattle.tool_files.specs.Content.{HasBytes}
+use Rattle.byte_files.specs.Bytes.{HasBytes}
 use Rattle.tool_files.specs.Files.{file_at, HasFolder, WasPut, WasRemoved, WasDeleted, WasRenamed}
 use Rattle.tool_files.specs.Many.{WerePut}
 use Rattle.tool_files.specs.declared.work.put_all.NewFile.{NewFile}

@@ -5,7 +5,8 @@ ghost use Rattle.geometry.specs.File.{bytes_at};
 ghost use Rattle.geometry.specs.Shape.{block_bytes};
 ghost use Rattle.geometry.specs.declared.error.Error.TheVariants.{Device, NoMemory};
 ghost use Rattle.image_reading.specs.Content.{all_bytes};
-ghost use Rattle.tool_files.specs.Content.{HasBytes, IsBlockSet};
+ghost use Rattle.byte_files.specs.Bytes.{HasBytes};
+ghost use Rattle.tool_files.specs.Content.{IsBlockSet};
 
 use device::{Block, Meta};
 use file_cells::FilePass;

@@ -4,7 +4,7 @@ use Rattle.std.proofs.lemmas.Grind.{common_steps}
 use Rattle.std.proofs.lemmas.List.{take-append-drop, drop_all, nil_from_length}
 use Rattle.geometry.specs.File.{cut_to}
 use Rattle.geometry.specs.Shape.{block_bytes}
-use Rattle.tool_files.specs.Content.{HasBytes}
+use Rattle.byte_files.specs.Bytes.{HasBytes}
 use Rattle.tool_folder.proofs.Cases.{on_ok}
 use Rattle.tool_files.proofs.Contents.{Writing, block_some, writing_begins, writing_goes_on, writing_ends}
 use Rattle.tool_files.proofs.content.write_all.Goals as goal

@@ -2,7 +2,7 @@
 use Rattle.std.proofs.Common.{◌≡◌, ◌∙◌, ◌++◌, ◌<◌, ◌^◌, length, replicate, ap, subst, sym, rules}
 use Rattle.std.proofs.lemmas.List.{length-map}
 use Rattle.geometry.specs.Shape.{block_bytes}
-use Rattle.tool_files.specs.Content.{HasBytes}
+use Rattle.byte_files.specs.Bytes.{HasBytes}
 use Rattle.tool_files.specs.Files.{IsPlace}
 use Rattle.tool_folder.specs.Rows.{row_of}
 use Rattle.tool_folder.proofs.Cases.{on_ok}

@@ -1,6 +1,6 @@
 use Rattle.std.proofs.Common.{◌≡◌, ◌∙◌, get_or, subst, ap, rules}
 use Rattle.geometry.specs.Shape.{block_bytes}
-use Rattle.tool_files.specs.Content.{HasBytes}
+use Rattle.byte_files.specs.Bytes.{HasBytes}
 use Rattle.tool_files.specs.Files.{IsPlace}
 use Rattle.tool_files.proofs.Places.{number_at_place}
 use Rattle.tool_files.proofs.Updates.{written_at}

@@ -1,0 +1,14 @@
+//! Files of bytes over files of blocks: reads, writes, appends and truncations at any byte of a file, over the calls of a volume on its
+//! blocks. How many bytes a file has is the caller's to know: a volume counts blocks.
+#![tactic(auto)]
+
+mod laws;
+mod parts;
+mod reading;
+mod truncating;
+mod writing;
+
+pub use laws::{append_law, read_law, truncate_law, write_law};
+pub use reading::read_at;
+pub use truncating::truncate;
+pub use writing::{append, write_at};
