@@ -33,7 +33,7 @@ pub(crate) fn erase_blocks<V: VolumeName, M: Meta, B: Block + Drop, R: Wait>(
     if first >= end {
         return Ok(());
     }
-    for stripe in 0..writing.layout.numbers().len() {
+    for stripe in 0..writing.layout.stripes() {
         let run = writing.layout.stripe(stripe, first, end);
         erase_stripe(rt, volume, shelf, writing, run)?;
     }

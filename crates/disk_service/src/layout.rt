@@ -82,6 +82,13 @@ impl DiskLayout {
         }
     }
 
+    /// How many files have the disk.
+    pub fn stripes(&self) -> usize
+        ensures { result ≡ length self.now.numbers.items }
+    {
+        self.numbers.len()
+    }
+
     /// The numbers of the files, in the order of the stripes.
     pub fn numbers(&self) -> &[u32] {
         self.numbers.as_slice()
