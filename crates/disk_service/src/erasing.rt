@@ -1,6 +1,6 @@
 //! Gives blocks of a disk back.
 ghost use Rattle.std.specs.Prelude.{◌≡◌, ◌≤◌, ◌<◌, ◌+◌, ◌*◌, ◌^◌, ◌↔◌, ℕ, OnErr, OnOk};
-ghost use Rattle.file_calls.specs.Erased.{erased};
+ghost use Rattle.geometry.specs.File.{erased};
 ghost use Rattle.geometry.specs.Shape.{block_bytes};
 
 use crate::layout::{Stripe, first_index};

@@ -6,7 +6,7 @@ use Rattle.std.specs.FinMap.{get, get-retain_keys, nat_cmp-IsAntisymmetric}
 use Rattle.nodes.specs.declared.file.FileState.{FileState}
 use Rattle.nodes.specs.File.{IsFile, ticket_at, content_of, file_of}
 use Rattle.nodes.proofs.Files.{shows_file_of, only_file}
-use Rattle.file_calls.specs.Erased.{erased}
+use Rattle.geometry.specs.File.{erased}
 
 module _ {B L : Type 0} (old new : FileState B L) (is : IsFile old) (now : IsFile new) (kind : new.kind ≡ old.kind) (length : new.length ≡ old.length) (from to : ℕ)
     (gone : (j : ℕ) → from ≤ j → j < to → ticket_at new j ≡ None) (stay : (j : ℕ) → (j < from) ⊎ (to ≤ j) → ticket_at new j ≡ ticket_at old j) where

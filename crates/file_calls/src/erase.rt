@@ -7,7 +7,7 @@ ghost use Rattle.nodes.specs.Held.{Others};
 ghost use Rattle.nodes.specs.Useful.{IsUseful, each_node};
 ghost use Rattle.nodes_law.specs.Law.{FileStateLaw};
 ghost use Rattle.file_calls.specs.Contents.{IsStored, InHand, Serves};
-ghost use Rattle.file_calls.specs.Erased.{erased};
+ghost use Rattle.geometry.specs.File.{erased};
 
 use crate::node::give_node;
 use area::MainArea;

@@ -1,8 +1,7 @@
 //! A file in its lock, and the calls on it.
 ghost use Rattle.std.specs.Prelude.{◌≡◌, ◌<◌, ◌≤◌, ◌⊎◌, true, false, length, OnOk, OnErr, IfOk, IfErr};
 ghost use Rattle.geometry.specs.declared.error.Error.TheVariants.{NoMemory, NoNode, NoSpace, Device};
-ghost use Rattle.geometry.specs.File.{bytes_at, written, cut_to};
-ghost use Rattle.file_calls.specs.Erased.{erased};
+ghost use Rattle.geometry.specs.File.{bytes_at, written, cut_to, erased};
 ghost use Rattle.geometry.specs.Path.{largest_length};
 ghost use Rattle.geometry.specs.Shape.{block_bytes};
 ghost use Rattle.rights_permits.specs.Turns.{at_home};

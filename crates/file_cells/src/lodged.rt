@@ -2,11 +2,10 @@
 //! again.
 ghost use Rattle.std.specs.Prelude.{◌≡◌, ◌<◌, ◌⊎◌, Some, length, OnOk, OnErr, IfErr};
 ghost use Rattle.geometry.specs.declared.error.Error.TheVariants.{NoMemory, NoNode, NoSpace, Device};
-ghost use Rattle.geometry.specs.File.{written, cut_to};
+ghost use Rattle.geometry.specs.File.{written, cut_to, erased};
 ghost use Rattle.geometry.specs.Path.{largest_length};
 ghost use Rattle.geometry.specs.Shape.{block_bytes};
 ghost use Rattle.rights_books.specs.Contents.{as_content};
-ghost use Rattle.file_calls.specs.Erased.{erased};
 ghost use Rattle.nodes.specs.File.{IsFile, file_of};
 ghost use Rattle.rights_permits.specs.Turns.{at_home};
 ghost use Rattle.file_cells.specs.Cell.{IsLodged};

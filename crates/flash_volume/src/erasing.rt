@@ -1,7 +1,7 @@
 //! Blocks of a file are given back within the room that there is.
 ghost use Rattle.std.specs.Prelude.{◌≡◌, OnOk, OnErr, IfErr};
 ghost use Rattle.close_area.specs.Refused.{IsNotWritten};
-ghost use Rattle.file_calls.specs.Erased.{erased};
+ghost use Rattle.geometry.specs.File.{erased};
 
 use device::{Block, Meta};
 use file_cells::FilePass;

@@ -1,5 +1,5 @@
 -- A file: its kind, its length in blocks, and a finite map from indexes to blocks of bytes.
-use Rattle.std.specs.Prelude.{ℕ, ◌+◌, min, max, List, replicate, unwrap_or, nat_lt}
+use Rattle.std.specs.Prelude.{ℕ, ◌+◌, min, max, List, replicate, unwrap_or, nat_lt, not, ◌||◌}
 use Rattle.std.specs.Ordering.{nat_cmp}
 use Rattle.std.specs.FinMap.{FinMap, get, insert, retain_keys, empty, code}
 use Rattle.std.specs.Coded.{Coded, coded_ℕ, coded_list}
@@ -33,6 +33,11 @@ cut_to file length = record file {
   length = min length file.length;
   blocks = retain_keys file.blocks (λ index. nat_lt index length);
 }
+
+-- The indexes from one up to another, which is not among them, become holes; the file is as long as it was (Linux fallocate(2): a
+-- hole is punched, and the size stays).
+abbrev pub erased : File → ℕ → ℕ → File
+erased file from to = record file { blocks = retain_keys file.blocks (λ index. nat_lt index from || not (nat_lt index to)) }
 
 -- how a model stores the blocks of a file
 abbrev pub blocks_code : Coded (FinMap nat_cmp Block)

@@ -1,8 +1,7 @@
 //! The calls that change a file. Each has a permit for its whole length, and gives it back with nothing in hand.
 ghost use Rattle.std.specs.Prelude.{◌≡◌, ◌≢◌, ◌<◌, ◌≤◌, ◌↔◌, ◌⊎◌, length, OnOk, OnErr, IfOk, IfErr, IsErrOf};
 ghost use Rattle.geometry.specs.declared.error.Error.TheVariants.{NoMemory, Device, NoSpace, NoFile, NoNode, TooFar, BadLength, Wounded};
-ghost use Rattle.geometry.specs.File.{new_file, written, cut_to};
-ghost use Rattle.file_calls.specs.Erased.{erased};
+ghost use Rattle.geometry.specs.File.{new_file, written, cut_to, erased};
 ghost use Rattle.geometry.specs.Path.{largest_length};
 ghost use Rattle.geometry.specs.Shape.{block_bytes};
 ghost use Rattle.rights_permits.specs.Turns.{at_home};

@@ -1,4 +1,4 @@
-use Rattle.file_calls.specs.Erased.{erased}
+use Rattle.geometry.specs.File.{erased}
 use Rattle.file_cells.proofs.Lodging.{cell_shows, pass_changed, pass_noted}
 use Rattle.file_cells.proofs.cell.FileCell.erase.Goals as goal
 
