@@ -77,7 +77,7 @@ fn flush_all<R: Wait, V: VolumeName, B: Block + Drop>(
     ensures flushed { HasFlushed V.Numbers.geometry.files file.old file.new hand.old hand.new }
     ensures error { IfErr result (λ error. (error ≡ Device) ⊎ (error ≡ NoSpace)) }
 {
-    // One walk writes them all. The next begins at the front, and so tells that none is left.
+    // One walk writes them all. The next begins at the front, and so tells that none is left: it looks at the inode and at its entries alone.
     let mut from = 0;
     'walk: while flush_node(rt, area, hand, file, now, &mut from, numbers, bytes)? {}
     let mut front = 0;

@@ -1,13 +1,14 @@
 -- A loaded tree has the shape of the image's, level by level, with nothing past the length, and no node was marked: so
 -- it is a file, and clean.
-use Rattle.std.proofs.Common.{◌≡◌, ◌≢◌, ℕ, zero, suc, ◌+◌, ◌<◌, Option, Some, None, refl, sym, subst, ◌∙◌, arith}
+use Rattle.std.proofs.Common.{◌≡◌, ◌≢◌, ℕ, zero, suc, ◌+◌, ◌<◌, List, Option, Some, None, refl, sym, ap, subst, ◌∙◌, arith}
 use Rattle.std.specs.Prelude.{slice_index_or}
 use Rattle.geometry.specs.declared.owner.Owner.{Owner}
 use Rattle.geometry.specs.Path.{node_entries, path}
 use Rattle.tickets.specs.Placed.{Placed}
 use Rattle.tree.specs.declared.branch.Branch.{Branch}
 use Rattle.tree.specs.Tree.{entry_at}
-use Rattle.tree.specs.Change.{ticket_weight, each_marked}
+use Rattle.tree.specs.Change.{Weighing, ticket_weight, each_marked}
+use Rattle.tree.specs.Marks.{one_of, mark_of, AreCounted}
 use Rattle.std.proofs.lemmas.List.{get_or_past}
 use Rattle.tree.proofs.Changes.{weigh_zero}
 use Rattle.nodes.specs.declared.file.FileState.{FileState}
@@ -33,26 +34,6 @@ module _ (all : Shelves Placed) where
   ended_none number owner (Some t) l lacks = absurd (lacks (λ e. absurd (omega (arith, l.0))))
 
 module _ (image : Image) (all : Shelves Placed) where
-  shaped_1 : (e inode n : ℕ) (x : Option (Branch Placed)) → loaded_direct image all n x → fits_direct image e inode n → shaped_direct e x
-  shaped_1 e inode n None l fits = tt
-  shaped_1 e inode n (Some b) l fits = (l.below.0 ∙ (fits l.some).count, λ k. tt)
-
-  shaped_2 : (e inode n : ℕ) (x : Option (Branch (Branch Placed))) → loaded_indirect image all n x → fits_indirect image e inode n → shaped_indirect e x
-  shaped_2 e inode n None l fits = tt
-  shaped_2 e inode n (Some b) l fits = (
-    l.below.0 ∙ (fits l.some).count,
-    λ k. shaped_1 e inode (child image n k) (entry_at b.entries.slots.items k)
-        (at_any (λ _ m v. loaded_direct image all m v) (node_of image n).children b.entries.slots.items l.below (λ j. refl) k) ((fits l.some).below k),
-  )
-
-  shaped_3 : (e inode n : ℕ) (x : Option (Branch (Branch (Branch Placed)))) → loaded_double image all n x → fits_double image e inode n → shaped_double e x
-  shaped_3 e inode n None l fits = tt
-  shaped_3 e inode n (Some b) l fits = (
-    l.below.0 ∙ (fits l.some).count,
-    λ k. shaped_2 e inode (child image n k) (entry_at b.entries.slots.items k)
-        (at_any (λ _ m v. loaded_indirect image all m v) (node_of image n).children b.entries.slots.items l.below (λ j. refl) k) ((fits l.some).below k),
-  )
-
   clean_ticket : (x : Option Placed) → ticket_weight each_marked x ≡ 0
   clean_ticket None = refl
   clean_ticket (Some t) = refl
@@ -76,6 +57,42 @@ module _ (image : Image) (all : Shelves Placed) where
       let below = weigh_zero (weight_indirect each_marked) b.entries.slots.items (λ k h. clean_2 (child image n k) (entry_at b.entries.slots.items k)
       (at_any (λ _ m v. loaded_indirect image all m v) (node_of image n).children b.entries.slots.items l.below (λ j. refl) k)) in
       rw l.clean (omega arith)
+
+  -- where no entry has a marked node below it, none is counted
+  none_counted : {C : Type 0} (weight : Weighing Placed → Option C → ℕ) (count : ℕ) (xs : List (Option C)) → count ≡ 0
+      → ((k : ℕ) → weight each_marked (entry_at xs k) ≡ 0) → AreCounted weight count xs
+  none_counted weight count xs none clean = none ∙ sym (weigh_zero (mark_of weight) xs (λ k h. ap one_of (clean k)))
+
+  shaped_1 : (e inode n : ℕ) (x : Option (Branch Placed)) → loaded_direct image all n x → fits_direct image e inode n → shaped_direct e x
+  shaped_1 e inode n None l fits = tt
+  shaped_1 e inode n (Some b) l fits = (
+    (l.below.0 ∙ (fits l.some).count, λ k. tt),
+    none_counted ticket_weight b.entries.marked b.entries.slots.items l.none_below (λ k. clean_ticket (entry_at b.entries.slots.items k)),
+  )
+
+  shaped_2 : (e inode n : ℕ) (x : Option (Branch (Branch Placed))) → loaded_indirect image all n x → fits_indirect image e inode n → shaped_indirect e x
+  shaped_2 e inode n None l fits = tt
+  shaped_2 e inode n (Some b) l fits = (
+    (
+      l.below.0 ∙ (fits l.some).count,
+      λ k. shaped_1 e inode (child image n k) (entry_at b.entries.slots.items k)
+          (at_any (λ _ m v. loaded_direct image all m v) (node_of image n).children b.entries.slots.items l.below (λ j. refl) k) ((fits l.some).below k),
+    ),
+    none_counted weight_direct b.entries.marked b.entries.slots.items l.none_below (λ k. clean_1 (child image n k) (entry_at b.entries.slots.items k)
+        (at_any (λ _ m v. loaded_direct image all m v) (node_of image n).children b.entries.slots.items l.below (λ j. refl) k)),
+  )
+
+  shaped_3 : (e inode n : ℕ) (x : Option (Branch (Branch (Branch Placed)))) → loaded_double image all n x → fits_double image e inode n → shaped_double e x
+  shaped_3 e inode n None l fits = tt
+  shaped_3 e inode n (Some b) l fits = (
+    (
+      l.below.0 ∙ (fits l.some).count,
+      λ k. shaped_2 e inode (child image n k) (entry_at b.entries.slots.items k)
+          (at_any (λ _ m v. loaded_indirect image all m v) (node_of image n).children b.entries.slots.items l.below (λ j. refl) k) ((fits l.some).below k),
+    ),
+    none_counted weight_indirect b.entries.marked b.entries.slots.items l.none_below (λ k. clean_2 (child image n k) (entry_at b.entries.slots.items k)
+        (at_any (λ _ m v. loaded_indirect image all m v) (node_of image n).children b.entries.slots.items l.below (λ j. refl) k)),
+  )
 
   module _ {B L : Type 0} (inode : ℕ) (f : FileState B L) (l : IsLoadedFile image f.shape all inode f) where
     pub loaded_slots : (i : ℕ) → address_of (ticket_at f i) ≡ data_address f.shape image inode i

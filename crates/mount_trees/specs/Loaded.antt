@@ -71,13 +71,14 @@ abbrev pub AreLoaded : {C : Type 0} → (ℕ → ℕ → Option C → Type 0) �
 AreLoaded Loaded numbers slots =
     (length slots ≡ length numbers) × ((k : ℕ) → k < length numbers → Loaded k (slice_index numbers k) (entry_at slots k))
 
--- A node that an entry names, with its token, and what its entries name. It is not marked.
+-- A node that an entry names, with its token, and what its entries name. It is not marked, nor is one below it.
 pub record IsNodeOf {C : Type 0} (is_leaf : Bool) (Loaded : ℕ → ℕ → ℕ → Option C → Type 0) (image : Image) (tokens : List (Option Entry)) (number : ℕ) (b : Branch C) : Type 0 where
   pub some : 0 < number
   pub token : slice_index_or tokens number None ≡ Some b.token
   pub number_is : b.token.number ≡ number
   pub address : b.token.address ≡ (entry_of image number).address
   pub clean : b.entries.dirty ≡ false
+  pub none_below : b.entries.marked ≡ 0
   pub below : AreLoaded (Loaded number) (numbers_in is_leaf (node_of image number)) b.entries.slots.items
 
 abbrev pub LoadedBelow : {C : Type 0} → Bool → (ℕ → ℕ → ℕ → Option C → Type 0) → Image → List (Option Entry) → ℕ → Option (Branch C) → Type 0

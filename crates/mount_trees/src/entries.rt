@@ -97,6 +97,7 @@ pub fn load_entries<C: Load>(
     requires there { (h : Mark → ℕ) → weigh_from (C.names (image_view image.now) h parent) 0 numbers.now ≤ marks_weight C.mark_of h stock.old }
     ensures loaded { AreLoaded (C.loaded (image_view image.now) stock.old.all parent) numbers.now result.slots.items }
     ensures clean { result.dirty ≡ false }
+    ensures none_below { result.marked ≡ 0 }
     ensures all { stock.new.all ≡ stock.old.all }
     ensures taken { (h : Mark → ℕ) → marks_weight C.mark_of h stock.new + weigh_from (C.names (image_view image.now) h parent) 0 numbers.now ≡ marks_weight C.mark_of h stock.old }
     ensures trades { (ticket : C.Leaf → ℕ) (token : Entry → ℕ) → goods_weight ticket token stock.new + weigh (C.weight (of_rights ticket token)) result.slots.items ≡ goods_weight ticket token stock.old }
@@ -121,5 +122,6 @@ pub fn load_entries<C: Load>(
     Entries {
         slots,
         dirty: false,
+        marked: 0,
     }
 }

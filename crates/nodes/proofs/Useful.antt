@@ -10,7 +10,7 @@ use Rattle.tree.specs.Laws.{times_positive, nothing_at_zero}
 use Rattle.tree.specs.Tree.{AsksEither, SparesIndex, SparesPast, AsksPast, UsefulIn, only_at_zero, entry_at}
 use Rattle.tree.specs.Useful.{never_below, either_below, entries_below, found_below, found_from, way_from}
 use Rattle.nodes.specs.declared.file.FileState.{FileState}
-use Rattle.nodes.specs.File.{IsFile, IsBare, ticket_at, joined, in_tickets, in_direct, in_indirect, in_double, find_direct, find_indirect, find_double, shaped_direct, shaped_indirect, shaped_double}
+use Rattle.nodes.specs.File.{IsFile, IsBare, ticket_at, joined, in_tickets, in_direct, in_indirect, in_double, find_direct, find_indirect, find_double, shaped_direct, shaped_indirect, shaped_double, counted_direct, counted_indirect, counted_double}
 use Rattle.nodes.specs.Useful.{each_node, holds, is_off, reaches, ends_by, useful_direct, useful_indirect, useful_double, IsUseful}
 use Rattle.nodes.proofs.Bounds.{entries_positive}
 use Rattle.nodes.proofs.Joined.{at_first, at_rest}
@@ -67,32 +67,32 @@ module _ (e : ℕ) (positive : 0 < e) where
 
   either_direct : (asked one other : ℕ → ℕ → Bool) (first : ℕ) (s : Option (Branch Placed)) → shaped_direct e s → AsksEither first (first + e * 1) asked one other
       → useful_direct e one first s → useful_direct e other first s → useful_direct e asked first s
-  either_direct = either_below (λ (b : Branch Placed). b.entries.slots.items) (λ _ _ _. Unit {0}) 1 (λ _. Unit {0}) (lit< tt) (λ _ _. tt) (λ _ _ _ _ _ _ _ _ _. tt) e positive
+  either_direct = either_below (λ (b : Branch Placed). b.entries.slots.items) (λ _ _ _. Unit {0}) 1 (λ _. Unit {0}) counted_direct (lit< tt) (λ _ _. tt) (λ _ _ _ _ _ _ _ _ _. tt) e positive
 
   either_indirect : (asked one other : ℕ → ℕ → Bool) (first : ℕ) (s : Option (Branch (Branch Placed))) → shaped_indirect e s → AsksEither first (first + e * (e * 1)) asked one other
       → useful_indirect e one first s → useful_indirect e other first s → useful_indirect e asked first s
-  either_indirect = either_below (λ (b : Branch (Branch Placed)). b.entries.slots.items) (useful_direct e) (e * 1) (shaped_direct e) once (λ _ _. tt) either_direct e positive
+  either_indirect = either_below (λ (b : Branch (Branch Placed)). b.entries.slots.items) (useful_direct e) (e * 1) (shaped_direct e) counted_indirect once (λ _ _. tt) either_direct e positive
 
   either_double : (asked one other : ℕ → ℕ → Bool) (first : ℕ) (s : Option (Branch (Branch (Branch Placed)))) → shaped_double e s → AsksEither first (first + e * (e * (e * 1))) asked one other
       → useful_double e one first s → useful_double e other first s → useful_double e asked first s
-  either_double = either_below (λ (b : Branch (Branch (Branch Placed))). b.entries.slots.items) (useful_indirect e) (e * (e * 1)) (shaped_indirect e) twice (λ _ _. tt) either_indirect e positive
+  either_double = either_below (λ (b : Branch (Branch (Branch Placed))). b.entries.slots.items) (useful_indirect e) (e * (e * 1)) (shaped_indirect e) counted_double twice (λ _ _. tt) either_indirect e positive
 
   found_direct : (asked : ℕ → ℕ → Bool) (first i : ℕ) (s : Option (Branch Placed)) (t : Placed) → shaped_direct e s → find_direct e s i ≡ Some t
       → ((start end : ℕ) → asked start end ≡ true → (start ≤ first + i) × (first + i < end)) → useful_direct e asked first s
   found_direct asked first i s t =
-      found_below (λ (b : Branch Placed). b.entries.slots.items) (λ _ _ _. Unit {0}) 1 (λ _. Unit {0}) (lit< tt) (λ _ _. tt) (λ _ _ _ _ _ _ _ _ _. tt)
+      found_below (λ (b : Branch Placed). b.entries.slots.items) (λ _ _ _. Unit {0}) 1 (λ _. Unit {0}) counted_direct (lit< tt) (λ _ _. tt) (λ _ _ _ _ _ _ _ _ _. tt)
       only_at_zero (λ k. nothing_at_zero k) (λ _ _. tt) (λ _ _ _ _ _ _ _ _. tt) e asked first i s t
 
   found_indirect : (asked : ℕ → ℕ → Bool) (first i : ℕ) (s : Option (Branch (Branch Placed))) (t : Placed) → shaped_indirect e s → find_indirect e s i ≡ Some t
       → ((start end : ℕ) → asked start end ≡ true → (start ≤ first + i) × (first + i < end)) → useful_indirect e asked first s
   found_indirect asked first i s t =
-      found_below (λ (b : Branch (Branch Placed)). b.entries.slots.items) (useful_direct e) (e * 1) (shaped_direct e) once (λ _ _. tt) either_direct
+      found_below (λ (b : Branch (Branch Placed)). b.entries.slots.items) (useful_direct e) (e * 1) (shaped_direct e) counted_indirect once (λ _ _. tt) either_direct
       (find_direct e) (λ k. refl) (never_direct e) found_direct e asked first i s t
 
   found_double : (asked : ℕ → ℕ → Bool) (first i : ℕ) (s : Option (Branch (Branch (Branch Placed)))) (t : Placed) → shaped_double e s → find_double e s i ≡ Some t
       → ((start end : ℕ) → asked start end ≡ true → (start ≤ first + i) × (first + i < end)) → useful_double e asked first s
   found_double asked first i s t =
-      found_below (λ (b : Branch (Branch (Branch Placed))). b.entries.slots.items) (useful_indirect e) (e * (e * 1)) (shaped_indirect e) twice (λ _ _. tt) either_indirect
+      found_below (λ (b : Branch (Branch (Branch Placed))). b.entries.slots.items) (useful_indirect e) (e * (e * 1)) (shaped_indirect e) counted_double twice (λ _ _. tt) either_indirect
       (find_indirect e) (λ k. refl) (never_indirect e) found_indirect e asked first i s t
 
 module _ {B L : Type 0} (f : FileState B L) (ok : IsFile f) where

@@ -12,6 +12,7 @@ use Rattle.tickets.specs.Placed.{Placed}
 use Rattle.tree.specs.declared.branch.Branch.{Branch}
 use Rattle.tree.specs.Tree.{find_in, find_below, missing_in, missing_below, ShapedIn, ShapedBelow, AreNone, only_at_zero, number_of, EmptyFrom, entry_at}
 use Rattle.tree.specs.Change.{TreeNode, Weighing, tree_node, ticket_weight, weight_below, each_one}
+use Rattle.tree.specs.Marks.{AreCounted}
 use Rattle.nodes.specs.declared.file.FileState.{FileState}
 
 -- one map up to a width, and another from there on
@@ -39,14 +40,33 @@ find_indirect e = find_below (λ b. b.entries.slots.items) (find_direct e) (e * 
 abbrev pub find_double : ℕ → Option (Branch (Branch (Branch Placed))) → ℕ → Option Placed
 find_double e = find_below (λ b. b.entries.slots.items) (find_indirect e) (e * (e * 1))
 
+abbrev pub weight_direct : Weighing Placed → Option (Branch Placed) → ℕ
+weight_direct = weight_below (λ b. tree_node true b.token (map address_of b.entries.slots.items) b.entries.dirty) (λ b. b.entries.slots.items) ticket_weight
+
+abbrev pub weight_indirect : Weighing Placed → Option (Branch (Branch Placed)) → ℕ
+weight_indirect = weight_below (λ b. tree_node false b.token (map nid_of b.entries.slots.items) b.entries.dirty) (λ b. b.entries.slots.items) weight_direct
+
+abbrev pub weight_double : Weighing Placed → Option (Branch (Branch (Branch Placed))) → ℕ
+weight_double = weight_below (λ b. tree_node false b.token (map nid_of b.entries.slots.items) b.entries.dirty) (λ b. b.entries.slots.items) weight_indirect
+
+-- a node has counted which of its entries have marked nodes below them
+abbrev pub counted_direct : Branch Placed → Type 0
+counted_direct b = AreCounted ticket_weight b.entries.marked b.entries.slots.items
+
+abbrev pub counted_indirect : Branch (Branch Placed) → Type 0
+counted_indirect b = AreCounted weight_direct b.entries.marked b.entries.slots.items
+
+abbrev pub counted_double : Branch (Branch (Branch Placed)) → Type 0
+counted_double b = AreCounted weight_indirect b.entries.marked b.entries.slots.items
+
 abbrev pub shaped_direct : ℕ → Option (Branch Placed) → Type 0
-shaped_direct e = ShapedBelow (λ b. b.entries.slots.items) (λ _. Unit {0}) e
+shaped_direct e = ShapedBelow (λ b. b.entries.slots.items) (λ _. Unit {0}) counted_direct e
 
 abbrev pub shaped_indirect : ℕ → Option (Branch (Branch Placed)) → Type 0
-shaped_indirect e = ShapedBelow (λ b. b.entries.slots.items) (shaped_direct e) e
+shaped_indirect e = ShapedBelow (λ b. b.entries.slots.items) (shaped_direct e) counted_indirect e
 
 abbrev pub shaped_double : ℕ → Option (Branch (Branch (Branch Placed))) → Type 0
-shaped_double e = ShapedBelow (λ b. b.entries.slots.items) (shaped_indirect e) e
+shaped_double e = ShapedBelow (λ b. b.entries.slots.items) (shaped_indirect e) counted_double e
 
 abbrev pub missing_direct : ℕ → Option (Branch Placed) → ℕ → ℕ
 missing_direct e = missing_below (λ b. b.entries.slots.items) (λ _ _. 0) 1
@@ -56,15 +76,6 @@ missing_indirect e = missing_below (λ b. b.entries.slots.items) (missing_direct
 
 abbrev pub missing_double : ℕ → Option (Branch (Branch (Branch Placed))) → ℕ → ℕ
 missing_double e = missing_below (λ b. b.entries.slots.items) (missing_indirect e) (e * (e * 1))
-
-abbrev pub weight_direct : Weighing Placed → Option (Branch Placed) → ℕ
-weight_direct = weight_below (λ b. tree_node true b.token (map address_of b.entries.slots.items) b.entries.dirty) (λ b. b.entries.slots.items) ticket_weight
-
-abbrev pub weight_indirect : Weighing Placed → Option (Branch (Branch Placed)) → ℕ
-weight_indirect = weight_below (λ b. tree_node false b.token (map nid_of b.entries.slots.items) b.entries.dirty) (λ b. b.entries.slots.items) weight_direct
-
-abbrev pub weight_double : Weighing Placed → Option (Branch (Branch (Branch Placed))) → ℕ
-weight_double = weight_below (λ b. tree_node false b.token (map nid_of b.entries.slots.items) b.entries.dirty) (λ b. b.entries.slots.items) weight_indirect
 
 abbrev pub content_of : Option Placed → Option Block
 content_of None = None

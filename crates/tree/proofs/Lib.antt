@@ -5,3 +5,4 @@ pub mod Below
 pub mod Naming
 pub mod Results
 pub mod Balance
+pub mod Counting

@@ -24,11 +24,11 @@ nothing_past_in find Shaped span h none count slots i w p =
     let past : entry_at slots (i / span) ≡ None = get_or_past slots (i / span) None (omega (arith, w.0)) in
     rw past (none (i % span))
 
-pub nothing_past : {B C L : Type 0} (slots : B → List (Option C)) (find : Option C → ℕ → Option L) (Shaped : Option C → Type 0) (span : ℕ)
+pub nothing_past : {B C L : Type 0} (slots : B → List (Option C)) (find : Option C → ℕ → Option L) (Shaped : Option C → Type 0) (Counted : B → Type 0) (span : ℕ)
     → 0 < span → ((k : ℕ) → find None k ≡ None)
-    → (e : ℕ) (s : Option B) (i : ℕ) → ShapedBelow slots Shaped e s → e * span ≤ i → find_below slots find span s i ≡ None
-nothing_past slots find Shaped span h none e None i w p = refl
-nothing_past slots find Shaped span h none e (Some b) i w p = nothing_past_in find Shaped span h none e (slots b) i w p
+    → (e : ℕ) (s : Option B) (i : ℕ) → ShapedBelow slots Shaped Counted e s → e * span ≤ i → find_below slots find span s i ≡ None
+nothing_past slots find Shaped Counted span h none e None i w p = refl
+nothing_past slots find Shaped Counted span h none e (Some b) i w p = nothing_past_in find Shaped span h none e (slots b) i w.0 p
 
 pub weightless : {L : Type 0} (w : Weighing L) (s : Option L) → ((t : L) → w.ticket t ≡ 0) → ticket_weight w s ≡ 0
 weightless w None none = refl

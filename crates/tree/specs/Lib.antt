@@ -1,5 +1,6 @@
 pub mod Tree
 pub mod Change
+pub mod Marks
 pub mod Laws
 pub mod Pruned
 pub mod Useful

@@ -26,10 +26,10 @@ abbrev pub token_weight : {C : Type 0} → (Entry → ℕ) → Option (Branch C)
 token_weight h None = 0
 token_weight h (Some b) = h b.token
 
--- a node that is still to be written, of so many entries that name nothing
+-- a node that is still to be written, of so many entries that name nothing, so that none has a marked node below it
 abbrev pub IsEmptyNode : {C : Type 0} → ℕ → Option (Branch C) → Type 0
 IsEmptyNode entries None = Unit {0}
-IsEmptyNode entries (Some b) = (length b.entries.slots.items ≡ entries) × AreNone b.entries.slots.items × (b.entries.dirty ≡ true)
+IsEmptyNode entries (Some b) = (length b.entries.slots.items ≡ entries) × AreNone b.entries.slots.items × (b.entries.dirty ≡ true) × (b.entries.marked ≡ 0)
 
 -- the number of the node whose entries name tickets, 0 where there is none
 abbrev pub number_at_end : {C S : Type 0} → Bool → (S → ℕ) → Option (Branch C) → S → ℕ

@@ -64,9 +64,10 @@ abbrev pub missing_below : {B C : Type 0} → (B → List (Option C)) → (Optio
 missing_below slots missing span None i = 1 + missing None (i % span)
 missing_below slots missing span (Some b) i = missing_in missing span (slots b) i
 
-abbrev pub ShapedBelow : {B C : Type 0} → (B → List (Option C)) → (Option C → Type 0) → ℕ → Option B → Type 0
-ShapedBelow slots Shaped entries None = Unit {0}
-ShapedBelow slots Shaped entries (Some b) = ShapedIn Shaped entries (slots b)
+-- and a node has counted which of its entries have marked nodes below them
+abbrev pub ShapedBelow : {B C : Type 0} → (B → List (Option C)) → (Option C → Type 0) → (B → Type 0) → ℕ → Option B → Type 0
+ShapedBelow slots Shaped Counted entries None = Unit {0}
+ShapedBelow slots Shaped Counted entries (Some b) = ShapedIn Shaped entries (slots b) × Counted b
 
 -- the number of the node whose entries hold an index, below a node which may be missing
 abbrev pub namer_below : {B C : Type 0} → (B → ℕ) → (B → List (Option C)) → Bool → (Option C → ℕ → Option ℕ) → ℕ → Option B → ℕ → Option ℕ

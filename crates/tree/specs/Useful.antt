@@ -98,19 +98,19 @@ module _ {B C : Type 0} (slots : B → List (Option C)) (Useful : (ℕ → ℕ �
   never_below never e first None = tt
   never_below never e first (Some b) = (λ no. absurd (no_leaf no), λ k. never (first + k * span) (entry_at (slots b) k))
 
-  module _ (Shaped : Option C → Type 0) (positive : 0 < span) (none : (asked : ℕ → ℕ → Bool) (first : ℕ) → Useful asked first None)
+  module _ (Shaped : Option C → Type 0) (Counted : B → Type 0) (positive : 0 < span) (none : (asked : ℕ → ℕ → Bool) (first : ℕ) → Useful asked first None)
       (either : (asked one other : ℕ → ℕ → Bool) (first : ℕ) (s : Option C) → Shaped s → AsksEither first (first + span) asked one other
       → Useful one first s → Useful other first s → Useful asked first s) where
-    pub either_below : (e : ℕ) → 0 < e → (asked one other : ℕ → ℕ → Bool) (first : ℕ) (s : Option B) → ShapedBelow slots Shaped e s
+    pub either_below : (e : ℕ) → 0 < e → (asked one other : ℕ → ℕ → Bool) (first : ℕ) (s : Option B) → ShapedBelow slots Shaped Counted e s
         → AsksEither first (first + e * span) asked one other → UsefulBelow slots Useful span e one first s → UsefulBelow slots Useful span e other first s
         → UsefulBelow slots Useful span e asked first s
     either_below e h asked one other first None w test p q = tt
     either_below e h asked one other first (Some b) w test p q =
         let wide = times_positive e span h positive in (
           λ is empty. elim (test first (first + e * span) (omega arith) (omega arith) (omega arith) is) [ inl o ↦ p.0 o empty | inr o ↦ q.0 o empty ],
-          entries_below Useful Shaped span none e (slots b) w asked first (λ k lt.
+          entries_below Useful Shaped span none e (slots b) w.0 asked first (λ k lt.
               let far = within k e span lt in
-              either asked one other (first + k * span) (entry_at (slots b) k) (w.1 k)
+              either asked one other (first + k * span) (entry_at (slots b) k) (w.0.1 k)
               (λ start end from some to is. test start end (omega arith) some (omega arith) is) (p.1 k) (q.1 k)),
         )
 
@@ -118,12 +118,12 @@ module _ {B C : Type 0} (slots : B → List (Option C)) (Useful : (ℕ → ℕ �
         (never : (first : ℕ) (s : Option C) → Useful (λ _ _. false) first s)
         (found : (asked : ℕ → ℕ → Bool) (first i : ℕ) (s : Option C) (t : L) → Shaped s → find s i ≡ Some t
         → ((start end : ℕ) → asked start end ≡ true → (start ≤ first + i) × (first + i < end)) → Useful asked first s) where
-      pub found_below : (e : ℕ) (asked : ℕ → ℕ → Bool) (first i : ℕ) (s : Option B) (t : L) → ShapedBelow slots Shaped e s
+      pub found_below : (e : ℕ) (asked : ℕ → ℕ → Bool) (first i : ℕ) (s : Option B) (t : L) → ShapedBelow slots Shaped Counted e s
           → find_below slots find span s i ≡ Some t → ((start end : ℕ) → asked start end ≡ true → (start ≤ first + i) × (first + i < end))
           → UsefulBelow slots Useful span e asked first s
       found_below e asked first i None t w is holds = absurd (let no : ◌≡◌ {A = Option L} None (Some t) = is in cc)
       found_below e asked first i (Some b) t w is holds = (
         λ _ empty. (let nothing : find (entry_at (slots b) (i / span)) (i % span) ≡ None = ap (λ x. find x (i % span)) (empty (i / span)) ∙ find_none (i % span) in
             absurd (let no : ◌≡◌ {A = Option L} None (Some t) = sym nothing ∙ is in cc)),
-        found_in Useful Shaped span none either never find found e asked first i (slots b) t w is holds,
+        found_in Useful Shaped span none either never find found e asked first i (slots b) t w.0 is holds,
       )

@@ -2,6 +2,7 @@
 ghost use Rattle.std.specs.Prelude.{◌≡◌, ◌*◌, ◌<◌, None, true, false, map, replicate, IfOk, IfErr};
 ghost use Rattle.tree.specs.Tree.{find_below, missing_below, namer_below, ShapedBelow, UsefulBelow, AreNone, number_of};
 ghost use Rattle.tree.specs.Change.{tree_node, weight_below};
+ghost use Rattle.tree.specs.Marks.{AreCounted};
 
 use crate::entries::Entries;
 use crate::subtree::Subtree;
@@ -20,6 +21,7 @@ impl<C> Branch<C> {
         ensures entries { IfOk result (λ node. node.entries.slots.items ≡ replicate entries None) }
         ensures nothing { IfOk result (λ node. AreNone node.entries.slots.items) }
         ensures marked { IfOk result (λ node. node.entries.dirty ≡ true) }
+        ensures none_below { IfOk result (λ node. node.entries.marked ≡ 0) }
         ensures token { IfOk result (λ node. node.token ≡ token) }
         ensures refused { IfErr result (λ back. back ≡ token) }
     {
@@ -61,7 +63,7 @@ impl<C: Subtree> Subtree for Branch<C> {
 
     ghost missing = { λ e slot i. missing_below (λ b. b.entries.slots.items) (C.missing e) (C.span_of e) slot i };
 
-    ghost shaped = { λ e slot. ShapedBelow (λ b. b.entries.slots.items) (C.shaped e) e slot };
+    ghost shaped = { λ e slot. ShapedBelow (λ b. b.entries.slots.items) (C.shaped e) (λ b. AreCounted C.weight b.entries.marked b.entries.slots.items) e slot };
 
     ghost useful = { λ e asked first slot. UsefulBelow (λ b. b.entries.slots.items) (C.useful e) (C.span_of e) e asked first slot };
 
@@ -77,7 +79,7 @@ impl<C: Subtree> Subtree for Branch<C> {
 
     ghost find_none = { λ _ _. refl };
 
-    ghost find_past = { λ e s i h w p. nothing_past (λ b. b.entries.slots.items) (C.find e) (C.shaped e) (C.span_of e) (C.span_positive e h) (C.find_none e) e s i w p };
+    ghost find_past = { λ e s i h w p. nothing_past (λ b. b.entries.slots.items) (C.find e) (C.shaped e) (λ b. AreCounted C.weight b.entries.marked b.entries.slots.items) (C.span_of e) (C.span_positive e h) (C.find_none e) e s i w p };
 
     ghost shaped_none = { λ _. tt };
 
@@ -85,7 +87,7 @@ impl<C: Subtree> Subtree for Branch<C> {
 
     ghost useful_never = { λ e first s. never_below (λ b. b.entries.slots.items) (C.useful e) (C.span_of e) (λ f x. C.useful_never e f x) e first s };
 
-    ghost useful_either = { λ e asked one other first s h w either p q. either_below (λ b. b.entries.slots.items) (C.useful e) (C.span_of e) (C.shaped e) (C.span_positive e h) (λ a f. C.useful_none e a f) (λ a o r f x v k y z. C.useful_either e a o r f x h v k y z) e h asked one other first s w either p q };
+    ghost useful_either = { λ e asked one other first s h w either p q. either_below (λ b. b.entries.slots.items) (C.useful e) (C.span_of e) (C.shaped e) (λ b. AreCounted C.weight b.entries.marked b.entries.slots.items) (C.span_positive e h) (λ a f. C.useful_none e a f) (λ a o r f x v k y z. C.useful_either e a o r f x h v k y z) e h asked one other first s w either p q };
 
     ghost weight_none = { λ _. refl };
 
@@ -115,6 +117,13 @@ impl<C: Subtree> Subtree for Branch<C> {
         match slot {
             Some(branch) => branch.token.number(),
             None => 0,
+        }
+    }
+
+    fn has_mark(slot: &Option<Branch<C>>) -> bool {
+        match slot {
+            Some(branch) => branch.entries.dirty || branch.entries.marked > 0,
+            None => false,
         }
     }
 }

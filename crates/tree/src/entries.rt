@@ -12,6 +12,7 @@ use std::alloc::{AllocError, Global};
 mod change;
 mod cut;
 mod erase;
+mod mark;
 mod migrate;
 
 /// The entries of a node, each of which names a ticket, a node or nothing, and whether one was changed since they were
@@ -19,6 +20,8 @@ mod migrate;
 pub struct Entries<C> {
     pub slots: Slots<C>,
     pub dirty: bool,
+    /// How many entries have a marked node below them.
+    pub marked: usize,
 }
 
 /// What a walk over the entries found: something to hand out, nothing, or that no entry names anything.
@@ -34,16 +37,25 @@ impl<C> Entries<C> {
         ensures slots { IfOk result (λ entries. entries.slots.items ≡ replicate count None) }
         ensures nothing { IfOk result (λ entries. AreNone entries.slots.items) }
         ensures marked { IfOk result (λ entries. entries.dirty ≡ true) }
+        ensures none_below { IfOk result (λ entries. entries.marked ≡ 0) }
     {
         let slots = Slots::new(alloc, count)?;
-        Ok(Entries { slots, dirty: true })
+        Ok(Entries {
+            slots,
+            dirty: true,
+            marked: 0,
+        })
     }
 
     /// Frees entries that name nothing.
     pub fn destroy(self)
         requires { AreNone self.slots.items }
     {
-        let Entries { slots, dirty: _ } = self;
+        let Entries {
+            slots,
+            dirty: _,
+            marked: _,
+        } = self;
         slots.destroy();
     }
 

@@ -3,6 +3,7 @@ ghost use Rattle.std.specs.Prelude.{Bool, ◌≡◌, ℕ, ◌+◌, ◌*◌, ◌/
 ghost use Rattle.rights_books.specs.declared.claim.Entry.{Entry};
 ghost use Rattle.tree.specs.Tree.{Same, ShapedIn, UsefulIn, SparesIndex, entry_at, find_in, missing_in};
 ghost use Rattle.tree.specs.Change.{TreeNode, ChangesEntries, IsNewNode, nothing};
+ghost use Rattle.tree.specs.Marks.{AreCounted};
 ghost use Rattle.tree.specs.Spares.{KeepsNames, lacking_in};
 
 use crate::planting::Planting;
@@ -86,6 +87,7 @@ pub fn plant_in<C: Planting>(
     ensures shaped { ShapedIn (C.shaped entries) count below.new.slots.items }
     ensures grown { result ≡ true → missing_in (C.missing entries) (C.span_of entries) below.new.slots.items index + 1 ≡ missing_in (C.missing entries) (C.span_of entries) below.old.slots.items index }
     ensures none { result ≡ false → (missing_in (C.missing entries) (C.span_of entries) below.old.slots.items index ≡ 0) × (below.new ≡ below.old) × (spares.new ≡ spares.old) }
+    ensures counted { AreCounted C.weight below.old.marked below.old.slots.items → AreCounted C.weight below.new.marked below.new.slots.items }
     ensures ready { lacking_in (C.lacking entries) (C.span_of entries) below.new.slots.items index spares.new ≡ 0 }
     ensures empty { C.empty_nodes entries spares.new }
     ensures change { result ≡ true → (n : TreeNode) × IsNewNode n.token n
@@ -120,16 +122,20 @@ fn plant_at<C: Planting>(
     ensures shaped { C.shaped entries (entry_at below.new.slots.items at) }
     ensures grown { result ≡ true → C.missing entries (entry_at below.new.slots.items at) index + 1 ≡ C.missing entries (entry_at below.old.slots.items at) index }
     ensures none { result ≡ false → (C.missing entries (entry_at below.old.slots.items at) index ≡ 0) × (below.new ≡ below.old) × (spares.new ≡ spares.old) }
+    ensures counted { AreCounted C.weight below.old.marked below.old.slots.items → AreCounted C.weight below.new.marked below.new.slots.items }
     ensures ready { C.lacking entries (entry_at below.new.slots.items at) index spares.new ≡ 0 }
     ensures empty { C.empty_nodes entries spares.new }
     ensures change { result ≡ true → (n : TreeNode) × IsNewNode n.token n
         × ChangesEntries C.number C.weight below.old.slots.items below.new.slots.items below.old.dirty below.new.dirty nothing (λ w. w.node n)
         × ((h : Entry → ℕ) → C.tokens_of h spares.new + h n.token ≡ C.tokens_of h spares.old) }
 {
-    let fresh = below.slots[at].is_none();
+    let slot = &below.slots[at];
+    let fresh = slot.is_none();
+    let was = C::has_mark(slot);
     if !C::plant(&mut below.slots[at], spares, entries, index) {
         return false;
     }
+    below.recount(at, was);
     if fresh {
         below.dirty = true;
     }

@@ -1,7 +1,7 @@
 //! What an entry of a node may name: the ticket of a block, or a node with entries of its own.
-ghost use Rattle.std.specs.Prelude.{◌≡◌, ℕ, ◌+◌, ◌^◌, ◌<◌, ◌≤◌, List, Bool, true, false, Option, Some, None};
+ghost use Rattle.std.specs.Prelude.{◌≡◌, ◌↔◌, ℕ, ◌+◌, ◌^◌, ◌<◌, ◌≤◌, List, Bool, true, false, Option, Some, None};
 ghost use Rattle.tree.specs.Tree.{AsksEither, only_at_zero, number_of};
-ghost use Rattle.tree.specs.Change.{Weighing, ticket_weight};
+ghost use Rattle.tree.specs.Change.{Weighing, each_marked, ticket_weight};
 
 use device::Block;
 use tickets::Ticket;
@@ -60,6 +60,10 @@ pub trait Subtree {
     /// nothing.
     fn entry(slot: &Option<Self>) -> u32
         ensures { result ≡ number slot.now };
+
+    /// Whether a node is marked. In a tree of its shape a node counts its marked entries, so nothing below it is looked at.
+    fn has_mark(slot: &Option<Self>) -> bool
+        ensures { (entries : ℕ) → shaped entries slot.now → ((result ≡ false) ↔ (weight each_marked slot.now ≡ 0)) };
 
     ghost span_positive: { (e : ℕ) → 0 < e → 0 < span_of e };
 
@@ -168,5 +172,9 @@ impl<B: Block> Subtree for Ticket<B> {
             Some(ticket) => ticket.address(),
             None => 0,
         }
+    }
+
+    fn has_mark(_slot: &Option<Ticket<B>>) -> bool {
+        false
     }
 }

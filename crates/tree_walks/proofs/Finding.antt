@@ -1,7 +1,8 @@
 -- A node below one entry is a node below all of them, and one that is moved there is moved in the whole; an index's
 -- last digit is the entry that names it, whatever comes before.
-use Rattle.std.proofs.Common.{◌≡◌, ℕ, ◌+◌, ◌*◌, ◌/◌, ◌%◌, ◌<◌, Bool, true, if◌then◌else◌, List, length, get_or, set, map, Option, Some, None, ap, sym, ◌∙◌, inl, inr, arith}
-use Rattle.std.specs.Prelude.{IfSome}
+use Rattle.std.proofs.Common.{◌≡◌, ℕ, ◌+◌, ◌*◌, ◌/◌, ◌%◌, ◌<◌, Bool, true, false, Ok, Err, if◌then◌else◌, List, length, get_or, set, map, Option, Some, None, refl, ap, sym, ◌∙◌, inl, inr, arith}
+use Rattle.std.specs.Prelude.{IfSome, IfOk, IfErr}
+use Rattle.std.specs.declared.result.Result.{Result}
 use Rattle.std.proofs.lemmas.Bool.{cases_lt}
 use Rattle.std.proofs.lemmas.List.{get_or_past, length-map}
 use Rattle.std.proofs.lemmas.Nat.{mod-mul-add}
@@ -13,7 +14,8 @@ use Rattle.rights_books.specs.declared.claim.Entry.{Entry}
 use Rattle.tree.specs.declared.branch.Branch.{Branch}
 use Rattle.tree.specs.declared.entries.Entries.{Entries}
 use Rattle.tree.specs.Tree.{number_of, find_in, entry_at}
-use Rattle.tree.specs.Change.{TreeNode, Weighing, tree_node}
+use Rattle.tree.specs.Change.{TreeNode, Weighing, tree_node, each_marked}
+use Rattle.tree.specs.Marks.{one_of, mark_of, AreCounted}
 use Rattle.tree_walks.specs.Writing.{IsAmong}
 use Rattle.tree_walks.proofs.Walks.{among_entries, among_below}
 use Rattle.tree_walks.specs.Moving.{MovesOne}
@@ -103,3 +105,23 @@ names_own leaf is number nid same rest = ap (λ (b : Bool). if b then Some numbe
 pub if_some : {A : Type 0} {P Q : A → Type 0} (o : Option A) → IfSome o P → ((x : A) → P x → Q x) → IfSome o Q
 if_some (Some x) h f = f x h
 if_some None h f = tt
+
+-- who moves a node's block marks none
+pub marks_stay : {L C E : Type 0} (weight : Weighing L → Option C → ℕ) (x y : Option C) (r : Result Bool E)
+    → IfOk r (λ found. found ≡ true → (n : TreeNode) × (token : Entry) × MovesOne (λ w. weight w x) (λ w. weight w y) n token)
+    → IfOk r (λ found. found ≡ false → y ≡ x) → IfErr r (λ e. y ≡ x) → weight each_marked y ≡ weight each_marked x
+marks_stay weight x y (Ok true) moved none failed =
+    let one = moved refl in
+    let trades = one.2.trades each_marked in
+    omega arith
+marks_stay weight x y (Ok false) moved none failed = ap (weight each_marked) (none refl)
+marks_stay weight x y (Err e) moved none failed = ap (weight each_marked) failed
+
+-- so as many entries are counted
+pub still_counted : {L C : Type 0} (weight : Weighing L → Option C → ℕ) (xs : List (Option C)) (i : ℕ) (x y : Option C) (count : ℕ)
+    → i < length xs → x ≡ get_or xs i x → weight each_marked y ≡ weight each_marked x → AreCounted weight count xs → AreCounted weight count (set xs i y)
+still_counted weight xs i x y count inside is marks counted =
+    let all = weigh-set (mark_of weight) xs i y x inside in
+    let e : mark_of weight y ≡ mark_of weight x = ap one_of marks in
+    let was : mark_of weight x ≡ mark_of weight (get_or xs i x) = ap (mark_of weight) is in
+    omega arith

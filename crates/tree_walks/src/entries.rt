@@ -4,6 +4,7 @@ ghost use Rattle.geometry.specs.Weights.{weigh};
 ghost use Rattle.rights_books.specs.declared.claim.Entry.{Entry};
 ghost use Rattle.tree.specs.Tree.{Same, ShapedIn, UsefulIn, AreNone, entry_at, find_in};
 ghost use Rattle.tree.specs.Change.{TreeNode, tree_node, each_marked};
+ghost use Rattle.tree.specs.Marks.{AreCounted};
 ghost use Rattle.tree_walks.specs.Writing.{IsAmong, WritesOne, marked_node};
 
 use crate::walk::Walk;
@@ -59,6 +60,7 @@ pub fn write_branch<C: Subtree, W: NodeWriter>(
     ensures same { OnErr result (branch.new ≡ branch.old) }
     ensures number { branch.new.token.number ≡ branch.old.token.number }
     ensures slots { branch.new.entries.slots ≡ branch.old.entries.slots }
+    ensures count { branch.new.entries.marked ≡ branch.old.entries.marked }
     ensures room { length numbers.new ≡ length numbers.old }
 {
     let numbers = &mut numbers[..branch.entries.slots.len()];
@@ -73,7 +75,8 @@ pub fn write_branch<C: Subtree, W: NodeWriter>(
     }
 }
 
-// Lends the first marked node below one entry to the writer, of those that begin at or past an index.
+// Lends the first marked node below one entry to the writer, of those that begin at or past an index. Below an entry that has no
+// marked node it looks at nothing.
 fn flush_at<C: Walk, W: NodeWriter>(
     below: &mut Entries<C>,
     place: usize,
@@ -101,9 +104,15 @@ fn flush_at<C: Walk, W: NodeWriter>(
     ensures shaped { C.shaped entries (entry_at below.new.slots.items place) }
     ensures numbers { map C.number below.new.slots.items ≡ map C.number below.old.slots.items }
     ensures mark { below.new.dirty ≡ below.old.dirty }
+    ensures counted { AreCounted C.weight below.old.marked below.old.slots.items → AreCounted C.weight below.new.marked below.new.slots.items }
     ensures room { length numbers.new ≡ length numbers.old }
 {
-    C::flush_next(&mut below.slots[place], entries, from, numbers, writer)
+    if !C::has_mark(&below.slots[place]) {
+        return Ok(false);
+    }
+    let found = C::flush_next(&mut below.slots[place], entries, from, numbers, writer);
+    below.recount(place, true);
+    found
 }
 
 /// Lends the first marked node below entries to the writer, one entry after another, of those that begin at or past an index.
@@ -132,6 +141,7 @@ pub fn flush_entries<C: Walk, W: NodeWriter>(
     ensures shaped { ShapedIn (C.shaped entries) count below.new.slots.items }
     ensures numbers { map C.number below.new.slots.items ≡ map C.number below.old.slots.items }
     ensures mark { below.new.dirty ≡ below.old.dirty }
+    ensures counted { AreCounted C.weight below.old.marked below.old.slots.items → AreCounted C.weight below.new.marked below.new.slots.items }
     ensures room { length numbers.new ≡ length numbers.old }
 {
     let span = C::span(entries);

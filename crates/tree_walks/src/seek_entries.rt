@@ -4,6 +4,7 @@ ghost use Rattle.geometry.specs.Weights.{weigh};
 ghost use Rattle.rights_books.specs.declared.claim.Entry.{Entry};
 ghost use Rattle.tree.specs.Tree.{Same, ShapedIn, UsefulIn, AreNone, entry_at, find_in, number_of};
 ghost use Rattle.tree.specs.Change.{TreeNode, each_naming};
+ghost use Rattle.tree.specs.Marks.{AreCounted};
 ghost use Rattle.tree_walks.specs.Writing.{IsAmong};
 ghost use Rattle.tree_walks.specs.Moving.{MovesOne, each_numbered};
 
@@ -73,6 +74,7 @@ fn visit_at<C: Seek, V: NodeVisitor>(
     ensures shaped { C.shaped entries (entry_at below.new.slots.items place) }
     ensures numbers { map C.number below.new.slots.items ≡ map C.number below.old.slots.items }
     ensures mark { below.new.dirty ≡ below.old.dirty }
+    ensures counted { AreCounted C.weight below.old.marked below.old.slots.items → AreCounted C.weight below.new.marked below.new.slots.items }
 {
     C::visit_node(&mut below.slots[place], entries, nid, visitor)
 }
@@ -99,6 +101,7 @@ pub fn visit_in<C: Seek, V: NodeVisitor>(
     ensures shaped { ShapedIn (C.shaped entries) count below.new.slots.items }
     ensures numbers { map C.number below.new.slots.items ≡ map C.number below.old.slots.items }
     ensures mark { below.new.dirty ≡ below.old.dirty }
+    ensures counted { AreCounted C.weight below.old.marked below.old.slots.items → AreCounted C.weight below.new.marked below.new.slots.items }
 {
     for place in 0..below.slots.end() {
         if visit_at(below, place, entries, nid, visitor)? {

@@ -2,6 +2,7 @@
 ghost use Rattle.std.specs.Prelude.{◌≡◌, ℕ, Bool, ◌+◌, ◌*◌, ◌-◌, ◌^◌, ◌<◌, ◌/◌, ◌%◌, Some, length, slice_set};
 ghost use Rattle.tree.specs.Tree.{find_in, missing_in, ShapedIn, SetsAt, Same, UsefulIn, SparesIndex, entry_at};
 ghost use Rattle.tree.specs.Change.{ChangesEntries, ticket_weight};
+ghost use Rattle.tree.specs.Marks.{AreCounted};
 
 use super::Entries;
 use crate::Changing;
@@ -26,6 +27,7 @@ impl<C: Changing> Entries<C> {
         ensures useful { (asked : ℕ → ℕ → Bool) (first : ℕ) → SparesIndex asked (first + index) → UsefulIn (C.useful entries) (C.span_of entries) asked first self.old.slots.items → UsefulIn (C.useful entries) (C.span_of entries) asked first self.new.slots.items }
         ensures shaped { ShapedIn (C.shaped entries) count self.new.slots.items }
         ensures change { ChangesEntries C.number C.weight self.old.slots.items self.new.slots.items self.old.dirty self.new.dirty (λ w. ticket_weight w result) (λ w. w.ticket ticket) }
+        ensures counted { AreCounted C.weight self.old.marked self.old.slots.items → AreCounted C.weight self.new.marked self.new.slots.items }
     {
         let span = C::span(entries);
         self.put_at(index / span, entries, index % span, ticket)
@@ -51,8 +53,11 @@ impl<C: Changing> Entries<C> {
         ensures useful { (asked : ℕ → ℕ → Bool) (first : ℕ) → SparesIndex asked (first + index) → C.useful entries asked first (entry_at self.old.slots.items at) → C.useful entries asked first (entry_at self.new.slots.items at) }
         ensures shaped { C.shaped entries (entry_at self.new.slots.items at) }
         ensures change { ChangesEntries C.number C.weight self.old.slots.items self.new.slots.items self.old.dirty self.new.dirty (λ w. ticket_weight w result) (λ w. w.ticket ticket) }
+        ensures counted { AreCounted C.weight self.old.marked self.old.slots.items → AreCounted C.weight self.new.marked self.new.slots.items }
     {
+        let was = C::has_mark(&self.slots[at]);
         let old = C::put(&mut self.slots[at], entries, index, ticket);
+        self.recount(at, was);
         self.mark(C::is_leaf());
         old
     }

@@ -2,6 +2,7 @@
 ghost use Rattle.std.specs.Prelude.{◌≡◌, ◌≢◌, ℕ, Bool, ◌+◌, ◌*◌, ◌-◌, ◌^◌, ◌<◌, ◌/◌, ◌%◌, Option, Some, None, is_none, length, slice_set, MatchOption};
 ghost use Rattle.tree.specs.Tree.{find_in, ShapedIn, KeepsNamers, EmptyFrom, HandsOut, UsefulIn, SparesPast, AsksPast, AreNone, entry_at};
 ghost use Rattle.tree.specs.Change.{Weighing, ChangesEntries, WeighsAs, nothing};
+ghost use Rattle.tree.specs.Marks.{AreCounted};
 ghost use Rattle.tree.specs.Pruned.{MatchPruned};
 
 use super::{Entries, Pruned, names_nothing};
@@ -28,6 +29,7 @@ impl<C: Changing> Entries<C> {
         ensures change { MatchPruned result
             (λ spare. (out : Weighing C.Leaf → ℕ) × WeighsAs spare out × ChangesEntries C.number C.weight self.old.slots.items self.new.slots.items self.old.dirty self.new.dirty out nothing)
             (Unit {0}) (Unit {0}) }
+        ensures counted { AreCounted C.weight self.old.marked self.old.slots.items → AreCounted C.weight self.new.marked self.new.slots.items }
     {
         let span = C::span(entries);
         let first = from / span;
@@ -63,6 +65,7 @@ impl<C: Changing> Entries<C> {
             (λ spare. HandsOut (find_in (C.find entries) (C.span_of entries) self.old.slots.items) (find_in (C.find entries) (C.span_of entries) self.new.slots.items) from spare) }
         ensures change { MatchOption result (Unit {0})
             (λ spare. (out : Weighing C.Leaf → ℕ) × WeighsAs spare out × ChangesEntries C.number C.weight self.old.slots.items self.new.slots.items self.old.dirty self.new.dirty out nothing) }
+        ensures counted { AreCounted C.weight self.old.marked self.old.slots.items → AreCounted C.weight self.new.marked self.new.slots.items }
     {
         match self.prune(count, entries, from) {
             Pruned::Found(spare) => Some(spare),
@@ -88,11 +91,15 @@ impl<C: Changing> Entries<C> {
             (λ spare. HandsOut (C.find entries (entry_at self.old.slots.items at)) (C.find entries (entry_at self.new.slots.items at)) from spare) }
         ensures change { MatchOption result (Unit {0})
             (λ spare. (out : Weighing C.Leaf → ℕ) × WeighsAs spare out × ChangesEntries C.number C.weight self.old.slots.items self.new.slots.items self.old.dirty self.new.dirty out nothing) }
+        ensures counted { AreCounted C.weight self.old.marked self.old.slots.items → AreCounted C.weight self.new.marked self.new.slots.items }
     {
+        let was = C::has_mark(&self.slots[at]);
         let Some(spare) = C::prune(&mut self.slots[at], entries, from) else {
             return None;
         };
-        let emptied = self.slots[at].is_none();
+        self.recount(at, was);
+        let slot = &self.slots[at];
+        let emptied = slot.is_none();
         self.mark(emptied);
         Some(spare)
     }

@@ -2,6 +2,7 @@
 ghost use Rattle.std.specs.Prelude.{◌≡◌, ℕ, Bool, ◌+◌, ◌*◌, ◌-◌, ◌^◌, ◌<◌, ◌/◌, ◌%◌, Option, Some, None, is_none, length, slice_set, MatchOption};
 ghost use Rattle.tree.specs.Tree.{find_in, ShapedIn, KeepsNamers, HandsOutAt, UsefulIn, SparesIndex, AsksHolding, entry_at};
 ghost use Rattle.tree.specs.Change.{Weighing, ChangesEntries, WeighsAs, nothing};
+ghost use Rattle.tree.specs.Marks.{AreCounted};
 
 use super::Entries;
 use crate::Changing;
@@ -26,6 +27,7 @@ impl<C: Changing> Entries<C> {
             (λ spare. HandsOutAt (find_in (C.find entries) (C.span_of entries) self.old.slots.items) (find_in (C.find entries) (C.span_of entries) self.new.slots.items) index spare) }
         ensures change { MatchOption result (Unit {0})
             (λ spare. (out : Weighing C.Leaf → ℕ) × WeighsAs spare out × ChangesEntries C.number C.weight self.old.slots.items self.new.slots.items self.old.dirty self.new.dirty out nothing) }
+        ensures counted { AreCounted C.weight self.old.marked self.old.slots.items → AreCounted C.weight self.new.marked self.new.slots.items }
     {
         let span = C::span(entries);
         let Some(spare) = self.erase_at(index / span, entries, index % span) else {
@@ -53,11 +55,15 @@ impl<C: Changing> Entries<C> {
             (λ spare. HandsOutAt (C.find entries (entry_at self.old.slots.items at)) (C.find entries (entry_at self.new.slots.items at)) index spare) }
         ensures change { MatchOption result (Unit {0})
             (λ spare. (out : Weighing C.Leaf → ℕ) × WeighsAs spare out × ChangesEntries C.number C.weight self.old.slots.items self.new.slots.items self.old.dirty self.new.dirty out nothing) }
+        ensures counted { AreCounted C.weight self.old.marked self.old.slots.items → AreCounted C.weight self.new.marked self.new.slots.items }
     {
+        let was = C::has_mark(&self.slots[at]);
         let Some(spare) = C::erase(&mut self.slots[at], entries, index) else {
             return None;
         };
-        let emptied = self.slots[at].is_none();
+        self.recount(at, was);
+        let slot = &self.slots[at];
+        let emptied = slot.is_none();
         self.mark(emptied);
         Some(spare)
     }

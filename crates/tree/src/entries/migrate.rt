@@ -3,6 +3,7 @@ ghost use Rattle.std.specs.Prelude.{◌≡◌, ◌≢◌, ℕ, Bool, ◌+◌, �
 ghost use Rattle.geometry.specs.Weights.{weigh};
 ghost use Rattle.tree.specs.Tree.{find_in, ShapedIn, Same, SwapsOne, UsefulIn, AreNone, entry_at};
 ghost use Rattle.tree.specs.Change.{ChangesEntries, nothing, each_naming};
+ghost use Rattle.tree.specs.Marks.{AreCounted};
 
 use super::Entries;
 use crate::Changing;
@@ -30,6 +31,7 @@ impl<C: Changing> Entries<C> {
         ensures useful { (asked : ℕ → ℕ → Bool) (first : ℕ) → UsefulIn (C.useful entries) (C.span_of entries) asked first self.old.slots.items → UsefulIn (C.useful entries) (C.span_of entries) asked first self.new.slots.items }
         ensures some { AreNone self.new.slots.items → AreNone self.old.slots.items }
         ensures change { IfOk result (λ before. ChangesEntries C.number C.weight self.old.slots.items self.new.slots.items self.old.dirty self.new.dirty (λ w. w.ticket before) (λ w. w.ticket ticket)) }
+        ensures counted { AreCounted C.weight self.old.marked self.old.slots.items → AreCounted C.weight self.new.marked self.new.slots.items }
         ensures elsewhere { OnErr result (C.is_leaf ≡ true → slice_index_or (map C.number self.old.slots.items) at 0 ≢ from) }
         ensures refused { OnErr result (self.new ≡ self.old) }
         ensures back { IfErr result (λ back. back ≡ ticket) }
@@ -68,6 +70,7 @@ impl<C: Changing> Entries<C> {
         ensures useful { (asked : ℕ → ℕ → Bool) (first : ℕ) → UsefulIn (C.useful entries) (C.span_of entries) asked first self.old.slots.items → UsefulIn (C.useful entries) (C.span_of entries) asked first self.new.slots.items }
         ensures some { AreNone self.new.slots.items → AreNone self.old.slots.items }
         ensures change { IfOk result (λ before. ChangesEntries C.number C.weight self.old.slots.items self.new.slots.items self.old.dirty self.new.dirty (λ w. w.ticket before) (λ w. w.ticket ticket)) }
+        ensures counted { AreCounted C.weight self.old.marked self.old.slots.items → AreCounted C.weight self.new.marked self.new.slots.items }
         ensures elsewhere { OnErr result (weigh (C.weight (each_naming nid at from)) self.old.slots.items ≡ 0) }
         ensures refused { OnErr result (self.new ≡ self.old) }
         ensures back { IfErr result (λ back. back ≡ ticket) }
@@ -107,12 +110,17 @@ impl<C: Changing> Entries<C> {
         ensures namer { Same (C.namer entries (entry_at self.old.slots.items place)) (C.namer entries (entry_at self.new.slots.items place)) }
         ensures useful { (asked : ℕ → ℕ → Bool) (first : ℕ) → C.useful entries asked first (entry_at self.old.slots.items place) → C.useful entries asked first (entry_at self.new.slots.items place) }
         ensures change { IfOk result (λ before. ChangesEntries C.number C.weight self.old.slots.items self.new.slots.items self.old.dirty self.new.dirty (λ w. w.ticket before) (λ w. w.ticket ticket)) }
+        ensures counted { AreCounted C.weight self.old.marked self.old.slots.items → AreCounted C.weight self.new.marked self.new.slots.items }
         ensures elsewhere { OnErr result (C.weight (each_naming nid at from) (entry_at self.old.slots.items place) ≡ 0) }
         ensures refused { OnErr result (self.new ≡ self.old) }
         ensures back { IfErr result (λ back. back ≡ ticket) }
     {
+        let was = C::has_mark(&self.slots[place]);
         match C::migrate(&mut self.slots[place], entries, nid, at, from, ticket) {
-            Ok(before) => Ok(before),
+            Ok(before) => {
+                self.recount(place, was);
+                Ok(before)
+            }
             Err(back) => Err(back),
         }
     }

@@ -78,6 +78,7 @@ returns-clause-loaded g c =
       number_is = c.requires.placed.numbers n c.take_token-token.result c.take_token-token.ensures.first;
       address = ap (λ m. m.address) mark;
       clean = c.load_entries-entries.ensures.clean;
+      none_below = c.load_entries-entries.ensures.none_below;
       below = subst (λ ns. AreLoaded (g.C.Load.loaded image c.args.stock.now.all n) ns slots) numbers
           (subst (λ s. AreLoaded (g.C.Load.loaded image s n) c.numbers_of-numbers.result.now slots) all c.load_entries-entries.ensures.loaded);
     }

@@ -1,5 +1,6 @@
 use Rattle.std.proofs.Common.{◌≡◌, Some, None, refl, sym, ap, subst, map, ◌∙◌, arith}
-use Rattle.tree.specs.Change.{tree_node, nothing}
+use Rattle.tree.specs.Change.{tree_node, nothing, each_marked}
+use Rattle.tree.specs.Marks.{one_of, mark_of}
 use Rattle.tree.specs.Laws.{no_leaf}
 use Rattle.tree.proofs.Changes.{branch_trades, weigh_nothing}
 use Rattle.tree.specs.Spares.{token_weight, IsEmptyNode}
@@ -33,3 +34,15 @@ returns-clause-change g c =
       ),
       λ h. (let gone = ap (token_weight h) c.take.ensures.after in let was = ap (token_weight h) there in omega arith),
     ))
+
+pub returns-clause-shaped : goal.returns-clause-shaped
+returns-clause-shaped g c =
+    let C = g.C.Subtree in
+    let laws = g.met.C.Subtree in
+    let made = c.in-Some-take.node in
+    let there : c.args.spares.now.node ≡ Some made = sym c.take.ensures.value ∙ c.in-Some-take.is in
+    let is = subst (IsEmptyNode c.args.entries) there c.requires.empty.0 in
+    rw c.replace.ensures.after (
+      (is.0, λ k. rw (is.1 k) (laws.shaped_none c.args.entries)),
+      is.3 ∙ sym (weigh_nothing (mark_of C.weight) (ap one_of (laws.weight_none each_marked)) made.entries.slots.items is.1),
+    )

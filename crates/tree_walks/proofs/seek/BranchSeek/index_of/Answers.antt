@@ -45,7 +45,7 @@ returns-then-is_named_at-clause-entry g c =
     let C = g.C.Subtree in
     let shaped = rw c.in-Some.is at c.requires.shaped in
     let low = named_low C.number c.in-Some.branch.entries.slots.items c.args.at c.args.from c.requires.address (c.is_named_at.ensures.0 c.if-is_named_at.true) in
-    entry_own (C.span_of c.args.entries) c.args.entries c.args.at (subst (λ n. c.args.at < n) shaped.0 low)
+    entry_own (C.span_of c.args.entries) c.args.entries c.args.at (subst (λ n. c.args.at < n) shaped.0.0 low)
 
 pub returns-then-not-is_leaf-clause-entry : goal.returns-then-not-is_leaf-clause-entry
 returns-then-not-is_leaf-clause-entry g c =
