@@ -5,14 +5,15 @@ ghost use Rattle.area.specs.Slips.{AreSlipsOf, HaveFreed};
 use crate::MainArea;
 use crate::segment::free_segment;
 use crate::slips::{put_kept, put_or_keep};
+use crate::unsettled::Unsettled;
 use device::Block;
 use pool::PoolPass;
 use rights_names::VolumeName;
 use std::sync::Wait;
 use words::FreeSlip;
 
-/// Puts the slips that an earlier call kept, then frees each retired segment, in ascending order, and puts its slip: the
-/// reserve is filled first. A segment stays retired where a pin is out or no version is complete that is later than the
+/// Puts the slips that an earlier call kept, then frees each segment that was found retired, in ascending order, and puts its slip:
+/// the reserve is filled first. A segment stays retired where a pin is out or no version is complete that is later than the
 /// one in which it was retired. A slip that both queues refuse is kept. Answers how many segments were freed.
 ///
 /// Each segment's lock is taken by itself, and let go before its slip is put. It takes no memory: `kept` has room for a slip of each segment.
@@ -21,6 +22,7 @@ pub fn free_retired<V: VolumeName, B: Block + Drop, R: Wait>(
     area: &MainArea<V, B>,
     pass: &mut PoolPass<V::Words, V::Pool>,
     kept: &mut Vec<FreeSlip>,
+    unsettled: &Unsettled,
 ) -> u32
     requires kept { AreSlipsOf V.Words.words V.Numbers.geometry.segments kept.old.items }
     requires room { V.Numbers.geometry.segments ≤ vec_capacity kept.old }
@@ -32,19 +34,21 @@ pub fn free_retired<V: VolumeName, B: Block + Drop, R: Wait>(
     put_kept(rt, area.pool(), pass, kept, segments);
     let mut count = 0;
     for number in 0..segments {
-        if free_one(rt, area, pass, kept, number) {
+        if free_one(rt, area, pass, kept, unsettled, number) {
             count += 1;
         }
     }
     count
 }
 
-// Frees a segment where it may be freed and there is room for its slip, and puts or keeps that. Answers whether it was freed.
+// Frees a segment that was found retired, where it may be freed and there is room for its slip, and puts or keeps that. Answers
+// whether it was freed.
 fn free_one<V: VolumeName, B: Block + Drop, R: Wait>(
     rt: &R,
     area: &MainArea<V, B>,
     pass: &mut PoolPass<V::Words, V::Pool>,
     kept: &mut Vec<FreeSlip>,
+    unsettled: &Unsettled,
     number: u32,
 ) -> bool
     requires within { number < V.Numbers.geometry.segments }
@@ -53,7 +57,7 @@ fn free_one<V: VolumeName, B: Block + Drop, R: Wait>(
     ensures kept { AreSlipsOf V.Words.words V.Numbers.geometry.segments kept.new.items }
     ensures capacity { vec_capacity kept.new ≡ vec_capacity kept.old }
 {
-    if kept.len() == kept.capacity() {
+    if !unsettled.turn(number).free || kept.len() == kept.capacity() {
         return false;
     }
     match free_locked(rt, area, number) {

@@ -22,6 +22,7 @@ mod segment;
 mod slips;
 mod threading;
 mod threads;
+mod unsettled;
 
 pub use append::Who;
 pub use cells::{LogCell, SegmentCell, ShardCell};
@@ -35,3 +36,4 @@ pub use rooms::{new_rooms, store_slips};
 pub use rows::SectionRow;
 pub use segment::free_segment;
 pub use threading::Threading;
+pub use unsettled::{Turn, Unsettled};

@@ -8,7 +8,7 @@ ghost use Rattle.checkpoint_sync.specs.LocksHeld.{AreHeldFiles, HasTrees};
 ghost use Rattle.checkpoint_sync.specs.TakenFrom.{IsTakenFrom};
 
 use crate::lock_area;
-use area::MainArea;
+use area::{MainArea, Unsettled};
 use checkpoint_image::{AuditedFile, TakenImage};
 use device::Block;
 use geometry::Error;
@@ -19,7 +19,7 @@ use std::sync::Wait;
 
 /// Takes an image of this version of the main area and of all files, whose nodes are written, and which nobody changes
 /// meanwhile. A fresh audit has all permits, so no call is under way, and all locks of the main area are held until the image is
-/// whole. The files stay as they were.
+/// whole. With it comes what there is to do with each segment. The files stay as they were.
 ///
 /// The only error is NoMemory.
 pub fn take_image<V: VolumeName, B: Block + Drop, F: AuditedFile, R: Wait>(
@@ -29,6 +29,7 @@ pub fn take_image<V: VolumeName, B: Block + Drop, F: AuditedFile, R: Wait>(
     files: &mut Vec<F>,
     auditing: &mut Auditing<V::Books, V::Turns>,
     version: u32,
+    unsettled: &mut Unsettled,
 ) -> Result<TakenImage, Error>
     requires fresh { auditing.old.audit ≡ record { book = V.Books.books.book; copies = [] } }
     requires accounts { AreFiles V.Books.books.book (map F.account files.old.items) }
@@ -45,6 +46,7 @@ pub fn take_image<V: VolumeName, B: Block + Drop, F: AuditedFile, R: Wait>(
     ensures error { IfErr result (λ error. error ≡ NoMemory) }
 {
     let mut held = lock_area(rt, alloc, area)?;
+    held.find_unsettled(unsettled);
     held.take_image(
         alloc,
         area.books(),

@@ -2,6 +2,7 @@
 use crate::log::HeldLog;
 use crate::segment::HeldSegment;
 use crate::shard::HeldShard;
+use area::Unsettled;
 use device::Block;
 use rights_names::VolumeName;
 use std::marker::Model;
@@ -22,6 +23,15 @@ impl<'a, V: VolumeName, B: Block + Drop + 'a> Model for HeldArea<'a, V, B> {
     ghost view = { λ a. record { segments = a.segments.items; shards = a.shards.items; logs = a.logs.items } };
 
     ghost invariant = { λ a. IsHeldArea V.Numbers.geometry V.Books.books.book V.Words.words a.segments.items a.shards.items a.logs.items };
+}
+
+impl<'a, V: VolumeName, B: Block + Drop + 'a> HeldArea<'a, V, B> {
+    /// Finds what a completed checkpoint has to do with each segment.
+    pub fn find_unsettled(&self, unsettled: &mut Unsettled) {
+        for number in 0..self.segments.len() {
+            unsettled.find(number as u32, self.segments[number].turn());
+        }
+    }
 }
 
 impl<'a, V: VolumeName, B: Block + Drop + 'a> Drop for HeldArea<'a, V, B> {

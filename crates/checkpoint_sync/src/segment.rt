@@ -1,13 +1,15 @@
 //! A segment whose lock is held.
-ghost use Rattle.std.specs.Prelude.{◌≡◌, ◌<◌, Some};
-ghost use Rattle.geometry.specs.declared.state.State.TheVariants.{Open};
+ghost use Rattle.std.specs.Prelude.{◌≡◌, ◌≢◌, ◌<◌, ◌↔◌, IsTrue, map, Some};
+ghost use Rattle.geometry.specs.declared.state.State.TheVariants.{Open, Prefree};
+ghost use Rattle.sit.specs.Summaries.{is_set};
 ghost use Rattle.sit.specs.Registered.{slip_of};
 ghost use Rattle.checkpoint_sync.specs.LocksHeld.{IsHeldSegment};
 
 use crate::log::HeldLog;
-use area::{MainArea, SegmentCell};
+use area::{MainArea, SegmentCell, Turn};
 use checkpoint_image::{AuditedSegment, HoldsSegment};
 use device::Block;
+use geometry::State;
 use rights_books::{Audit, Books};
 use rights_names::VolumeName;
 use sit::SegmentState;
@@ -56,6 +58,18 @@ impl<'a, V: VolumeName, B: Block + Drop + 'a> HeldSegment<'a, V, B> {
         ensures log { log.new ≡ log.old }
     {
         self.cell.state.show_open(words, &mut log.cell.slip);
+    }
+
+    /// What a completed checkpoint has to do with it.
+    pub fn turn(&self) -> Turn
+        ensures keep { IsTrue result.keep ↔ (self.now.segment.thread.kept ≢ map is_set self.now.segment.summaries) }
+        ensures free { IsTrue result.free ↔ (self.now.segment.state ≡ Prefree) }
+    {
+        let state = &self.cell.state;
+        Turn {
+            keep: !state.is_kept(),
+            free: state.state() == State::Prefree,
+        }
     }
 }
 

@@ -10,7 +10,7 @@ ghost use Rattle.checkpoint_sync.specs.Lent.{shown_by};
 use crate::area_image::take_image;
 use crate::lent::add_files;
 use crate::{HeldFile, release_files};
-use area::MainArea;
+use area::{MainArea, Unsettled};
 use checkpoint::Taken;
 use device::Block;
 use file_cells::FilePass;
@@ -22,7 +22,7 @@ use std::sync::Wait;
 
 /// Takes an image of this version of the whole volume, whose files' locks are held and whose nodes are all written, and with it the
 /// file of each pass lent, the last one first. A fresh audit has all permits, so no call is under way; the image borrows it, so none
-/// begins before the image is written. The locks are let go.
+/// begins before the image is written. With it comes what there is to do with each segment. The locks are let go.
 ///
 /// Answers NoMemory where a growth was refused. What the files are stays.
 pub fn take_volume<'a, 'g, V: VolumeName + 'a, B: Block + Drop + 'a, R: Wait>(
@@ -33,6 +33,7 @@ pub fn take_volume<'a, 'g, V: VolumeName + 'a, B: Block + Drop + 'a, R: Wait>(
     auditing: &'g mut Auditing<V::Books, V::Turns>,
     version: u32,
     passes: &[&FilePass<V>],
+    unsettled: &mut Unsettled,
 ) -> Result<Taken<'g, B>, Error>
     requires fresh { auditing.old.audit ≡ record { book = V.Books.books.book; copies = [] } }
     requires files { AreWritten V.Books.books.book V.Numbers.geometry files.items }
@@ -46,7 +47,7 @@ pub fn take_volume<'a, 'g, V: VolumeName + 'a, B: Block + Drop + 'a, R: Wait>(
     ensures error { IfErr result (λ error. error ≡ NoMemory) }
 {
     let mut files = files;
-    let taken = match take_image(rt, alloc, area, &mut files, auditing, version) {
+    let taken = match take_image(rt, alloc, area, &mut files, auditing, version, unsettled) {
         Ok(image) => Ok(add_files(area.books(), &auditing.audit, image, &files, passes)),
         Err(error) => Err(error),
     };

@@ -18,7 +18,7 @@ use crate::locks::share_files;
 use crate::rows::own_files;
 use crate::telling::tell_written;
 use crate::written::WrittenFile;
-use area::MainArea;
+use area::{MainArea, Unsettled};
 use checkpoint::{PacksCell, Taken};
 use checkpoint_image::TakenImage;
 use checkpoint_sync::take_image;
@@ -159,7 +159,11 @@ fn store_image<V: VolumeName, M: Meta, B: Block + Drop, R: Wait>(
     ensures complete { IfErr result (λ _. packs.new.checkpoint ≡ packs.old.checkpoint) }
     ensures slips { (packs.new.pass ≡ packs.old.pass) × (packs.new.kept ≡ packs.old.kept) }
 {
-    let image = take_image(rt, alloc, area, files, auditing, version);
+    // Nothing is settled after a close.
+    let mut unsettled = Unsettled {
+        turns: Vec::new(alloc),
+    };
+    let image = take_image(rt, alloc, area, files, auditing, version, &mut unsettled);
     tell_written(files);
     let image = image?;
     // What was counted under the locks is not known of the files that came out of them, so they are counted again.

@@ -1,17 +1,18 @@
 -- A bit's place is a word and a place in it, quotient and remainder by 64: so turning one bit of one word changes one
 -- item of the list, and the first one is in the first word that has any.
-use Rattle.std.proofs.Common.{◌≡◌, ◌≢◌, ℕ, zero, suc, ◌+◌, ◌-◌, ◌*◌, ◌/◌, ◌%◌, ◌^◌, ◌<◌, ◌≤◌, min, max, List, [], ◌∷◌, length, get_or, set, replicate, Bool, true, false, Option, Some, None, refl, sym, ap, ◌∙◌, ⊎_elim, arith}
-use Rattle.std.specs.Prelude.{◌==◌, is_some, nat_lt, if◌then◌else◌}
+use Rattle.std.proofs.Common.{◌≡◌, ◌≢◌, ℕ, zero, suc, ◌+◌, ◌-◌, ◌*◌, ◌/◌, ◌%◌, ◌^◌, ◌<◌, ◌≤◌, min, max, List, [], ◌∷◌, length, get_or, set, replicate, Bool, true, false, Option, Some, None, refl, sym, ap, ◌∙◌, ⊎_elim, inl, inr, arith}
+use Rattle.std.specs.Prelude.{◌==◌, is_some, nat_lt, if◌then◌else◌, map}
+use Rattle.std.specs.List.{range_with_len}
 use Rattle.std.proofs.lemmas.Bool.{lt-ltb, le-ltb}
 use Rattle.std.specs.Int.{bit_at, w64, bit_not, trailing_zeros}
 use Rattle.std.specs.Int.RustNames.{bit_or}
 use lib.Bits.{bit_and}
 use mathlib.Core.Logic.{dite}
 use native.Mathlib.Decide.{ℕ_discrete}
-use Rattle.std.proofs.lemmas.List.{get_or_read_under, get_or-set_same, get_or-set_other, get_or_past, length-set, same_lists, length-replicate}
+use Rattle.std.proofs.lemmas.List.{get_or_read_under, get_or-set_same, get_or-set_other, get_or_past, get_or_default, length-set, same_lists, length-replicate}
 use Rattle.std.proofs.lemmas.Bool.{cases_lt}
 use Rattle.std.proofs.lemmas.List.FromFn.{length-map-range_with_len, get_or-map-range_with_len}
-use Rattle.std.proofs.lemmas.Nat.Bits.{bit_at-zero, bit_at_set_same, bit_at_set_other, bit_at_clear_same, bit_at_clear_other, bit_at-trailing_zeros, bit_at_above, bit_at_and, bit_at_or, bit_at_not, bit_at-lt, bit_at_ones, bit_at_ones_above}
+use Rattle.std.proofs.lemmas.Nat.Bits.{bit_at-zero, bit_at_set_same, bit_at_set_other, bit_at_clear_same, bit_at_clear_other, bit_at-trailing_zeros, bit_at_above, bit_at_and, bit_at_or, bit_at_not, bit_at-lt, bit_at_ones, bit_at_ones_above, same_from_bits_below}
 use Rattle.std.proofs.lemmas.Nat.{shr-shr, shr_le, or_lt}
 use Rattle.std.proofs.Math.Pow.{pow-lt}
 use Rattle.geometry.specs.Bits.{is_bit, bits_of}
@@ -321,6 +322,35 @@ clear_is_neither one other len o low =
 -- a bit as the list has it
 pub bit_listed : (words : List ℕ) (len o : ℕ) → o < len → get_or (bits_of words len) o false ≡ is_bit words o
 bit_listed words len o low = get_or-map-range_with_len (λ q. is_bit words q) 0 len o o false low (omega arith)
+
+-- ---- words that have one list of bits
+same_bit : (a b : ℕ) → a < 2 → b < 2 → (a == 1) ≡ (b == 1) → a ≡ b
+same_bit zero zero low high e = refl
+same_bit zero (suc zero) low high e = absurd cc
+same_bit (suc zero) zero low high e = absurd cc
+same_bit (suc zero) (suc zero) low high e = refl
+same_bit (suc (suc a)) b low high e = absurd (omega arith)
+same_bit a (suc (suc b)) low high e = absurd (omega arith)
+
+pub words_same : (one other : List ℕ) → length one ≡ length other → ((i : ℕ) → get_or one i 0 < 2 ^ 64) → ((i : ℕ) → get_or other i 0 < 2 ^ 64) → ((o : ℕ) → is_bit one o ≡ is_bit other o)
+    → one ≡ other
+words_same one other long few other_few same = same_lists one other long (λ i d low.
+    (let a = get_or one i 0 in
+    let b = get_or other i 0 in
+    get_or_default one i d 0 low
+    ∙ (same_from_bits_below 64 a b (few i) (other_few i) (λ p within. same_bit (bit_at a p) (bit_at b p) (bit_at-lt a p) (bit_at-lt b p)
+    (bit_of_word one i a p refl within ∙ (same (64 * i + p) ∙ sym (bit_of_word other i b p refl within))))
+    ∙ sym (get_or_default other i d 0 (omega arith)))))
+
+module _ (one other : List ℕ) (len : ℕ) where
+  pub bits_same : ((o : ℕ) → is_bit one o ≡ is_bit other o) → bits_of one len ≡ bits_of other len
+  bits_same same i = map (λ o. same o i) (range_with_len 0 len)
+
+  pub same_bits : IsBits one len → IsBits other len → bits_of one len ≡ bits_of other len → (o : ℕ) → is_bit one o ≡ is_bit other o
+  same_bits is other_is same o = elim (cases_lt o len) [
+    | inl low ↦ sym (bit_listed one len o low) ∙ (ap (λ bits. get_or bits o false) same ∙ bit_listed other len o low)
+    | inr ge ↦ is.past o ge ∙ sym (other_is.past o ge)
+  ]
 
 pub neither_written : (one_words other_words : List ℕ) (len one_len other_len : ℕ) (one other : List Bool) → bits_of one_words one_len ≡ one → bits_of other_words other_len ≡ other → one_len ≡ len → other_len ≡ len
     → (o : ℕ) → o < len → clear_in one_words other_words len o ≡ get_or (neither_of one other) o false

@@ -1,8 +1,8 @@
 //! A list of bits in words.
-ghost use Rattle.std.specs.Prelude.{◌≡◌, ◌+◌, ◌<◌, ◌≤◌, ◌^◌, ℕ, true, false, length, replicate, slice_index_or, slice_set, IfOk, IfErr};
+ghost use Rattle.std.specs.Prelude.{◌≡◌, ◌+◌, ◌<◌, ◌≤◌, ◌^◌, ℕ, IsTrue, ◌↔◌, true, false, length, replicate, slice_index_or, slice_set, IfOk, IfErr};
 ghost use Rattle.geometry.specs.declared.error.Error.TheVariants.{NoMemory};
 ghost use Rattle.std.specs.Int.{bit_at};
-ghost use Rattle.geometry.specs.Bits.{bits_of};
+ghost use Rattle.geometry.specs.Bits.{is_bit, bits_of};
 ghost use Rattle.sit.specs.Bits.{IsFirstBit, IsFirstTrue, AreFirstBits, AreClearBits, has_true, neither_of};
 
 use geometry::Error;
@@ -102,6 +102,13 @@ impl Bits {
         }
     }
 
+    /// Whether they are those of another list.
+    pub(crate) fn is_same(&self, other: &Bits) -> bool
+        ensures { IsTrue result ↔ (self.now ≡ other.now) }
+    {
+        self.len == other.len && are_same(self.words.as_slice(), other.words.as_slice())
+    }
+
     /// They are set where those of two other lists, which have as many, are clear.
     pub(crate) fn set_neither(&mut self, one: &Bits, other: &Bits)
         requires one { length one.now ≡ length self.old }
@@ -113,6 +120,14 @@ impl Bits {
             self.words[index] = clear_bits(one.words[index], other.words[index], rest);
         }
     }
+}
+
+// Whether as many words have the same bits.
+fn are_same(one: &[u64], other: &[u64]) -> bool
+    requires { length one.now ≡ length other.now }
+    ensures { IsTrue result ↔ ((o : ℕ) → is_bit one.now o ≡ is_bit other.now o) }
+{
+    *one == *other
 }
 
 // The bits that are clear in both words, of so many, the lowest ones, or of all.

@@ -1,5 +1,5 @@
 //! One segment's blocks, without the rights to it: which are valid, who names each, and which are at home.
-ghost use Rattle.std.specs.Prelude.{◌≡◌, ◌+◌, ◌<◌, ◌≤◌, ◌++◌, [], Some, None, true, false, map, length, slice_index_or, IsSome, OnOk, OnErr, IfOk, vec_len, vec_capacity};
+ghost use Rattle.std.specs.Prelude.{◌≡◌, ◌+◌, ◌<◌, ◌≤◌, IsTrue, ◌↔◌, ◌++◌, [], Some, None, true, false, map, length, slice_index_or, IsSome, OnOk, OnErr, IfOk, vec_len, vec_capacity};
 ghost use Rattle.device.specs.Parts.{IsBlockRun};
 ghost use Rattle.geometry.specs.declared.state.State.TheVariants.{Free, Open, Sealed, Prefree};
 ghost use Rattle.geometry.specs.Shape.{block_bytes, segment_blocks};
@@ -226,6 +226,13 @@ impl<B: Block + Drop> Body<B> {
         ensures { self.new ≡ with_thread self.old (ended self.old.thread) }
     {
         self.thread.end();
+    }
+
+    /// Whether its valid blocks are those that the last completed checkpoint marks.
+    pub(crate) fn is_kept(&self) -> bool
+        ensures { IsTrue result ↔ (self.now.thread.kept ≡ map is_set self.now.summaries) }
+    {
+        self.thread.keeps(&self.valid)
     }
 
     /// A checkpoint is complete that marks its valid blocks.

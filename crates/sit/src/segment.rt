@@ -1,5 +1,5 @@
 //! One segment, as it lies in its lock.
-ghost use Rattle.std.specs.Prelude.{◌≡◌, ℕ, List, ◌+◌, ◌<◌, ◌≤◌, Some, None, true, false, ◌∷◌, ◌++◌, map, length, slice_index_or, MatchOption, OnOk, OnErr, IfOk, IfErr, IfSome, vec_len, vec_capacity};
+ghost use Rattle.std.specs.Prelude.{◌≡◌, ℕ, List, ◌+◌, ◌<◌, ◌≤◌, IsTrue, ◌↔◌, Some, None, true, false, ◌∷◌, ◌++◌, map, length, slice_index_or, MatchOption, OnOk, OnErr, IfOk, IfErr, IfSome, vec_len, vec_capacity};
 ghost use Rattle.geometry.specs.declared.state.State.TheVariants.{Free, Open, Sealed, Prefree};
 ghost use Rattle.geometry.specs.declared.error.Error.TheVariants.{Device};
 ghost use Rattle.geometry.specs.Shape.{block_bytes, segment_blocks};
@@ -11,7 +11,7 @@ ghost use Rattle.rights_books.specs.Lists.{times, without};
 ghost use Rattle.words.specs.Claims.{times as pins_on};
 ghost use Rattle.words.specs.Steps.{pins_with};
 ghost use Rattle.words.specs.Tokens.{IsOpened, IsSealed, IsFreed, IsKept};
-ghost use Rattle.sit.specs.Summaries.{count_of};
+ghost use Rattle.sit.specs.Summaries.{is_set, count_of};
 ghost use Rattle.sit.specs.NextValid.{IsNextValid};
 ghost use Rattle.geometry.specs.Segment.{IsHole};
 ghost use Rattle.sit.specs.Thread.{ended, keeping, IsNextHole};
@@ -306,6 +306,13 @@ impl<B: Block + Drop> SegmentState<B> {
         ensures { self.new ≡ record self.old { segment = with_thread self.old.segment (ended self.old.segment.thread) } }
     {
         self.body.unthread();
+    }
+
+    /// Whether its valid blocks are those that the last completed checkpoint marks. Where they are, `keep` changes nothing.
+    pub fn is_kept(&self) -> bool
+        ensures { IsTrue result ↔ (self.now.segment.thread.kept ≡ map is_set self.now.segment.summaries) }
+    {
+        self.body.is_kept()
     }
 
     /// A checkpoint is complete that marks its valid blocks: none has changed since the image was taken, as an audit has all permits.

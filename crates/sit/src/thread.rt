@@ -1,7 +1,8 @@
 //! The holes of a segment that a log fills.
-ghost use Rattle.std.specs.Prelude.{◌≡◌, ◌<◌, ◌^◌, false, length, IfOk, IfErr};
+ghost use Rattle.std.specs.Prelude.{◌≡◌, ◌<◌, ◌^◌, IsTrue, ◌↔◌, false, length, map, IfOk, IfErr};
 ghost use Rattle.geometry.specs.declared.error.Error.TheVariants.{NoMemory};
 ghost use Rattle.sit.specs.Bits.{has_true};
+ghost use Rattle.sit.specs.Summaries.{is_set};
 ghost use Rattle.sit.specs.Thread.{fresh_thread, keeping, filled_at, ended, HasBegun, IsNextHole};
 
 use crate::bits::Bits;
@@ -88,6 +89,13 @@ impl Threading {
         ensures { self.new ≡ ended self.old }
     {
         self.holes.clear_all();
+    }
+
+    /// Whether the valid blocks are those that the last completed checkpoint marks.
+    pub(crate) fn keeps(&self, valid: &ValidBlocks) -> bool
+        ensures { IsTrue result ↔ (self.now.kept ≡ map is_set valid.now) }
+    {
+        self.kept.is_same(valid.bits())
     }
 
     /// A checkpoint is complete that marks the valid blocks.

@@ -9,7 +9,7 @@ ghost use Rattle.checkpoint_sync.specs.Lent.{shown_by};
 ghost use Rattle.checkpoint_sync.specs.WrittenFiles.{AreWritten};
 
 use crate::volume::Volume;
-use area::free_retired;
+use area::{Unsettled, free_retired};
 use checkpoint::{PacksCell, Stored};
 use checkpoint_sync::{HeldFile, flush_files, take_volume};
 use device::{Block, Meta};
@@ -46,6 +46,7 @@ impl<V: VolumeName, M: Meta, B: Block + Drop> Volume<V, M, B> {
             for _ in rt.forever() {}
             unreachable!();
         }
+        let mut unsettled = Unsettled::new(self.alloc, self.area.geometry().segments)?;
         let mut all = self.area.turnstile().gather(rt);
         self.area.end_threads(rt, &all);
         let files = match flush_files(rt, self.alloc, &self.area, &self.files, &mut all.hand) {
@@ -58,7 +59,15 @@ impl<V: VolumeName, M: Meta, B: Block + Drop> Volume<V, M, B> {
         // Those that the nodes began, where nothing was free: what is threaded isn't cleaned.
         self.area.end_threads(rt, &all);
         let mut auditing = self.area.turnstile().audit(all);
-        let stored = self.record(rt, &mut packs, files, &mut auditing, version, passes);
+        let stored = self.record(
+            rt,
+            &mut packs,
+            files,
+            &mut auditing,
+            version,
+            passes,
+            &mut unsettled,
+        );
         let all = self.area.turnstile().end_audit(auditing);
         self.area.turnstile().scatter(rt, all);
         stored
@@ -73,6 +82,7 @@ impl<V: VolumeName, M: Meta, B: Block + Drop> Volume<V, M, B> {
         auditing: &mut Auditing<V::Books, V::Turns>,
         version: u32,
         passes: &[&FilePass<V>],
+        unsettled: &mut Unsettled,
     ) -> Result<Stored<M, B>, Error>
         requires fresh { auditing.old.audit ≡ record { book = V.Books.books.book; copies = [] } }
         requires files { AreWritten V.Books.books.book V.Numbers.geometry files.items }
@@ -87,11 +97,13 @@ impl<V: VolumeName, M: Meta, B: Block + Drop> Volume<V, M, B> {
         ensures geometry { IfOk result (λ stored. stored.taken.image.geometry ≡ V.Numbers.geometry) }
         ensures error { IfErr result (λ error. (error ≡ NoMemory) ⊎ (error ≡ Device)) }
     {
-        let taken = take_volume(rt, self.alloc, &self.area, files, auditing, version, passes)?;
+        let taken = take_volume(
+            rt, self.alloc, &self.area, files, auditing, version, passes, unsettled,
+        )?;
         match packs.store(self.area.words(), taken) {
             Ok(stored) => {
-                self.area.keep_marks(rt, packs.seat(), auditing);
-                free_retired(rt, &self.area, &mut packs.pass, &mut packs.kept);
+                self.area.keep_marks(rt, packs.seat(), auditing, unsettled);
+                free_retired(rt, &self.area, &mut packs.pass, &mut packs.kept, unsettled);
                 Ok(stored)
             }
             Err(error) => {
