@@ -57,3 +57,6 @@ returns-clause-kept g c =
     let done = c.visit_in-3.ensures in
     rw (one.1, two.1) (kept_double c.args.file.now c.requires.file c.node_entries-entries.result c.node_entries-entries.ensures c.visit_in-3.new.below
     (record { same = done.same; namer = done.namer; useful = done.useful; shaped = done.shaped }))
+
+pub visit_in-requires-3-clause-shaped : goal.visit_in-requires-3-clause-shaped
+visit_in-requires-3-clause-shaped g c = rw c.node_entries-entries.ensures c.requires.file.double

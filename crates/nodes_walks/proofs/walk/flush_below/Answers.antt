@@ -58,3 +58,6 @@ returns-clause-kept g c =
     let done = c.flush_entries-found.ensures in
     rw (one.1, two.1) (kept_double c.args.file.now c.requires.file c.node_entries-entries.result c.node_entries-entries.ensures c.flush_entries-found.new.below
     (record { same = done.same; namer = done.namer; useful = done.useful; shaped = done.shaped }))
+
+pub flush_entries-found-requires-clause-shaped : goal.flush_entries-found-requires-clause-shaped
+flush_entries-found-requires-clause-shaped g c = rw c.node_entries-entries.ensures c.requires.file.double

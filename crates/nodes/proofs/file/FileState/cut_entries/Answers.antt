@@ -62,3 +62,9 @@ returns g c =
         };
       },
     )
+
+pub cut-requires-clause-shaped : goal.cut-requires-clause-shaped
+cut-requires-clause-shaped g c = rw c.node_entries-entries.ensures c.requires.file.double
+
+pub cut-requires-2-clause-shaped : goal.cut-requires-2-clause-shaped
+cut-requires-2-clause-shaped g c = rw c.node_entries-entries.ensures c.requires.file.indirect

@@ -32,3 +32,9 @@ returns-in-Err-migrate-2-clause-elsewhere g c =
     let indirect = c.in-Err-migrate.ensures.elsewhere in
     let double = c.in-Err-migrate-2.ensures.elsewhere in
     omega arith
+
+pub migrate-requires-3-clause-shaped : goal.migrate-requires-3-clause-shaped
+migrate-requires-3-clause-shaped g c = rw c.node_entries-entries.ensures c.requires.file.double
+
+pub migrate-requires-2-clause-shaped : goal.migrate-requires-2-clause-shaped
+migrate-requires-2-clause-shaped g c = rw c.node_entries-entries.ensures c.requires.file.indirect
