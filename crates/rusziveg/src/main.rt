@@ -4,7 +4,7 @@
 use std::env;
 use std::io::{BufWriter, IsTerminal};
 use std::process::ExitCode;
-use tool_words::{Fault, Screen, run_words, take_closed_streams, words_of_call};
+use tool_words::{Fault, FileOpener, Screen, run_words, take_closed_streams, words_of_call};
 
 // The bytes of output that are put together at most.
 const BUFFER: usize = 65536;
@@ -34,6 +34,7 @@ fn main(rt: HostRuntime) -> ExitCode {
     let mut input = rt.reader();
     let status = run_words(
         &rt,
+        &FileOpener,
         screen,
         words.as_slice(),
         &mut input,

@@ -12,6 +12,7 @@ use crate::making::make;
 use crate::making_room::{remove_making_room, rename_making_room};
 use crate::manual::write_manual;
 use crate::map::map;
+use crate::opener::Opener;
 use crate::putting::{PutFile, append, copy, put};
 use crate::room::tell_room;
 use crate::screen::Screen;
@@ -28,12 +29,14 @@ use tool_files::{Clean, Remove, Rename};
 
 /// Does what the words ask for, and answers the exit status.
 pub fn obey<
+    P: Opener,
     R: Runtime + AllocGlobal + Wait + Threads + Sync + Files<File = File>,
     I: Read + Send,
     O: Write + Send,
     E: Write,
 >(
     rt: &R,
+    opener: &P,
     screen: Screen,
     words: &Words<'_>,
     input: &mut I,
@@ -43,14 +46,14 @@ pub fn obey<
     let image = words.image;
     match words.task {
         Task::Check { json } => return check(rt, image, json, screen, out),
-        Task::Import { folder } => return import(rt, screen, image, folder, out, errors),
+        Task::Import { folder } => return import(rt, opener, screen, image, folder, out, errors),
         Task::Dump { folder } => return dump(rt, screen, image, folder, errors),
         Task::Format(_)
         | Task::Put { .. }
         | Task::Append { .. }
         | Task::Copy { .. }
         | Task::Remove
-        | Task::Rename { .. } => change(rt, screen, words, input, out, errors)?,
+        | Task::Rename { .. } => change(rt, opener, screen, words, input, out, errors)?,
         Task::Get {
             name,
             number,
@@ -59,11 +62,11 @@ pub fn obey<
         } => get(rt, image, Wanted { name, number, part }, file, out)?,
         Task::Concatenate => concatenate(rt, image, words.names.as_slice(), out)?,
         Task::List { json } => list(rt, image, json, out)?,
-        Task::Clean { background } => clean(rt, screen, image, background, out, errors)?,
+        Task::Clean { background } => clean(rt, opener, screen, image, background, out, errors)?,
         Task::Stat { json } => stat(rt, image, json, out)?,
         Task::Room { json } => tell_room(rt, image, json, out)?,
         Task::Map { svg, json } => map(rt, screen, image, svg, json, out)?,
-        Task::Serve(words) => serve(rt, screen, image, words, input, out, errors)?,
+        Task::Serve(words) => serve(rt, opener, screen, image, words, input, out, errors)?,
         Task::Complete { shell } => write_completions(rt.alloc(), shell, out)?,
         Task::Describe => write_manual(rt.alloc(), out)?,
     }
@@ -71,8 +74,15 @@ pub fn obey<
 }
 
 // Does what changes the image, and tells what was done.
-fn change<R: Runtime + AllocGlobal + Wait + Files<File = File>, I: Read, O: Write, E: Write>(
+fn change<
+    P: Opener,
+    R: Runtime + AllocGlobal + Wait + Files<File = File>,
+    I: Read,
+    O: Write,
+    E: Write,
+>(
     rt: &R,
+    opener: &P,
     screen: Screen,
     words: &Words<'_>,
     input: &mut I,
@@ -82,7 +92,7 @@ fn change<R: Runtime + AllocGlobal + Wait + Files<File = File>, I: Read, O: Writ
     let image = words.image;
     match words.task {
         Task::Format(numbers) => {
-            let made = make(rt, image.path, numbers)?;
+            let made = make(rt, opener, image.path, numbers)?;
             tell_made(screen, image.path, &made, out)
         }
         Task::Put {
@@ -91,20 +101,20 @@ fn change<R: Runtime + AllocGlobal + Wait + Files<File = File>, I: Read, O: Writ
             replaces,
         } => {
             screen.tell(errors, "put", name);
-            let done = put(rt, image, name, file, replaces, input);
+            let done = put(rt, opener, image, name, file, replaces, input);
             screen.clear(errors);
             tell_put(screen, name, done?, out)
         }
         Task::Append { name, file } => {
-            let added = append(rt, image, name, file, input)?;
+            let added = append(rt, opener, image, name, file, input)?;
             tell_added(screen, name, added, out)
         }
         Task::Copy { name, to, replaces } => {
-            let done = copy(rt, image, name, to, replaces)?;
+            let done = copy(rt, opener, image, name, to, replaces)?;
             tell_put(screen, to, done, out)
         }
-        Task::Rename { name, to } => rename(rt, image, name, to),
-        _ => remove(rt, image, words.names.as_slice()),
+        Task::Rename { name, to } => rename(rt, opener, image, name, to),
+        _ => remove(rt, opener, image, words.names.as_slice()),
     }
 }
 
@@ -159,14 +169,15 @@ fn tell_added<O: Write>(
 }
 
 // Removes files, one after the other. Where one name is not there, none is removed.
-fn remove<R: Runtime + AllocGlobal + Wait + Files<File = File>>(
+fn remove<P: Opener, R: Runtime + AllocGlobal + Wait + Files<File = File>>(
     rt: &R,
+    opener: &P,
     image: ImageFile<'_>,
     names: &[&str],
 ) -> Result<(), Fault> {
     ask_to_remove(rt, image, names)?;
     for name in names {
-        let parts = open_parts(rt, image)?;
+        let parts = open_parts(rt, opener, image)?;
         let name: &str = name;
         let work = Remove { name, now: now(rt) };
         if let Err(refusal) = remove_making_room(rt, parts, work)? {
@@ -176,14 +187,15 @@ fn remove<R: Runtime + AllocGlobal + Wait + Files<File = File>>(
     Ok(())
 }
 
-fn rename<R: Runtime + AllocGlobal + Wait + Files<File = File>>(
+fn rename<P: Opener, R: Runtime + AllocGlobal + Wait + Files<File = File>>(
     rt: &R,
+    opener: &P,
     image: ImageFile<'_>,
     name: &str,
     to: &str,
 ) -> Result<(), Fault> {
     ask_to_rename(rt, image, name, to)?;
-    let parts = open_parts(rt, image)?;
+    let parts = open_parts(rt, opener, image)?;
     let work = Rename {
         name,
         to,
@@ -195,8 +207,9 @@ fn rename<R: Runtime + AllocGlobal + Wait + Files<File = File>>(
     }
 }
 
-fn clean<R: Runtime + AllocGlobal + Wait + Files<File = File>, O: Write, E: Write>(
+fn clean<P: Opener, R: Runtime + AllocGlobal + Wait + Files<File = File>, O: Write, E: Write>(
     rt: &R,
+    opener: &P,
     screen: Screen,
     image: ImageFile<'_>,
     background: bool,
@@ -213,7 +226,7 @@ fn clean<R: Runtime + AllocGlobal + Wait + Files<File = File>, O: Write, E: Writ
         most: if background { 1 } else { 4096 },
         now: now(rt),
     };
-    let tidied = run(rt, image, Leave::Close, work);
+    let tidied = run(rt, opener, image, Leave::Close, work);
     screen.clear(errors);
     let tidied = tidied?;
     if !screen.quiet {

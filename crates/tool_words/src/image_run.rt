@@ -3,8 +3,9 @@ ghost use Rattle.std.specs.Prelude.{ℕ, IfOk};
 ghost use Rattle.device.specs.Parts.{IsBlockRun};
 
 use crate::fault::Fault;
-use file_device::{FileBlock, FileFault, FileMeta, FileParts, open_image};
-use flash_volume::{Block, Geometry, Leave, Work, work_on};
+use crate::opener::Opener;
+use file_device::FileFault;
+use flash_volume::{Block, Geometry, Leave, Parts, Work, work_on};
 use image::Image;
 use image_reading::FileSource;
 use std::fs::{File, Files};
@@ -33,29 +34,31 @@ impl<'a> ImageFile<'a> {
 
 /// The parts of the device over an image file, which is locked as long as they are there. Answers Busy where another program had it
 /// all the time that it was waited for.
-pub fn open_parts<R: AllocGlobal + Clock + Files<File = File>>(
+pub fn open_parts<P: Opener, R: AllocGlobal + Clock + Files<File = File>>(
     rt: &R,
+    opener: &P,
     image: ImageFile<'_>,
-) -> Result<FileParts, Fault>
-    ensures run { IfOk result (λ parts. (bytes : ℕ) × IsBlockRun ⟦<FileBlock<File> as Block>⟧.address_of ⟦<FileBlock<File> as Block>⟧.content_of bytes 1 parts.blocks.items) }
+) -> Result<Parts<P::Area, P::Part>, Fault>
+    ensures run { IfOk result (λ parts. (bytes : ℕ) × IsBlockRun P.Part.address_of P.Part.content_of bytes 1 parts.blocks.items) }
 {
     for _ in 0..image.tries() {
-        match open_image(rt, rt.alloc(), image.path) {
+        match opener.open(rt, rt.alloc(), image.path) {
             Ok(parts) => return Ok(parts),
             Err(FileFault::Busy) => thread::sleep(rt, pause()),
             Err(fault) => return Err(Fault::from(fault)),
         }
     }
-    let parts = open_image(rt, rt.alloc(), image.path)?;
+    let parts = opener.open(rt, rt.alloc(), image.path)?;
     Ok(parts)
 }
 
 /// Does work on the volume of an image file, and leaves it. The file is locked meanwhile.
 pub fn run<
+    P: Opener,
     R: AllocGlobal + Clock + Wait + Files<File = File>,
-    W: Work<FileMeta<File>, FileBlock<File>> + Drop,
->(rt: &R, image: ImageFile<'_>, leave: Leave, work: W) -> Result<W::Output, Fault> {
-    let parts = open_parts(rt, image)?;
+    W: Work<P::Area, P::Part> + Drop,
+>(rt: &R, opener: &P, image: ImageFile<'_>, leave: Leave, work: W) -> Result<W::Output, Fault> {
+    let parts = open_parts(rt, opener, image)?;
     let done = work_on(rt, rt.alloc(), parts, leave, work)?;
     Ok(done.output)
 }

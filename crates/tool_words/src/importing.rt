@@ -6,6 +6,7 @@ use crate::asking::ask_to_put;
 use crate::fault::Fault;
 use crate::image_run::{ImageFile, image_length, now, open_parts};
 use crate::making_room::put_making_room;
+use crate::opener::Opener;
 use crate::putting::read_file;
 use crate::screen::Screen;
 use crate::shown::Shown;
@@ -29,8 +30,9 @@ use tool_reading::Refusal;
 ///
 /// The volume is mounted, and its folder written, once for all of them, where they have no more bytes than the image and none is refused.
 /// Where `out` fails the files are put nevertheless, and then that is answered.
-pub fn import<R: Runtime + AllocGlobal + Wait + Files<File = File>, O: Write, E: Write>(
+pub fn import<P: Opener, R: Runtime + AllocGlobal + Wait + Files<File = File>, O: Write, E: Write>(
     rt: &R,
+    opener: &P,
     screen: Screen,
     image: ImageFile<'_>,
     folder: &str,
@@ -42,7 +44,7 @@ pub fn import<R: Runtime + AllocGlobal + Wait + Files<File = File>, O: Write, E:
     names.sort()?;
     let most = image_length(rt, image.path)?;
     ask_to_put(rt, image, None)?;
-    let parts = open_parts(rt, image)?;
+    let parts = open_parts(rt, opener, image)?;
     screen.tell(errors, "import", folder);
     let mut told = Patient { out, failed: None };
     let done = import_all(

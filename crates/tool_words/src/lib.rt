@@ -21,6 +21,7 @@ mod manual;
 mod map;
 mod moment;
 mod new_file;
+mod opener;
 mod putting;
 mod room;
 mod run;
@@ -36,6 +37,7 @@ mod window;
 
 pub use fault::Fault;
 pub use limits::Beyond;
+pub use opener::{FileOpener, Opener};
 pub use run::{run_words, words_of_call};
 pub use screen::Screen;
 pub use streams::take_closed_streams;

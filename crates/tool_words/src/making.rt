@@ -2,7 +2,8 @@
 use crate::command_line::Numbers;
 use crate::fault::Fault;
 use crate::limits::ask_numbers;
-use file_device::{FileFault, create_image};
+use crate::opener::Opener;
+use file_device::FileFault;
 use flash_volume::{Geometry, Leave, Shape, work_on_new};
 use std::fs;
 use std::fs::{File, Files};
@@ -10,14 +11,15 @@ use std::sync::Wait;
 use tool_files::MakeFolder;
 
 /// Makes an image file with a volume without files. Where that fails, no file is left.
-pub fn make<R: AllocGlobal + Wait + Files<File = File>>(
+pub fn make<P: Opener, R: AllocGlobal + Wait + Files<File = File>>(
     rt: &R,
+    opener: &P,
     path: &str,
     numbers: Numbers,
 ) -> Result<Geometry, Fault> {
     ask_numbers(&numbers)?;
     let geometry = geometry_of(numbers)?;
-    let parts = match create_image(rt, rt.alloc(), path, &geometry) {
+    let parts = match opener.create(rt, rt.alloc(), path, &geometry) {
         Ok(parts) => parts,
         Err(FileFault::Io(error)) => return Err(Fault::of_file(rt.alloc(), path, error)),
         Err(fault) => return Err(Fault::from(fault)),

@@ -3,6 +3,7 @@ use crate::asking::{ask_for_room, ask_to_append, ask_to_put};
 use crate::fault::Fault;
 use crate::image_run::{ImageFile, image_length, now, open_parts, open_volume};
 use crate::making_room::{append_making_room, put_making_room};
+use crate::opener::Opener;
 use flash_volume::Error;
 use image_reading::ReadFault;
 use std::fs::{File, Files};
@@ -23,8 +24,9 @@ pub struct PutFile {
 
 /// Makes what a file of the system's has, or where none is named what standard input has, the file of a name. Unless it replaces, a name
 /// that is there is refused.
-pub fn put<R: Runtime + AllocGlobal + Wait + Files<File = File>, I: Read>(
+pub fn put<P: Opener, R: Runtime + AllocGlobal + Wait + Files<File = File>, I: Read>(
     rt: &R,
+    opener: &P,
     image: ImageFile<'_>,
     name: &str,
     file: Option<&str>,
@@ -36,13 +38,14 @@ pub fn put<R: Runtime + AllocGlobal + Wait + Files<File = File>, I: Read>(
     }
     let bytes = read_bytes(rt, image, file, input)?;
     ask_to_put(rt, image, if replaces { None } else { Some(name) })?;
-    put_bytes(rt, image, name, bytes.as_slice(), replaces)
+    put_bytes(rt, opener, image, name, bytes.as_slice(), replaces)
 }
 
 /// Puts what a file of the system's has, or where none is named what standard input has, behind what the file of a name has. Answers how
 /// many bytes that is.
-pub fn append<R: Runtime + AllocGlobal + Wait + Files<File = File>, I: Read>(
+pub fn append<P: Opener, R: Runtime + AllocGlobal + Wait + Files<File = File>, I: Read>(
     rt: &R,
+    opener: &P,
     image: ImageFile<'_>,
     name: &str,
     file: Option<&str>,
@@ -51,7 +54,7 @@ pub fn append<R: Runtime + AllocGlobal + Wait + Files<File = File>, I: Read>(
     let bytes = read_bytes(rt, image, file, input)?;
     ask_to_put(rt, image, None)?;
     ask_to_append(rt, image, name, bytes.len() as u64)?;
-    let parts = open_parts(rt, image)?;
+    let parts = open_parts(rt, opener, image)?;
     let work = Append {
         name,
         bytes: bytes.as_slice(),
@@ -67,8 +70,9 @@ pub fn append<R: Runtime + AllocGlobal + Wait + Files<File = File>, I: Read>(
 }
 
 /// Makes what a file has the file of another name too. Unless it replaces, a name that is there is refused.
-pub fn copy<R: Runtime + AllocGlobal + Wait + Files<File = File>>(
+pub fn copy<P: Opener, R: Runtime + AllocGlobal + Wait + Files<File = File>>(
     rt: &R,
+    opener: &P,
     image: ImageFile<'_>,
     name: &str,
     to: &str,
@@ -79,19 +83,20 @@ pub fn copy<R: Runtime + AllocGlobal + Wait + Files<File = File>>(
     }
     let bytes = bytes_of(rt, image, name)?;
     ask_to_put(rt, image, if replaces { None } else { Some(to) })?;
-    put_bytes(rt, image, to, bytes.as_slice(), replaces)
+    put_bytes(rt, opener, image, to, bytes.as_slice(), replaces)
 }
 
 // Makes bytes the file of a name.
-fn put_bytes<R: Runtime + AllocGlobal + Wait + Files<File = File>>(
+fn put_bytes<P: Opener, R: Runtime + AllocGlobal + Wait + Files<File = File>>(
     rt: &R,
+    opener: &P,
     image: ImageFile<'_>,
     name: &str,
     bytes: &[u8],
     replaces: bool,
 ) -> Result<PutFile, Fault> {
     ask_for_room(rt, image, name, bytes.len() as u64)?;
-    let parts = open_parts(rt, image)?;
+    let parts = open_parts(rt, opener, image)?;
     let work = Put {
         name,
         bytes,

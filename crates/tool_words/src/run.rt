@@ -2,6 +2,7 @@
 use crate::command_line::{Words, read_words};
 use crate::commands::obey;
 use crate::fault::Fault;
+use crate::opener::Opener;
 use crate::screen::Screen;
 use flash_volume::Error;
 use std::fs::{File, Files};
@@ -18,11 +19,20 @@ const MISUSED: u8 = 2;
 /// image or a name was refused; 2 the words were; 4 a file, a stream or memory failed. `put` reads `input` to its end; what is asked
 /// for goes to `out`, and what is wrong, with what can be done, to `errors`. `serve` answers on `out` what a client asks on `input`.
 pub fn run_words<
+    P: Opener,
     R: Runtime + AllocGlobal + Wait + Threads + Sync + Files<File = File>,
     I: Read + Send,
     O: Write + Send,
     E: Write,
->(rt: &R, screen: Screen, words: &[String], input: &mut I, out: &mut O, errors: &mut E) -> u8 {
+>(
+    rt: &R,
+    opener: &P,
+    screen: Screen,
+    words: &[String],
+    input: &mut I,
+    out: &mut O,
+    errors: &mut E,
+) -> u8 {
     let words = match read_words(rt.alloc(), words) {
         Ok(words) => words,
         Err(error) if error.exit_code() == 0 => return tell_help(&error, out, errors),
@@ -32,7 +42,7 @@ pub fn run_words<
         }
     };
     let screen = screen.quieted(words.quiet);
-    let done = obey(rt, screen, &words, input, out, errors);
+    let done = obey(rt, opener, screen, &words, input, out, errors);
     status_of(&words, done, out, errors)
 }
 

@@ -4,6 +4,7 @@ use crate::fault::Fault;
 use crate::image_run::{ImageFile, now, open_parts};
 use crate::json_text::write_json;
 use crate::new_file::{keep_whole, make_new};
+use crate::opener::Opener;
 use crate::screen::Screen;
 use crate::shown::Shown;
 use disk_service::{Counts, DiskSettings, Farewell};
@@ -71,12 +72,14 @@ fn percent(asked: u64, moved: u64) -> u64 {
 /// Serves a disk of the volume by the NBD protocol: what `input` has are a client's bytes, and it is answered on `out`. The image is
 /// locked meanwhile. What was done is told on `errors` where that is a terminal, and written to a new file where one is named.
 pub fn serve<
+    P: Opener,
     R: Runtime + AllocGlobal + Wait + Threads + Sync + Files<File = File>,
     I: Read + Send,
     O: Write + Send,
     E: Write,
 >(
     rt: &R,
+    opener: &P,
     screen: Screen,
     image: ImageFile<'_>,
     words: ServeWords<'_>,
@@ -84,7 +87,7 @@ pub fn serve<
     out: &mut O,
     errors: &mut E,
 ) -> Result<(), Fault> {
-    let parts = open_parts(rt, image)?;
+    let parts = open_parts(rt, opener, image)?;
     let options = DiskOptions {
         name: words.disk,
         bytes: words.bytes,

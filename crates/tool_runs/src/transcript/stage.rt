@@ -13,7 +13,7 @@ use std::sync::Wait;
 use std::thread::Threads;
 use std::{fs, io};
 use tool_files::DeleteFile;
-use tool_words::{Screen, run_words};
+use tool_words::{FileOpener, Screen, run_words};
 
 /// The input of the next words, and the file that is locked.
 #[derive(Drop)]
@@ -93,7 +93,15 @@ impl Stage {
             limit: self.limit,
         };
         let mut errors = Vec::new(rt.alloc());
-        let status = run_words(rt, screen, words, &mut input, &mut told, &mut errors);
+        let status = run_words(
+            rt,
+            &FileOpener,
+            screen,
+            words,
+            &mut input,
+            &mut told,
+            &mut errors,
+        );
         print_lines(out, "", told.bytes.as_slice())?;
         print_lines(out, "| ", errors.as_slice())?;
         if status != 0 {
