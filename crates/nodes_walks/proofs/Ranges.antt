@@ -49,6 +49,24 @@ four_at f d e =
     (joined (2 * (e * e)) (find_in (find_indirect e) (e * (e * 1)) f.indirect.slots.items)
     (find_in (find_double e) (e * (e * (e * 1))) f.double.slots.items)))
 
+empty_joined : {L : Type 0} (w : ℕ) (f g : ℕ → Option L) (from rest : ℕ) → rest ≡ from - w → EmptyFrom f from → EmptyFrom g rest → EmptyFrom (joined w f g) from
+empty_joined w f g from rest behind one other j le = elim (cases_lt j w) [
+  | inl low ↦ at_first w f g j low ∙ one j le
+  | inr high ↦ at_rest w f g j high ∙ other (j - w) (omega arith)
+]
+
+-- where no range has anything from there on, the file has nothing
+pub none_found : {B L : Type 0} (f : FileState B L) (from d e : ℕ) → d ≡ inode_entries f.shape → e ≡ node_entries f.shape
+    → (past_tickets past_direct past_indirect : ℕ) → past_tickets ≡ from - d → past_direct ≡ past_tickets - 2 * e → past_indirect ≡ past_direct - 2 * (e * e)
+    → EmptyFrom (in_tickets f) from → EmptyFrom (find_in (find_direct e) (e * 1) f.direct.slots.items) past_tickets
+    → EmptyFrom (find_in (find_indirect e) (e * (e * 1)) f.indirect.slots.items) past_direct
+    → EmptyFrom (find_in (find_double e) (e * (e * (e * 1))) f.double.slots.items) past_indirect → EmptyFrom (ticket_at f) from
+none_found f from d e slots entries past_tickets past_direct past_indirect one two three tickets direct indirect double =
+    let below_indirect = empty_joined (2 * (e * e)) (find_in (find_indirect e) (e * (e * 1)) f.indirect.slots.items) (find_in (find_double e) (e * (e * (e * 1))) f.double.slots.items) past_direct past_indirect three indirect double in
+    let below_direct = empty_joined (2 * e) (find_in (find_direct e) (e * 1) f.direct.slots.items) _ past_tickets past_direct two direct below_indirect in
+    let all = empty_joined d (in_tickets f) _ from past_tickets one tickets below_direct in
+    subst (λ (p : ℕ × ℕ). EmptyFrom (four_at f p.0 p.1) from) (λ k. (slots k, entries k)) all
+
 module _ {B L : Type 0} (P : Option Placed → Type 0) (f : FileState B L) (from d e i : ℕ) (slots : d ≡ inode_entries f.shape) (entries : e ≡ node_entries f.shape) where
   abbrev direct : ℕ → Option Placed
   direct = find_in (find_direct e) (e * 1) f.direct.slots.items

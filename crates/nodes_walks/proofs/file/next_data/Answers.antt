@@ -1,5 +1,5 @@
 use Rattle.std.proofs.Common.{arith}
-use Rattle.nodes_walks.proofs.Ranges.{found_in_inode, found_in_direct, found_in_indirect, found_in_double}
+use Rattle.nodes_walks.proofs.Ranges.{found_in_inode, found_in_direct, found_in_indirect, found_in_double, none_found}
 use Rattle.nodes_walks.proofs.file.next_data.Goals as goal
 
 pub returns-in-Some : goal.returns-in-Some
@@ -33,3 +33,12 @@ returns-in-Some-next_in-3 g c =
     c.saturating_sub-from.result c.saturating_sub-from.ensures c.in_default.ensures.next
     c.saturating_sub-from-2.result c.saturating_sub-from-2.ensures c.in_default-next_in.ensures.next
     c.saturating_sub-from-3.result c.saturating_sub-from-3.ensures c.in_default-next_in-2.ensures.next (c.in-Some-next_in-3.ensures.next, tt)).0
+
+pub next_in-requires-4-clause-shaped : goal.next_in-requires-4-clause-shaped
+next_in-requires-4-clause-shaped g c = rw c.node_entries-entries.ensures c.requires.double
+
+pub returns-in-None : goal.returns-in-None
+returns-in-None g c =
+    none_found c.args.file.now c.args.from c.inode_entries-slots.result c.node_entries-entries.result c.inode_entries-slots.ensures c.node_entries-entries.ensures
+    c.saturating_sub-from.result c.saturating_sub-from-2.result c.saturating_sub-from-3.result c.saturating_sub-from.ensures c.saturating_sub-from-2.ensures c.saturating_sub-from-3.ensures
+    c.in_default.ensures.next c.in_default-next_in.ensures.next c.in_default-next_in-2.ensures.next c.in-None.ensures.next

@@ -33,3 +33,6 @@ returns-in-Some-index_in-2-clause-owner g c =
     let it = c.in-Some-index_in-2.ensures in
     owner_double_at c.args.file.now c.args.nid c.args.at c.inode_entries-slots.result c.node_entries-entries.result c.inode_entries-slots.ensures c.node_entries-entries.ensures
     c.in-Some-index_in-2.index it.within it.namer it.entry
+
+pub index_in-requires-3-clause-shaped : goal.index_in-requires-3-clause-shaped
+index_in-requires-3-clause-shaped g c = rw c.node_entries-entries.ensures c.requires.file.double
