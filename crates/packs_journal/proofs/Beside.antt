@@ -56,7 +56,7 @@ map_beside len slot map c d is beside has = ap map_of beside.head ∙ is (ap (is
 -- a write that reaches none of these
 pub beside_by : (len slot at n : ℕ) (c d : List ℕ) → 4096 ≤ at → (head_at slot + 3584 ≤ at) ⊎ (at + n ≤ head_at slot) → ((s : ℕ) → s < 2 → (footer_at s + 4 ≤ at) ⊎ (at + n ≤ footer_at s))
     → (is_head len (head_in slot c) ≡ true → (k : ℕ) → k < page_count len
-        → (page_at k (copy_in (map_of (head_in slot c)) k) + page_size len k ≤ at) ⊎ (at + n ≤ page_at k (copy_in (map_of (head_in slot c)) k)))
+    → (page_at k (copy_in (map_of (head_in slot c)) k) + page_size len k ≤ at) ⊎ (at + n ≤ page_at k (copy_in (map_of (head_in slot c)) k)))
     → Torn at n c d → IsBeside len slot c d
 beside_by len slot at n c d behind head footers pages torn =
     let same = apart_same at n (head_at slot) 3584 c d head torn in

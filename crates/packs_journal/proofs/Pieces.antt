@@ -88,11 +88,11 @@ word_put w n word before after long within last few is eight =
     let whole : length z ≡ length after = length-append (take m after) (drop m before) ∙ omega (arith, front, length-drop m before, long, within) in
     let begins : take m z ≡ take m after = take_at (take m after) (drop m before) m front in
     let middle : take (length z - m) word ≡ part m n after = ⊎_elim
-        (λ full. take_all (length z - m) word (omega (arith, whole, within, full, eight)) ∙ sym (take_all n word (omega (arith, full, eight))) ∙ is)
-        (λ end. ap (λ (i : ℕ). take i word) (rest (length z) m n (length after) whole end) ∙ is) last in
+    (λ full. take_all (length z - m) word (omega (arith, whole, within, full, eight)) ∙ sym (take_all n word (omega (arith, full, eight))) ∙ is)
+    (λ end. ap (λ (i : ℕ). take i word) (rest (length z) m n (length after) whole end) ∙ is) last in
     let past : drop (m + 8) z ≡ drop (m + n) before = ⊎_elim
-        (λ full. behind full z front)
-        (λ end. drop_all (m + 8) z (omega (arith, whole, end, few)) ∙ sym (drop_all (m + n) before (omega (arith, long, end)))) last in
+    (λ full. behind full z front)
+    (λ end. drop_all (m + 8) z (omega (arith, whole, end, few)) ∙ sym (drop_all (m + n) before (omega (arith, long, end)))) last in
     ap (λ l. l ++ take (length z - m) word ++ drop (m + 8) z) begins
     ∙ ap (λ l. take m after ++ l ++ drop (m + 8) z) middle
     ∙ ap (λ l. take m after ++ part m n after ++ l) past

@@ -13,8 +13,10 @@ returns-then-place-next c =
     let inv = c.loop-n.invariant in
     let is = c.place_of-place.ensures in
     sym (rises_not c.args.words c.args.changes.now c.loop-n.n c.args.count c.loop-n-test.true
-    (elim c.then-place-next.branch [ then-place-next-via-then-place-next w ↦ inl (omega (arith, w.if-place-next.true, is, inv.next))
-    | then-place-next-via-else-place-next+then-place-words w ↦ inr (omega (arith, w.if-place-words.true, is)) ]))
+    (elim c.then-place-next.branch [
+      | then-place-next-via-then-place-next w ↦ inl (omega (arith, w.if-place-next.true, is, inv.next))
+      | then-place-next-via-else-place-next+then-place-words w ↦ inr (omega (arith, w.if-place-words.true, is))
+    ]))
 
 pub loop-n-preserved : goal.loop-n-preserved
 unfolding next_place

@@ -57,31 +57,33 @@ loop-k-preserved g c =
     let begins = subst (λ (i : ℕ). IsPatchedTo c.loop-k.changes.bytes c.loop-k.changes.count whole (drop 56 body) i) start inv.patched in
     let quiet = quiet_joined g.M.Meta.moment g.M.Meta.left_since g.M.Meta.seen g.M.Meta.may_leave g.met.M.Meta.counts_now _ _ _ inv.quiet c.read_page.ensures.quiet in
     let failed : g.M.Meta.failed c.args.meta.now ≤ g.M.Meta.failed c.read_page.new.meta = omega (arith, inv.failed, c.read_page.ensures.cause.later) in
-    elim c.else-not-are_same.branch [ else-not-are_same-via-then-not-are_same+else-not-note_page v ↦
-        let now = v.note_page.new.changes in
-        let e = v.if-not-note_page.ensures in
-        record {
-          patched = subst (λ (x : Changes). IsPatchedTo x.bytes x.count whole (drop 56 body) (page_start len (k + 1))) (sym v.changes-is)
-              (subst (λ (i : ℕ). IsPatchedTo now.bytes now.count whole (drop 56 body) i) at (e.patched refl whole (drop 56 body) pages begins));
-          rises = subst (λ (x : Changes). AreRising (words_of len) x.bytes x.count (512 * (k + 1))) (sym v.changes-is)
-              (rising_on (words_of len) now.bytes now.count (512 * k + (length new + 7) / 8) (512 * (k + 1)) (words_end (length new) k c.page_of-new.ensures.few)
-              (e.rises refl (words_of len) (words_fit len k (length new) below size) inv.rises));
-          few = subst (λ (x : Changes). x.count ≤ 248) (sym v.changes-is) e.few;
-          quiet = quiet;
-          failed = failed;
-        }
-    | else-not-are_same-via-else-not-are_same v ↦
-        let same = c.are_same.ensures v.if-not-are_same.false in
-        let was = c.loop-k.changes in
-        record {
-          patched = subst (λ (x : Changes). IsPatchedTo x.bytes x.count whole (drop 56 body) (page_start len (k + 1))) (sym v.changes-is)
-              (subst (λ (i : ℕ). IsPatchedTo was.bytes was.count whole (drop 56 body) i) at (begins ∙ grown (4096 * k) (length new) whole (drop 56 body) (pages.was ∙ same ∙ sym pages.is)));
-          rises = subst (λ (x : Changes). AreRising (words_of len) x.bytes x.count (512 * (k + 1))) (sym v.changes-is)
-              (rising_on (words_of len) was.bytes was.count (512 * k) (512 * (k + 1)) (omega arith) inv.rises);
-          few = subst (λ (x : Changes). x.count ≤ 248) (sym v.changes-is) inv.few;
-          quiet = quiet;
-          failed = failed;
-        } ]
+    elim c.else-not-are_same.branch [
+      | else-not-are_same-via-then-not-are_same+else-not-note_page v ↦
+          let now = v.note_page.new.changes in
+          let e = v.if-not-note_page.ensures in
+          record {
+            patched = subst (λ (x : Changes). IsPatchedTo x.bytes x.count whole (drop 56 body) (page_start len (k + 1))) (sym v.changes-is)
+                (subst (λ (i : ℕ). IsPatchedTo now.bytes now.count whole (drop 56 body) i) at (e.patched refl whole (drop 56 body) pages begins));
+            rises = subst (λ (x : Changes). AreRising (words_of len) x.bytes x.count (512 * (k + 1))) (sym v.changes-is)
+                (rising_on (words_of len) now.bytes now.count (512 * k + (length new + 7) / 8) (512 * (k + 1)) (words_end (length new) k c.page_of-new.ensures.few)
+                (e.rises refl (words_of len) (words_fit len k (length new) below size) inv.rises));
+            few = subst (λ (x : Changes). x.count ≤ 248) (sym v.changes-is) e.few;
+            quiet = quiet;
+            failed = failed;
+          }
+      | else-not-are_same-via-else-not-are_same v ↦
+          let same = c.are_same.ensures v.if-not-are_same.false in
+          let was = c.loop-k.changes in
+          record {
+            patched = subst (λ (x : Changes). IsPatchedTo x.bytes x.count whole (drop 56 body) (page_start len (k + 1))) (sym v.changes-is)
+                (subst (λ (i : ℕ). IsPatchedTo was.bytes was.count whole (drop 56 body) i) at (begins ∙ grown (4096 * k) (length new) whole (drop 56 body) (pages.was ∙ same ∙ sym pages.is)));
+            rises = subst (λ (x : Changes). AreRising (words_of len) x.bytes x.count (512 * (k + 1))) (sym v.changes-is)
+                (rising_on (words_of len) was.bytes was.count (512 * k) (512 * (k + 1)) (omega arith) inv.rises);
+            few = subst (λ (x : Changes). x.count ≤ 248) (sym v.changes-is) inv.few;
+            quiet = quiet;
+            failed = failed;
+          }
+    ]
   where
     ends : (len k n : ℕ) → page_start len k ≡ 4096 * k → n ≡ page_size len k → 4096 * k + n ≡ page_start len (k + 1)
     ends len k n start size = omega (arith, start, size)

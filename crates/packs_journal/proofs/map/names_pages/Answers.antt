@@ -23,6 +23,8 @@ loop-k-preserved c =
     let k = c.loop-k.k in
     record {
       named = ap (names_pages_of c.args.pages c.args.map.now) (add-one k) ∙ named_more c.args.pages c.args.map.now k c.loop-k.invariant.named
-          (elim c.else-k-pages.branch [ else-k-pages-via-then-k-pages+else-copy_of-ne0 w ↦ ap (λ b. b || (copy_in c.args.map.now k == 0)) (le-ltb k c.args.pages w.if-k-pages.true) ∙ ap (λ (x : ℕ). x == 0) (sym w.copy_of.ensures.copy ∙ w.if-copy_of-ne0.false)
-          | else-k-pages-via-else-k-pages w ↦ ap (λ b. b || (copy_in c.args.map.now k == 0)) (lt-ltb k c.args.pages (omega (arith, w.if-k-pages.false))) ]);
+          (elim c.else-k-pages.branch [
+            | else-k-pages-via-then-k-pages+else-copy_of-ne0 w ↦ ap (λ b. b || (copy_in c.args.map.now k == 0)) (le-ltb k c.args.pages w.if-k-pages.true) ∙ ap (λ (x : ℕ). x == 0) (sym w.copy_of.ensures.copy ∙ w.if-copy_of-ne0.false)
+            | else-k-pages-via-else-k-pages w ↦ ap (λ b. b || (copy_in c.args.map.now k == 0)) (lt-ltb k c.args.pages (omega (arith, w.if-k-pages.false)))
+          ]);
     }
