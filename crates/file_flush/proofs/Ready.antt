@@ -51,20 +51,20 @@ module _ (shape : Shape) where
   direct_fit : (x : Option (Branch Placed)) → shaped_direct (node_entries shape) x → (n : TreeNode) → Among n (direct_nodes x) → Fits n
   direct_fit None shaped n m = absurd m
   direct_fit (Some b) shaped n (inl e) =
-      subst Fits e (leaf_fits b.token (map address_of b.entries.slots.items) b.entries.dirty (length-map b.entries.slots.items address_of ∙ shaped.0))
+      subst Fits e (leaf_fits b.token (map address_of b.entries.slots.items) b.entries.dirty (length-map b.entries.slots.items address_of ∙ shaped.0.0))
   direct_fit (Some b) shaped n (inr m) = absurd m
 
   indirect_fit : (x : Option (Branch (Branch Placed))) → shaped_indirect (node_entries shape) x → (n : TreeNode) → Among n (indirect_nodes x) → Fits n
   indirect_fit None shaped n m = absurd m
   indirect_fit (Some b) shaped n (inl e) =
-      subst Fits e (inner_fits b.token (map nid_of b.entries.slots.items) b.entries.dirty (length-map b.entries.slots.items nid_of ∙ shaped.0))
-  indirect_fit (Some b) shaped n (inr m) = each_slot Fits (shaped_direct (node_entries shape)) direct_nodes direct_fit b.entries.slots.items shaped.1 n m
+      subst Fits e (inner_fits b.token (map nid_of b.entries.slots.items) b.entries.dirty (length-map b.entries.slots.items nid_of ∙ shaped.0.0))
+  indirect_fit (Some b) shaped n (inr m) = each_slot Fits (shaped_direct (node_entries shape)) direct_nodes direct_fit b.entries.slots.items shaped.0.1 n m
 
   double_fit : (x : Option (Branch (Branch (Branch Placed)))) → shaped_double (node_entries shape) x → (n : TreeNode) → Among n (double_nodes x) → Fits n
   double_fit None shaped n m = absurd m
   double_fit (Some b) shaped n (inl e) =
-      subst Fits e (inner_fits b.token (map nid_of b.entries.slots.items) b.entries.dirty (length-map b.entries.slots.items nid_of ∙ shaped.0))
-  double_fit (Some b) shaped n (inr m) = each_slot Fits (shaped_indirect (node_entries shape)) indirect_nodes indirect_fit b.entries.slots.items shaped.1 n m
+      subst Fits e (inner_fits b.token (map nid_of b.entries.slots.items) b.entries.dirty (length-map b.entries.slots.items nid_of ∙ shaped.0.0))
+  double_fit (Some b) shaped n (inr m) = each_slot Fits (shaped_indirect (node_entries shape)) indirect_nodes indirect_fit b.entries.slots.items shaped.0.1 n m
 
 numbered_one : (e : Entry) → unnumbered e ≡ 0 → 1 ≤ e.number
 numbered_one e none = go e.number none

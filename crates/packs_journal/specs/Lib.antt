@@ -1,0 +1,4 @@
+pub mod Places
+pub mod Journal
+pub mod Reading
+pub mod Staging

@@ -1,0 +1,67 @@
+//! The words in which a body differs from the pages that count.
+ghost use Rattle.std.specs.Prelude.{◌≡◌, ◌≤◌, ◌<◌, ◌+◌, ◌*◌, ◌/◌, List, ℕ, true, length, drop, IfOk};
+ghost use Rattle.device.specs.Disk.{IsQuiet, HasCause};
+ghost use Rattle.packs_journal.specs.Places.{IsArea, page_count as pages_of, word_count as words_of};
+ghost use Rattle.packs_journal.specs.Journal.{rises as rises_in, patched, AreRising, IsPatchedTo, ArePages};
+ghost use Rattle.packs_journal.specs.Reading.{gathered};
+
+use crate::bytes::are_same;
+use crate::changes::Changes;
+use crate::map::Map;
+use crate::pages::{page_of, read_page};
+use crate::places::{PAGE, page_count};
+use device::{DeviceError, Meta};
+
+/// Notes each word in which a body differs from the pages that a map names. Answers false where they are more than a head
+/// has room for.
+pub(crate) fn find_changes<M: Meta>(
+    meta: &mut M,
+    map: &Map,
+    body: &[u8],
+    changes: &mut Changes,
+) -> Result<bool, DeviceError>
+    requires area { IsArea (length body.now) (M.seen meta.old) }
+    requires none { changes.old.count ≡ 0 }
+    ensures patched { IfOk result (λ found. found ≡ true
+        → patched changes.new.bytes changes.new.count (gathered (length body.now) map.now (pages_of (length body.now)) (M.seen meta.old)) ≡ drop 56 body.now) }
+    ensures rises { IfOk result (λ found. found ≡ true → rises_in (words_of (length body.now)) changes.new.bytes changes.new.count ≡ true) }
+    ensures few { changes.new.count ≤ 248 }
+    ensures quiet { IsQuiet M.seen M.may_leave M.moment M.left_since meta.old meta.new }
+    ensures cause { HasCause (M.failed meta.old) (M.failed meta.new) result }
+{
+    let len = body.len() as u64;
+    let mut held = [0u8; PAGE];
+    for k in 0..page_count(len) {
+        let new = page_of(body, k);
+        let old = &mut held[..new.len()];
+        read_page(meta, len, map, k, old)?;
+        if !are_same(old, new) && !note_page(changes, k, old, new) {
+            return Ok(false);
+        }
+    }
+    Ok(true)
+}
+
+// Notes each word in which two pages differ, the pages with this number. Answers false where there is no room.
+fn note_page(changes: &mut Changes, k: u32, old: &[u8], new: &[u8]) -> bool
+    requires number { k < 4352 }
+    requires few { changes.old.count ≤ 248 }
+    requires long { (length old.now ≡ length new.now) × (length new.now ≤ 4096) }
+    ensures patched { result ≡ true → (before after : List ℕ) → ArePages k old.now new.now before after
+        → IsPatchedTo changes.old.bytes changes.old.count before after (4096 * k)
+        → IsPatchedTo changes.new.bytes changes.new.count before after (4096 * k + length new.now) }
+    ensures rises { result ≡ true → (words : ℕ) → 512 * k + (length new.now + 7) / 8 ≤ words
+        → AreRising words changes.old.bytes changes.old.count (512 * k)
+        → AreRising words changes.new.bytes changes.new.count (512 * k + (length new.now + 7) / 8) }
+    ensures few { changes.new.count ≤ 248 }
+{
+    for w in 0..(new.len() as u32 + 7) / 8 {
+        let from = 8 * w as usize;
+        let end = (from + 8).min(new.len());
+        let word = &new[from..end];
+        if !are_same(&old[from..end], word) && !changes.note(512 * k + w, word) {
+            return false;
+        }
+    }
+    true
+}
