@@ -101,7 +101,7 @@ module _ {B L : Type 0} (f : FileState B L) (is : IsFile f) (named : AreNamed f)
             let d = inode_entries f.shape in
             let e = node_entries f.shape in
             let low = within f.direct.slots.items p b at in
-            let inside : s < e = omega (arith, sits, shaped.0) in
+            let inside : s < e = omega (arith, sits, shaped.0.0) in
             let two : p < 2 = omega (arith, is.direct.0) in
             let m = mul-le (p + 1) e 2 e (omega arith) (omega arith) in
             let i = d + (p * e + s) in
@@ -125,7 +125,7 @@ module _ {B L : Type 0} (f : FileState B L) (is : IsFile f) (named : AreNamed f)
             let d = inode_entries f.shape in
             let e = node_entries f.shape in
             let p = entries_positive f.shape in
-            let inside : s < e = omega (arith, sits, shaped.0) in
+            let inside : s < e = omega (arith, sits, shaped.0.0) in
             let under : a < e = omega (arith, within b.entries.slots.items a c at2) in
             let two : q < 2 = omega (arith, within f.indirect.slots.items q b at, is.indirect.0) in
             let less = small e p a s under inside in
@@ -145,7 +145,7 @@ module _ {B L : Type 0} (f : FileState B L) (is : IsFile f) (named : AreNamed f)
         go None at light shaped = tt
         go (Some b) at light shaped = λ a.
             let lighter = weigh_at (weight_direct w) b.entries.slots.items a None refl in
-            inner b at a (entry_at b.entries.slots.items a) refl shaped.0 (omega arith) (shaped.1 a)
+            inner b at a (entry_at b.entries.slots.items a) refl shaped.0.0 (omega arith) (shaped.0.1 a)
 
     own_double : OwnedIn (OwnedBelow (OwnedBelow (OwnedBelow IsOwned)) f.token.number) f.double.slots.items
     own_double z =
@@ -161,7 +161,7 @@ module _ {B L : Type 0} (f : FileState B L) (is : IsFile f) (named : AreNamed f)
             let d = inode_entries f.shape in
             let e = node_entries f.shape in
             let p = entries_positive f.shape in
-            let inside : s < e = omega (arith, sits, shaped.0) in
+            let inside : s < e = omega (arith, sits, shaped.0.0) in
             let under : k < e = omega (arith, within b.entries.slots.items k c at3) in
             let over : a < e = omega (arith, within x.entries.slots.items a b at2) in
             let one : z ≡ 0 = omega (arith, within f.double.slots.items z x at, is.double.0) in
@@ -183,14 +183,14 @@ module _ {B L : Type 0} (f : FileState B L) (is : IsFile f) (named : AreNamed f)
         inner x at a None at2 wide light shaped = tt
         inner x at a (Some b) at2 wide light shaped = λ k.
             let lighter = weigh_at (weight_direct w) b.entries.slots.items k None refl in
-            deepest x at a b at2 wide k (entry_at b.entries.slots.items k) refl shaped.0 (omega arith) (shaped.1 k)
+            deepest x at a b at2 wide k (entry_at b.entries.slots.items k) refl shaped.0.0 (omega arith) (shaped.0.1 k)
 
         go : (x : Option (Branch (Branch (Branch Placed)))) → entry_at f.double.slots.items z ≡ x → weight_double w x ≡ 0 → shaped_double (node_entries f.shape) x
             → OwnedBelow (OwnedBelow (OwnedBelow IsOwned)) f.token.number z x
         go None at light shaped = tt
         go (Some x) at light shaped = λ a.
             let lighter = weigh_at (weight_indirect w) x.entries.slots.items a None refl in
-            inner x at a (entry_at x.entries.slots.items a) refl shaped.0 (omega arith) (shaped.1 a)
+            inner x at a (entry_at x.entries.slots.items a) refl shaped.0.0 (omega arith) (shaped.0.1 a)
 
     pub owns_tickets : HasOwnTickets f
     owns_tickets = record { tickets = own_tickets; direct = own_direct; indirect = own_indirect; double = own_double }

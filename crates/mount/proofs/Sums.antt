@@ -78,21 +78,21 @@ summed_1 : (e : ℕ) (x : Option (Branch Placed)) → shaped_direct e x → sum_
 unfolding each
 summed_1 e None shaped = nothing_found (e * 1)
 summed_1 e (Some b) shaped =
-    let all = slots_summed only_at_zero 1 (ticket_weight each) b.entries.slots.items (λ k. one_ticket (entry_at b.entries.slots.items k)) e shaped.0 in
+    let all = slots_summed only_at_zero 1 (ticket_weight each) b.entries.slots.items (λ k. one_ticket (entry_at b.entries.slots.items k)) e shaped.0.0 in
     omega arith
 
 summed_2 : (e : ℕ) (x : Option (Branch (Branch Placed))) → shaped_indirect e x → sum_below (e * (e * 1)) (λ i. one (find_indirect e x i)) ≡ weight_indirect each x
 unfolding each
 summed_2 e None shaped = nothing_found (e * (e * 1))
 summed_2 e (Some b) shaped =
-    let all = slots_summed (find_direct e) (e * 1) (weight_direct each) b.entries.slots.items (λ k. summed_1 e (entry_at b.entries.slots.items k) (shaped.1 k)) e shaped.0 in
+    let all = slots_summed (find_direct e) (e * 1) (weight_direct each) b.entries.slots.items (λ k. summed_1 e (entry_at b.entries.slots.items k) (shaped.0.1 k)) e shaped.0.0 in
     omega arith
 
 summed_3 : (e : ℕ) (x : Option (Branch (Branch (Branch Placed)))) → shaped_double e x → sum_below (e * (e * (e * 1))) (λ i. one (find_double e x i)) ≡ weight_double each x
 unfolding each
 summed_3 e None shaped = nothing_found (e * (e * (e * 1)))
 summed_3 e (Some b) shaped =
-    let all = slots_summed (find_indirect e) (e * (e * 1)) (weight_indirect each) b.entries.slots.items (λ k. summed_2 e (entry_at b.entries.slots.items k) (shaped.1 k)) e shaped.0 in
+    let all = slots_summed (find_indirect e) (e * (e * 1)) (weight_indirect each) b.entries.slots.items (λ k. summed_2 e (entry_at b.entries.slots.items k) (shaped.0.1 k)) e shaped.0.0 in
     omega arith
 
 joined_low : (w : ℕ) (first rest : ℕ → Option Placed) (i : ℕ) → i < w → joined w first rest i ≡ first i
