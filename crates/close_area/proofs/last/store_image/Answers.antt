@@ -8,7 +8,7 @@ use Rattle.checkpoint_image.specs.View.{taken_view}
 use Rattle.checkpoint_sync.proofs.Laws.{accounts_are, held_are}
 use Rattle.close_area.proofs.last.store_image.Given as given
 use Rattle.close_area.proofs.last.store_image.Goals as goal
-use Rattle.close_area.proofs.last.store_image.Goals.{After-into_image}
+use Rattle.close_area.proofs.last.store_image.Goals.{After-drop-unsettled-in-Ok}
 
 pub take_image-image-requires-clause-accounts : goal.take_image-image-requires-clause-accounts
 take_image-image-requires-clause-accounts g c = accounts_are g.V.Books.BooksName.books.book g.V.Numbers.GeometryName.geometry c.args.files.now.items c.requires.files
@@ -22,7 +22,7 @@ tell_written-requires g c =
     subst (AreFiles book) (sym c.take_image-image.ensures.accounts) (accounts_are book g.V.Numbers.GeometryName.geometry c.args.files.now.items c.requires.files)
 
 -- the image that comes back is the one that was stored
-module _ (g : given.Over) (c : After-into_image g) where
+module _ (g : given.Over) (c : After-drop-unsettled-in-Ok g) where
   written : c.into_image.result ≡ c.of.result.recorded.image
   written = c.into_image.ensures ∙ ap (λ t. t.image) c.in-Ok.ensures.taken
 
