@@ -109,9 +109,10 @@ def try_cut(trial):
     wire.served.ours.close()
     if wire.served.end() in (0, None):
         trial.find("a file that is cut", "the server ended as if all were well")
-    with open(volume.errors, encoding="utf-8") as told:
-        if not any(name in told.read() for name in NAMED):
-            trial.find("a file that is cut", "the server does not tell why")
+    with open(volume.errors, encoding="utf-8") as file:
+        told = file.read()
+    if not any(name in told for name in NAMED):
+        trial.find("a file that is cut", f"the server tells {told.strip()!r}")
     if os.path.getsize(volume.image) != size:
         trial.find("a file that is cut", "it was made longer again")
 
