@@ -1,8 +1,10 @@
 """Plays the steps of crates/tool_runs on a program as a process of its own, and compares what each says with what the gate wants."""
+import fcntl
 import os
 import shutil
 import subprocess
 import tempfile
+from pathlib import Path
 
 TOP = os.path.dirname(os.path.dirname(os.path.realpath(__file__)))
 RUNS = f"{TOP}/crates/tool_runs"
@@ -49,10 +51,13 @@ class Play:
 
     def __init__(self, program, folder, environment):
         self.program, self.folder, self.environment = program, folder, environment
-        self.input, self.is_playable, self.is_compared, self.locked = b"", True, True, None
+        self.input, self.has_input, self.is_playable, self.is_compared, self.locked = b"", True, True, True, None
+        # Whether a user whom permissions bind gets there.
+        above = [folder, *(str(it) for it in Path(folder).parents), os.path.dirname(program)]
+        self.is_bound = os.geteuid() != 0 or all(os.stat(it).st_mode & 1 for it in above)
 
     def drop(self):
-        if os.geteuid() == 0:
+        if os.geteuid() == 0 and self.is_bound:
             os.setgroups([])
             os.setgid(NOBODY)
             os.setuid(NOBODY)
@@ -74,14 +79,14 @@ class Play:
         return os.path.join(self.folder, name)
 
     def prepare(self, words):
-        """Does what tool_runs does between words. What a process can't be given is left out until the next of its kind."""
+        """Does what tool_runs does between words. What a process can't be given is left out: an input until the next one, else a part."""
         verb, first, other = (words + ["", "", ""])[:3]
         if verb in ("input", "many", "failing", "starved"):
-            self.is_playable = verb in ("input", "many")
+            self.has_input = verb in ("input", "many")
             self.input = first.encode() if verb == "input" else b"m" * int(first)
         elif verb in ("full", "unread", "taken"):
             self.is_compared = verb == "taken"
-        elif verb == "halve" or verb == "#":
+        elif verb in ("#", "halve") or verb in ("protect", "hide", "show") and not self.is_bound:
             self.is_playable = verb == "#"
         elif verb == "copy":
             shutil.copyfile(self.path(first), self.path(other))
@@ -92,7 +97,6 @@ class Play:
                 file.seek(int(other))
                 file.write(b"\2")
         elif verb == "lock":
-            import fcntl
             self.locked = open(self.path(first), "rb")
             fcntl.flock(self.locked, fcntl.LOCK_EX)
         elif verb == "unlock":
@@ -105,7 +109,7 @@ class Play:
             os.symlink(other, self.path(first))
         else:
             os.chmod(self.path(first), {"protect": 0o444, "hide": 0o333, "show": 0o755}[verb])
-        if os.geteuid() == 0:
+        if os.geteuid() == 0 and self.is_bound:
             for at, folders, files in os.walk(self.folder):
                 for name in [*folders, *files, "."]:
                     os.chown(f"{at}/{name}", NOBODY, NOBODY, follow_symlinks=False)
@@ -120,15 +124,15 @@ def play(program, environment):
     compared, left, wrong = 0, 0, []
     with tempfile.TemporaryDirectory() as folder:
         shutil.copytree(f"{RUNS}/data", folder, dirs_exist_ok=True)
+        os.chmod(folder, 0o755)
         stage = Play(program, folder, environment)
         stage.prepare(["#"])
-        os.chmod(folder, 0o755)
         for step, wanted in zip(steps, blocks):
             words = words_of(step)
             if words[0] != "rusziveg":
                 stage.prepare(words)
                 continue
-            told = stage.obey(words) if stage.is_playable else None
+            told = stage.obey(words) if stage.is_playable and stage.has_input else None
             if told is None or not stage.is_compared:
                 left += 1
                 continue
