@@ -175,7 +175,7 @@ impl<V: VolumeName, M: Meta> PacksCell<V, M> {
             meta,
             geometry: _,
             version: _,
-            map: _,
+            known: _,
         } = area;
         meta
     }

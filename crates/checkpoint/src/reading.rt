@@ -43,9 +43,9 @@ impl<M: Meta> ImagePacks<M> {
         }
     }
 
-    /// The format of the pack that counts: 1 where it was written whole, 2 where in parts.
+    /// The format of the pack that counts: 1 where it was written whole, 2 where in parts, 3 where in pages.
     pub fn format(&self) -> u32
-        ensures { result ≡ format_of self.now.area.map }
+        ensures { result ≡ format_of self.now.area.geometry.packing self.now.area.known.map }
     {
         self.area.format()
     }

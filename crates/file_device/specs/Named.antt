@@ -3,7 +3,7 @@ use Rattle.std.specs.Prelude.{◌≡◌, ◌<◌, ◌≤◌, ◌⊎◌, ◌-◌,
 use Rattle.geometry.specs.declared.geometry.Geometry.{Geometry}
 use Rattle.geometry.specs.Area.{block_count}
 use Rattle.image.specs.Image.{Image, is_marked, no_entry}
-use Rattle.packs.specs.Parts.{assembled}
+use Rattle.packs.specs.Area.{reading_of}
 use Rattle.packs_format.specs.Grammar.{SpellsTables}
 
 -- the tables of an image name an address: as that of a valid block, or as that of a node
@@ -25,4 +25,4 @@ FlagAll geometry tables flags = (address : ℕ) → 0 < address → address ≤ 
 -- the same of the tables that the pack in each slot of a meta area spells, if it spells any
 abbrev pub FlagNamed : Geometry → List ℕ → List Bool → Type 0
 FlagNamed geometry area flags =
-    (slot : ℕ) → slot ≤ 1 → (tables : Image) → SpellsTables geometry (assembled geometry slot area) tables → FlagAll geometry tables flags
+    (slot : ℕ) → slot ≤ 1 → (tables : Image) → SpellsTables geometry ((reading_of geometry).body slot area) tables → FlagAll geometry tables flags

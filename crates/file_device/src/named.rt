@@ -4,7 +4,7 @@ ghost use Rattle.file_device.specs.Named.{FlagAll, FlagNamed, IsSet, StaySet};
 ghost use Rattle.geometry.specs.Area.{block_count, meta_bytes};
 ghost use Rattle.image.specs.Image.{Image as Tables, is_marked, no_entry};
 ghost use Rattle.image.specs.View.{image_view};
-ghost use Rattle.packs.specs.Parts.{assembled};
+ghost use Rattle.packs.specs.Area.{reading_of};
 ghost use Rattle.packs_format.specs.Grammar.{SpellsTables};
 
 use geometry::{Error, Geometry};
@@ -46,7 +46,7 @@ fn flag_slot(
     requires flags { length flags.old ≡ block_count geometry.now }
     ensures length { length flags.new ≡ length flags.old }
     ensures stay { StaySet flags.old flags.new }
-    ensures named { OnOk result ((tables : Tables) → SpellsTables geometry.now (assembled geometry.now slot area.now) tables
+    ensures named { OnOk result ((tables : Tables) → SpellsTables geometry.now ((reading_of geometry.now).body slot area.now) tables
         → FlagAll geometry.now tables flags.new) }
 {
     match assemble(alloc, geometry, area, slot)? {

@@ -43,7 +43,7 @@ pub use device::{Block, DeviceError, MemBlock, MemDevice, MemMeta, Meta, Parts};
 pub use erasing::erase_in_room;
 pub use file_cells::FilePass;
 pub use file_readers::{Reader, Seat, Status};
-pub use geometry::{Error, Geometry, Kind, Shape};
+pub use geometry::{Error, Geometry, Kind, Packing, Shape};
 pub use ladder::visit_volume;
 pub use law::work_law;
 pub use leave::{Done, Fault, Leave, Stage};

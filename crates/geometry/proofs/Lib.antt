@@ -3,3 +3,4 @@ pub mod Indexing
 pub mod Addresses
 pub mod MarkTests
 pub mod Summaries
+pub mod Areas

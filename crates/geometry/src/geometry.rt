@@ -3,8 +3,9 @@ ghost use Rattle.std.specs.Prelude.{◌≡◌, ◌≢◌, ◌+◌, ◌-◌, ◌*
 ghost use Rattle.geometry.specs.Shape.{block_bytes, segment_blocks};
 ghost use Rattle.geometry.specs.Limits.{IsWithinLimits};
 ghost use Rattle.geometry.specs.declared.error.Error.TheVariants.{BadGeometry};
+ghost use Rattle.geometry.specs.declared.packing.Packing.TheVariants.{Slots};
 
-use crate::{Error, Shape};
+use crate::{Error, Packing, Shape};
 
 /// A volume's numbers. None is beyond its limits.
 #[derive(Clone, Copy, Debug, PartialEq, Eq)]
@@ -18,6 +19,8 @@ pub struct Geometry {
     pub files: u32,
     /// As many node numbers as files, to 65536.
     pub nodes: u32,
+    /// How the checkpoint packs lie.
+    pub packing: Packing,
     ghost limits: { IsWithinLimits segments per_section files nodes },
 }
 
@@ -25,7 +28,7 @@ impl Geometry {
     ghost use Rattle.geometry.specs.Area.{block_count, pack_bytes, meta_bytes};
     ghost use Rattle.geometry.specs.Address.{address_of, segment_of, offset_of};
 
-    /// A geometry of these numbers. Answers BadGeometry where one of them is beyond its limits.
+    /// A geometry of these numbers, whose packs lie in slots. Answers BadGeometry where one of them is beyond its limits.
     pub fn new(
         shape: Shape,
         segments: u32,
@@ -34,7 +37,7 @@ impl Geometry {
         nodes: u32,
     ) -> Result<Geometry, Error>
         ensures within { IsOk result ↔ IsWithinLimits segments per_section files nodes }
-        ensures ok { IfOk result (λ g. (g.shape ≡ shape) × (g.segments ≡ segments) × (g.per_section ≡ per_section) × (g.files ≡ files) × (g.nodes ≡ nodes)) }
+        ensures ok { IfOk result (λ g. (g.shape ≡ shape) × (g.segments ≡ segments) × (g.per_section ≡ per_section) × (g.files ≡ files) × (g.nodes ≡ nodes) × (g.packing ≡ Slots)) }
         ensures err { IfErr result (λ e. e ≡ BadGeometry) }
     {
         if segments < 16 || segments > 4096 {
@@ -58,7 +61,22 @@ impl Geometry {
             per_section,
             files,
             nodes,
+            packing: Packing::Slots,
         })
+    }
+
+    /// The same numbers, with packs that lie so.
+    pub fn with_packing(self, packing: Packing) -> Geometry
+        ensures { result ≡ record self { packing = packing } }
+    {
+        Geometry {
+            shape: self.shape,
+            segments: self.segments,
+            per_section: self.per_section,
+            files: self.files,
+            nodes: self.nodes,
+            packing,
+        }
     }
 
     /// How many blocks all segments have. The largest address is as large.
@@ -112,10 +130,13 @@ impl Geometry {
         60 + 8 * u64::from(self.nodes) + segments * (12 + blocks / 8) + 8 * segments * blocks
     }
 
-    /// The bytes of the meta area: the superblock, and two packs.
+    /// The bytes of the meta area: the superblock, and two packs in slots, or two heads and two copies of each page.
     pub fn meta_bytes(&self) -> u64
         ensures { result ≡ meta_bytes self.now }
     {
-        64 + 2 * self.pack_bytes()
+        match self.packing {
+            Packing::Slots => 64 + 2 * self.pack_bytes(),
+            Packing::Pages => 12288 + 8192 * ((self.pack_bytes() - 60 + 4095) / 4096),
+        }
     }
 }

@@ -3,6 +3,7 @@
 use Rattle.std.proofs.Common.{◌≡◌, refl, ℕ, true, false, List, [], ◌∷◌, ◌++◌, length, replicate, map, take, arith}
 use Rattle.std.specs.Prelude.{Some, None, if◌then◌else◌, ◌==◌}
 use Rattle.geometry.specs.declared.path.Path.TheVariants.{Inode, Direct, Indirect, Double}
+use Rattle.geometry.specs.declared.packing.Packing.TheVariants.{Slots}
 use Rattle.geometry.specs.declared.geometry.Geometry.{Geometry}
 use Rattle.geometry.specs.declared.shape.Shape.TheVariants.{Tiny, Kernel}
 use Rattle.geometry.specs.Path.{node_entries, inode_entries, largest_length, path}
@@ -48,6 +49,7 @@ small = record {
   per_section = 1;
   files = 4;
   nodes = 64;
+  packing = Slots;
   limits = record {
     some_segments = omega arith;
     segments_fit = omega arith;

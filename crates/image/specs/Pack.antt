@@ -4,6 +4,8 @@ use Rattle.std.specs.List.{flat_map}
 use Rattle.byteorder.specs.Endian.{little_bytes, little_number}
 use Rattle.geometry.specs.declared.shape.Shape.{Shape}
 use Rattle.geometry.specs.declared.shape.Shape.TheVariants.{Tiny, Kernel}
+use Rattle.geometry.specs.declared.packing.Packing.{Packing}
+use Rattle.geometry.specs.declared.packing.Packing.TheVariants.{Slots, Pages}
 use Rattle.geometry.specs.declared.geometry.Geometry.{Geometry}
 use Rattle.geometry.specs.declared.owner.Summary.{Summary}
 use Rattle.geometry.specs.Shape.{segment_blocks}
@@ -18,11 +20,16 @@ abbrev pub shape_code : Shape → ℕ
 shape_code Tiny = 0
 shape_code Kernel = 1
 
--- 64 bytes: a name, the format's number, the volume's numbers, and zeros
+-- 1 for formats 1 and 2, which a map tells apart
+abbrev pub packing_code : Packing → ℕ
+packing_code Slots = 1
+packing_code Pages = 3
+
+-- 64 bytes: a name, the number of the packing, the volume's numbers, and zeros
 abbrev pub superblock : Geometry → List ℕ
 superblock geometry =
     codes "F2SEG001"
-    ++ numbers (1 ∷ shape_code geometry.shape ∷ geometry.segments ∷ geometry.per_section ∷ geometry.files ∷ geometry.nodes ∷ [])
+    ++ numbers (packing_code geometry.packing ∷ shape_code geometry.shape ∷ geometry.segments ∷ geometry.per_section ∷ geometry.files ∷ geometry.nodes ∷ [])
     ++ replicate 32 0
 
 abbrev pub log_bytes : Option Place → List ℕ

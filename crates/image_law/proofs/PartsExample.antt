@@ -6,6 +6,7 @@ use Rattle.std.proofs.Common.{◌≡◌, ◌≢◌, refl, sym, ◌∙◌, ap, su
 use Rattle.std.specs.Prelude.{Option, Some, None, IfSome, All, nat_lt, unwrap_or}
 use Rattle.std.proofs.Math.Nat.{div-add-mod'}
 use Rattle.std.proofs.lemmas.Bool.{ltb-true}
+use Rattle.geometry.specs.declared.packing.Packing.TheVariants.{Slots}
 use Rattle.geometry.specs.declared.geometry.Geometry.{Geometry}
 use Rattle.geometry.specs.declared.shape.Shape.TheVariants.{Tiny}
 use Rattle.geometry.specs.File.{Block}
@@ -29,6 +30,7 @@ small = record {
   per_section = 1;
   files = 2;
   nodes = 3;
+  packing = Slots;
   limits = record {
     some_segments = omega arith;
     segments_fit = omega arith;

@@ -2,7 +2,8 @@
 use Rattle.std.proofs.Common.{◌≡◌, ◌∙◌, ℕ, List, length, take, sym, ap, arith}
 use Rattle.std.proofs.lemmas.List.{length-take, take-take}
 use Rattle.device.specs.Disk.{part}
-use Rattle.geometry.specs.Area.{meta_bytes}
+use Rattle.geometry.specs.Area.{meta_bytes, pack_bytes}
+use Rattle.geometry.proofs.Areas.{holds_front}
 use Rattle.geometry.specs.declared.geometry.Geometry.{Geometry}
 use Rattle.image.specs.Image.{Image}
 use Rattle.image.specs.Node.{Node}
@@ -16,10 +17,11 @@ use Rattle.packs_format.specs.Holding.{HoldsTables}
 -- the superblock that was read in front is that of the area
 pub front_there : (geometry : Geometry) (front bytes : List ℕ) → front ≡ part 0 64 bytes → length bytes ≡ file_bytes geometry → HasSuper geometry front
     → HasSuper geometry (area_in geometry bytes)
-front_there geometry front bytes read long super = (
-  omega (arith, long, length-take (meta_bytes geometry) bytes),
-  take-take 32 (meta_bytes geometry) bytes (omega arith) ∙ sym (ap (take 32) read ∙ take-take 32 64 bytes (omega arith)) ∙ super.1,
-)
+front_there geometry front bytes read long super =
+    let whole = holds_front geometry.packing (pack_bytes geometry) in (
+      omega (arith, long, whole, length-take (meta_bytes geometry) bytes),
+      take-take 32 (meta_bytes geometry) bytes (omega (arith, whole)) ∙ sym (ap (take 32) read ∙ take-take 32 64 bytes (omega arith)) ∙ super.1,
+    )
 
 -- tables are spelled whatever the nodes are
 pub held_with : (geometry : Geometry) (area : List ℕ) (image : Image) (nodes : List Node) → HoldsTables geometry image area → HoldsTables geometry (record image { nodes = nodes }) area

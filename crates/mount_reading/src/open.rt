@@ -139,7 +139,7 @@ fn into_meta<M>(packs: ImagePacks<M>) -> M
         meta,
         geometry: _,
         version: _,
-        map: _,
+        known: _,
     } = area;
     meta
 }

@@ -9,7 +9,7 @@ use Rattle.device.proofs.Ranges.{torn_front, holds_part}
 use Rattle.geometry.specs.declared.geometry.Geometry.{Geometry}
 use Rattle.packs.specs.declared.map.Map.{Map}
 use Rattle.packs.specs.Pack.{SameButBody, SameButFooter}
-use Rattle.packs.specs.Area.{footer_at, area_bytes, reading_of}
+use Rattle.packs.specs.Area.{footer_at, area_bytes, slots_reading}
 use Rattle.packs.specs.Device.{IsSameArea}
 use Rattle.packs.specs.Parts.{body_bytes, slot_at, place, side, lies, piece, map_at, map_bytes, read_map, map_in, known_sides, assembled, spelled_map}
 use Rattle.packs.specs.Staging.{body_piece, IsPlan, SameEnds, IsPut}
@@ -55,8 +55,8 @@ module _ (g : Geometry) where
       (λ m is k below. parts (lies slot (side m.sides k)) k (lies_within slot (side m.sides k) le) below)
 
   -- a footer that is torn
-  pub torn_footer : (slot : ℕ) (old new : List ℕ) → slot ≤ 1 → Torn (footer_at (body_bytes g) (1 - slot)) 4 old new → SameButFooter (reading_of g) slot old new
-  torn_footer slot old new le torn = record {
+  pub slots_torn_footer : (slot : ℕ) (old new : List ℕ) → slot ≤ 1 → Torn (footer_at (body_bytes g) (1 - slot)) 4 old new → SameButFooter (slots_reading g) slot old new
+  slots_torn_footer slot old new le torn = record {
     body = all_same slot old new le (footer_map g slot (1 - slot) old new le torn) (λ a j within below. footer_piece g a (1 - slot) j old new within (omega arith) below torn);
     footer = ap (little_number 4) (footer_footer g slot (1 - slot) old new le (omega arith) (slots_apart slot le) torn);
     other = all_same (1 - slot) old new (omega arith) (footer_map g (1 - slot) (1 - slot) old new (omega arith) torn) (λ a j within below. footer_piece g a (1 - slot) j old new within (omega arith) below torn);
@@ -64,7 +64,7 @@ module _ (g : Geometry) where
 
 -- what a write of a part of the next pack, or of its map, keeps: both footers, the picked pack, its map, and the front
 pub record Keeps (g : Geometry) (slot : ℕ) (map : Option Map) (c d : List ℕ) : Type 0 where
-  pub packs : SameButBody (reading_of g) slot c d
+  pub packs : SameButBody (slots_reading g) slot c d
   pub area : IsSameArea c d
   pub mapped : map_in g slot d ≡ map
 

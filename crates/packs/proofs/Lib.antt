@@ -15,3 +15,6 @@ pub mod Named
 pub mod Opening
 pub mod Sizes
 pub mod Fronts
+pub mod Footers
+pub mod Knowing
+pub mod Paging

@@ -58,14 +58,14 @@ module _ (g : Geometry) (slot : ℕ) (old : List Bool) (body area : List ℕ) wh
 -- the next part is planned by packs that are the same but for their device, which shows the same bytes
 pub plan_step : {D : Type 0} (seen : D → List ℕ) (packs now : Packs D) (n : ℕ) (sides : List Bool) (way : Bool) (body : List ℕ)
     → now ≡ record packs { meta = now.meta } → seen now.meta ≡ seen packs.meta → n < 64
-    → IsPlanTo packs.geometry (slot_of packs.version) (known_sides packs.map) n sides body (seen packs.meta)
+    → IsPlanTo packs.geometry (slot_of packs.version) (known_sides packs.known.map) n sides body (seen packs.meta)
     → (way ≡ true → place now.geometry (n + 1) < place now.geometry (suc (n + 1)))
-    → (way ≢ side (known_sides now.map) (n + 1) → piece now.geometry (slot_of now.version) (known_sides now.map) (n + 1) (seen now.meta) ≡ body_piece now.geometry (n + 1) body)
-    → IsPlanTo packs.geometry (slot_of packs.version) (known_sides packs.map) (n + 1) (set sides n way) body (seen packs.meta)
+    → (way ≢ side (known_sides now.known.map) (n + 1) → piece now.geometry (slot_of now.version) (known_sides now.known.map) (n + 1) (seen now.meta) ≡ body_piece now.geometry (n + 1) body)
+    → IsPlanTo packs.geometry (slot_of packs.version) (known_sides packs.known.map) (n + 1) (set sides n way) body (seen packs.meta)
 plan_step {D = D} seen packs now n sides way body rest same below plan named equal =
     let Named : Packs D → ℕ → Type 0 = λ p k. way ≡ true → place p.geometry k < place p.geometry (suc k) in
-    let Equal : Packs D → List ℕ → ℕ → Type 0 = λ p area k. way ≢ side (known_sides p.map) k → piece p.geometry (slot_of p.version) (known_sides p.map) k area ≡ body_piece p.geometry k body in
+    let Equal : Packs D → List ℕ → ℕ → Type 0 = λ p area k. way ≢ side (known_sides p.known.map) k → piece p.geometry (slot_of p.version) (known_sides p.known.map) k area ≡ body_piece p.geometry k body in
     let named' : Named (record packs { meta = now.meta }) (suc n) = subst (Named (record packs { meta = now.meta })) (add-one n) (subst (λ p. Named p (n + 1)) rest named) in
     let equal' : Equal (record packs { meta = now.meta }) (seen packs.meta) (suc n)
     = subst (Equal (record packs { meta = now.meta }) (seen packs.meta)) (add-one n) (subst (λ a. Equal (record packs { meta = now.meta }) a (n + 1)) same (subst (λ p. Equal p (seen now.meta) (n + 1)) rest equal)) in
-    plan_more packs.geometry (slot_of packs.version) (known_sides packs.map) body (seen packs.meta) n sides way below plan named' equal'
+    plan_more packs.geometry (slot_of packs.version) (known_sides packs.known.map) body (seen packs.meta) n sides way below plan named' equal'

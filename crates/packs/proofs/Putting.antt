@@ -9,7 +9,7 @@ use Rattle.image.specs.Slots.{version_of, slot_of}
 use Rattle.packs.specs.declared.map.Map.{Map}
 use Rattle.packs.specs.declared.packs.Packs.{Packs}
 use Rattle.packs.specs.Pack.{IsSettled, SameButBody}
-use Rattle.packs.specs.Area.{reading_of, area_bytes}
+use Rattle.packs.specs.Area.{slots_reading, area_bytes}
 use Rattle.packs.specs.Device.{IsSameArea, KeepsArea, KeepsMapped}
 use Rattle.packs.specs.Parts.{body_bytes, slot_at, place, side, lies, map_at, map_in, read_map, known_sides, assembled}
 use Rattle.packs.specs.Staging.{IsPut, SameEnds, IsPlan}
@@ -23,7 +23,7 @@ module _ (g : Geometry) (version : ℕ) (map : Option Map) (start old : List ℕ
   step : (c d : List ℕ) → KeepsMapped g (slot_of version) map start old c → Keeps g (slot_of version) map c d → KeepsMapped g (slot_of version) map start old d
   step c d was keeps = record {
     kept = record {
-      packs = settled_staging (reading_of g) old c d was.kept.packs (subst (λ (k : ℕ). SameButBody (reading_of g) k c d) slot keeps.packs);
+      packs = settled_staging (slots_reading g) old c d was.kept.packs (subst (λ (k : ℕ). SameButBody (slots_reading g) k c d) slot keeps.packs);
       same = area_joined start c d was.kept.same keeps.area;
     };
     mapped = keeps.mapped;
@@ -47,12 +47,12 @@ module _ (g : Geometry) (version : ℕ) (map : Option Map) (start old : List ℕ
 module _ {D : Type 0} (moment : D → ℕ) (left_since : D → ℕ → List ℕ → Type 0) (may_leave : D → List ℕ → Type 0) where
   abbrev pub KeepOn : Packs D → D → Type 0
   KeepOn packs after =
-      (start old : List ℕ) → Leaves may_leave packs.meta (KeepsMapped packs.geometry (slot_of packs.version) packs.map start old) → slot_of packs.version ≡ slot_of (version_of old)
-      → LeavesOnly moment left_since packs.meta after (KeepsMapped packs.geometry (slot_of packs.version) packs.map start old)
+      (start old : List ℕ) → Leaves may_leave packs.meta (KeepsMapped packs.geometry (slot_of packs.version) packs.known.map start old) → slot_of packs.version ≡ slot_of (version_of old)
+      → LeavesOnly moment left_since packs.meta after (KeepsMapped packs.geometry (slot_of packs.version) packs.known.map start old)
 
   pub keep_more : ((d : D) (t : ℕ) (c : List ℕ) → t ≤ moment d → may_leave d c → left_since d t c) → (packs now : Packs D) (after : D) → now ≡ record packs { meta = now.meta } → KeepOn packs now.meta → KeepOn now after → KeepOn packs after
   keep_more counts_now packs now after rest first second start old had slot =
-      let P = KeepsMapped packs.geometry (slot_of packs.version) packs.map start old in
+      let P = KeepsMapped packs.geometry (slot_of packs.version) packs.known.map start old in
       let so_far = first start old had slot in
       let here : Leaves may_leave now.meta P = λ c left. so_far.each c (counts_now now.meta (moment packs.meta) c so_far.later left) in
       let next : KeepOn (record packs { meta = now.meta }) after = subst (λ p. KeepOn (record p { meta = now.meta }) after) rest second in

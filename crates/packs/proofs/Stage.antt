@@ -8,10 +8,12 @@ use Rattle.geometry.specs.declared.geometry.Geometry.{Geometry}
 use Rattle.image.specs.Slots.{version_of, slot_of}
 use Rattle.packs.specs.declared.packs.Packs.{Packs}
 use Rattle.packs.specs.Pack.{IsSettled, IsStaged}
-use Rattle.packs.specs.Area.{reading_of}
+use Rattle.packs.specs.Area.{slots_reading}
 use Rattle.packs.specs.Device.{KeepsArea, KeepsMapped, AreSettled, AreStaged}
 use Rattle.packs.specs.Parts.{body_bytes, map_in, known_sides, assembled}
 use Rattle.packs.specs.Staging.{IsPlan, IsPut}
+use Rattle.geometry.specs.declared.packing.Packing.TheVariants.{Slots}
+use Rattle.packs.proofs.Knowing.{slots_known, known_slots}
 use Rattle.packs.proofs.Fronts.{kept_alone}
 use Rattle.packs.proofs.Opening.{looked}
 use Rattle.packs.proofs.Putting.{KeepOn, put_whole}
@@ -19,15 +21,15 @@ use Rattle.packs.proofs.Steps.{area_stays}
 
 module _ {D : Type 0} (seen : D → List ℕ) (may_leave : D → List ℕ → Type 0) (moment : D → ℕ) (left_since : D → ℕ → List ℕ → Type 0)
     (seen_is_left : (d : D) → may_leave d (seen d)) (counts_now : (d : D) (t : ℕ) (c : List ℕ) → t ≤ moment d → may_leave d c → left_since d t c)
-    (only_now : (d : D) (c : List ℕ) → left_since d (moment d) c → may_leave d c) (packs : Packs D) (old : List ℕ) (settled : AreSettled (reading_of packs.geometry) seen may_leave packs old) where
+    (only_now : (d : D) (c : List ℕ) → left_since d (moment d) c → may_leave d c) (packs : Packs D) (old : List ℕ) (slots : packs.geometry.packing ≡ Slots) (settled : AreSettled (slots_reading packs.geometry) seen may_leave packs old) where
   abbrev K : List ℕ → Type 0
-  K = KeepsMapped packs.geometry (slot_of packs.version) packs.map (seen packs.meta) old
+  K = KeepsMapped packs.geometry (slot_of packs.version) packs.known.map (seen packs.meta) old
 
   abbrev S : List ℕ → Type 0
-  S = KeepsArea (seen packs.meta) (IsSettled (reading_of packs.geometry) old)
+  S = KeepsArea (seen packs.meta) (IsSettled (slots_reading packs.geometry) old)
 
   had : Leaves may_leave packs.meta K
-  had c left = record { kept = settled.left c left; mapped = settled.map c left }
+  had c left = record { kept = settled.left c left; mapped = slots_known packs.geometry (slot_of packs.version) packs.known c slots (settled.known c left) }
 
   -- the plan reads alone
   pub planned_moments : (planned : D) → IsQuiet seen may_leave moment left_since packs.meta planned → LeavesOnly moment left_since packs.meta planned S
@@ -56,20 +58,21 @@ module _ {D : Type 0} (seen : D → List ℕ) (may_leave : D → List ℕ → Ty
   -- once it is settled the pack is staged
   pub all_staged : (planned : Packs D) (after last : D) (body : List ℕ) (sides : List Bool) → IsQuiet seen may_leave moment left_since packs.meta planned.meta → planned ≡ record packs { meta = planned.meta }
       → KeepOn moment left_since may_leave planned after → length body ≡ body_bytes packs.geometry
-      → IsPlan packs.geometry (slot_of packs.version) (known_sides packs.map) sides body (seen packs.meta)
-      → IsPut packs.geometry (slot_of packs.version) (known_sides packs.map) sides body 66 (seen packs.meta) (seen after)
+      → IsPlan packs.geometry (slot_of packs.version) (known_sides packs.known.map) sides body (seen packs.meta)
+      → IsPut packs.geometry (slot_of packs.version) (known_sides packs.known.map) sides body 66 (seen packs.meta) (seen after)
       → seen last ≡ seen after → Only (seen after) (may_leave last)
-      → AreStaged (reading_of packs.geometry) seen may_leave (record packs { meta = last }) old body sides
+      → AreStaged (slots_reading packs.geometry) seen may_leave (record packs { meta = last }) old body (record { map = Some (record { in_parts = true; sides = sides }); pages = packs.known.pages })
   all_staged planned after last body sides quiet rest on long plan put same only =
-      let r = reading_of packs.geometry in
+      let r = slots_reading packs.geometry in
       let so_far = run planned after quiet rest on in
       let now = so_far.each (seen after) (counts_now after (moment packs.meta) (seen after) so_far.later (seen_is_left after)) in
-      let whole = put_whole packs.geometry (slot_of packs.version) (known_sides packs.map) sides body (seen packs.meta) (seen after) long plan put in
+      let whole = put_whole packs.geometry (slot_of packs.version) (known_sides packs.known.map) sides body (seen packs.meta) (seen after) long plan put in
       let slot : slot_of (version_of old) ≡ slot_of packs.version = ap slot_of (sym settled.version) in
       let staged : IsStaged r old body (seen after) = record { settled = now.kept.packs; body = ap (λ (k : ℕ). assembled packs.geometry (1 - k) (seen after)) slot ∙ whole.0 } in
       record {
-        area = area_stays _ (seen packs.meta) _ settled.area (ap length same ∙ put.ends.area.long);
+        area = area_stays packs.geometry (seen packs.meta) _ settled.area (ap length same ∙ put.ends.area.long);
         version = settled.version;
         left = λ d left. kept_alone (IsStaged r old body) (seen last) d (only d left ∙ sym same) (subst (IsStaged r old body) (sym (only d left)) staged);
-        map = λ d left. subst (λ l. map_in packs.geometry (1 - slot_of packs.version) l ≡ Some (record { in_parts = true; sides = sides })) (sym (only d left)) whole.1;
+        known = λ d left. known_slots packs.geometry (1 - slot_of packs.version) (record { map = Some (record { in_parts = true; sides = sides }); pages = packs.known.pages }) d slots
+            (subst (λ l. map_in packs.geometry (1 - slot_of packs.version) l ≡ Some (record { in_parts = true; sides = sides })) (sym (only d left)) whole.1);
       }

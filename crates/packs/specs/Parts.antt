@@ -1,6 +1,8 @@
 -- The parts of a pack, and which of them lie in the other slot (Linux filesystems/f2fs: NAT and SIT blocks are shadowed one by one; the layout is this project's own).
 use Rattle.std.specs.Prelude.{ℕ, zero, suc, ◌+◌, ◌-◌, ◌*◌, ◌/◌, Bool, true, false, ◌&&◌, ◌==◌, nat_lt, min, if◌then◌else◌, List, [], ◌∷◌, ◌++◌, replicate, slice_index_or, Option, Some, None}
 use Rattle.byteorder.specs.Endian.{little_from, little_bytes}
+use Rattle.geometry.specs.declared.packing.Packing.{Packing}
+use Rattle.geometry.specs.declared.packing.Packing.TheVariants.{Slots, Pages}
 use Rattle.geometry.specs.declared.geometry.Geometry.{Geometry}
 use Rattle.geometry.specs.Shape.{segment_blocks}
 use Rattle.geometry.specs.Area.{pack_bytes}
@@ -107,6 +109,12 @@ known_sides None = []
 known_sides (Some map) = map.sides
 
 -- the number of a pack's format
-abbrev pub format_of : Option Map → ℕ
-format_of None = 1
-format_of (Some map) = if map.in_parts then 2 else 1
+abbrev pub format_of : Packing → Option Map → ℕ
+format_of Slots None = 1
+format_of Slots (Some map) = if map.in_parts then 2 else 1
+format_of Pages map = 3
+
+-- the format that a write makes
+abbrev pub newest_format : Packing → ℕ
+newest_format Slots = 2
+newest_format Pages = 3

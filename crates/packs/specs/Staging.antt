@@ -2,7 +2,7 @@
 use Rattle.std.specs.Prelude.{◌≡◌, ◌≢◌, ◌⊎◌, ℕ, suc, ◌+◌, ◌-◌, ◌<◌, Bool, true, List, length, Some}
 use Rattle.device.specs.Disk.{part}
 use Rattle.geometry.specs.declared.geometry.Geometry.{Geometry}
-use Rattle.packs.specs.Area.{reading_of}
+use Rattle.packs.specs.Area.{slots_reading}
 use Rattle.packs.specs.Device.{IsSameArea}
 use Rattle.packs.specs.Parts.{place, side, piece, are_parts, spelled_map, map_bytes}
 
@@ -20,7 +20,7 @@ pub record IsPlan (geometry : Geometry) (slot : ℕ) (old sides : List Bool) (bo
 -- both footers, the length and the front are the same
 pub record SameEnds (geometry : Geometry) (old new : List ℕ) : Type 0 where
   pub area : IsSameArea old new
-  pub footer : (slot : ℕ) → slot < 2 → (reading_of geometry).footer slot new ≡ (reading_of geometry).footer slot old
+  pub footer : (slot : ℕ) → slot < 2 → (slots_reading geometry).footer slot new ≡ (slots_reading geometry).footer slot old
 
 -- the map, the first n parts and each part that stays are there for the pack in the other slot
 pub record IsPut (geometry : Geometry) (slot : ℕ) (old sides : List Bool) (body : List ℕ) (n : ℕ) (start area : List ℕ) : Type 0 where

@@ -19,9 +19,10 @@ mod reading;
 mod staging;
 mod stored;
 
+pub use area::{footer_at, header_at};
 pub use choice::{Ends, pick};
 pub use law::crash_law;
 pub use map::Map;
-pub use packs::Packs;
+pub use packs::{Known, Packs};
 pub use reading::assemble;
 pub use stored::Stored;

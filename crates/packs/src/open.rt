@@ -8,15 +8,15 @@ ghost use Rattle.device.specs.Disk.{part, Only, Leaves, LeavesOnly, IsQuiet, Has
 ghost use Rattle.packs.specs.Pack.{picked_slot, picked, IsSettled, Between, MayClear};
 ghost use Rattle.packs.specs.Area.{reading_of};
 ghost use Rattle.packs.specs.Parts.{body_bytes as bytes_of_body, map_in};
-ghost use Rattle.packs.specs.Device.{IsArea, IsSameArea, KeepsArea, AreSettled, HoldEnds, IsFound, body_of};
+ghost use Rattle.packs.specs.Device.{IsArea, IsSlots, IsSameArea, KeepsArea, AreSettled, HoldEnds, IsFound, IsKnown, body_of};
 
-use crate::area::{body_bytes, footer_at, map_at, slot_at};
+use crate::area::{body_bytes, footer_at, header_at, map_at};
 use crate::choice::{Found, find};
 use crate::map::{MAP, Map, read_map};
-use crate::{Ends, Packs};
+use crate::{Ends, Known, Packs};
 use byteorder::{ByteOrder, LittleEndian};
 use device::{DeviceError, Meta};
-use geometry::{Error, Geometry};
+use geometry::{Error, Geometry, Packing};
 
 impl<M: Meta> Packs<M> {
     /// Opens an area with any bytes in it: settles what a read gives, picks the sound pack of the higher version, and
@@ -57,7 +57,7 @@ impl<M: Meta> Packs<M> {
             meta,
             geometry: *geometry,
             version: 0,
-            map: None,
+            known: Known::nothing(),
         };
         match packs.settle() {
             Ok(true) => Ok(packs),
@@ -68,7 +68,7 @@ impl<M: Meta> Packs<M> {
 
     // Finds the pack that counts, if there is one, and clears the other slot's footer where that is not below it.
     fn settle(&mut self) -> Result<bool, DeviceError>
-        requires { IsArea (bytes_of_body self.old.geometry) (M.seen self.old.meta) }
+        requires { IsArea self.old.geometry (M.seen self.old.meta) }
         ensures found { IfOk result (λ found. found ≡ true → let reading = reading_of self.new.geometry in
             AreSettled reading M.seen M.may_leave self.new (body_of reading M.seen self.new)
             × (picked (reading_of self.old.geometry) (M.seen self.old.meta) ≡ Some (body_of reading M.seen self.new))) }
@@ -87,8 +87,8 @@ impl<M: Meta> Packs<M> {
             return Ok(false);
         };
         lower_other(&mut self.meta, &self.geometry, found)?;
-        let map = find_map(&mut self.meta, &self.geometry, found.slot)?;
-        self.map = map;
+        let known = find_known(&mut self.meta, &self.geometry, found.slot)?;
+        self.known = known;
         self.version = found.version;
         Ok(true)
     }
@@ -96,7 +96,7 @@ impl<M: Meta> Packs<M> {
 
 // Settles what a read gives, and finds the pack that counts.
 fn look<M: Meta>(meta: &mut M, geometry: &Geometry) -> Result<Option<Found>, DeviceError>
-    requires { IsArea (bytes_of_body geometry.now) (M.seen meta.old) }
+    requires { IsArea geometry.now (M.seen meta.old) }
     ensures found { IfOk result (λ found. MatchOption found (picked_slot (reading_of geometry.now) (M.seen meta.old) ≡ None)
         (λ found. IsFound (reading_of geometry.now) (M.seen meta.old) found)) }
     ensures durable { OnOk result (Only (M.seen meta.old) (M.may_leave meta.new)) }
@@ -110,14 +110,13 @@ fn look<M: Meta>(meta: &mut M, geometry: &Geometry) -> Result<Option<Found>, Dev
 }
 
 fn read_ends<M: Meta>(meta: &mut M, geometry: &Geometry, slot: u32) -> Result<Ends, DeviceError>
-    requires { IsArea (bytes_of_body geometry.now) (M.seen meta.old) × (slot ≤ 1) }
+    requires { IsArea geometry.now (M.seen meta.old) × (slot ≤ 1) }
     ensures ends { IfOk result (λ ends. HoldEnds (reading_of geometry.now) slot (M.seen meta.old) ends) }
     ensures quiet { IsQuiet M.seen M.may_leave M.moment M.left_since meta.old meta.new }
     ensures cause { HasCause (M.failed meta.old) (M.failed meta.new) result }
 {
-    let len = body_bytes(geometry);
-    let header = read_number(meta, slot_at(len, slot))?;
-    let footer = read_number(meta, footer_at(len, slot))?;
+    let header = read_number(meta, header_at(geometry, slot))?;
+    let footer = read_number(meta, footer_at(geometry, slot))?;
     Ok(Ends { header, footer })
 }
 
@@ -132,13 +131,32 @@ fn read_number<M: Meta>(meta: &mut M, at: u64) -> Result<u32, DeviceError>
     Ok(LittleEndian::read_u32(&bytes))
 }
 
+// What is known of a slot's pack.
+fn find_known<M: Meta>(meta: &mut M, geometry: &Geometry, slot: u32) -> Result<Known, DeviceError>
+    requires { IsArea geometry.now (M.seen meta.old) × (slot ≤ 1) }
+    ensures known { IfOk result (λ known. IsKnown geometry.now slot known (M.seen meta.old)) }
+    ensures quiet { IsQuiet M.seen M.may_leave M.moment M.left_since meta.old meta.new }
+    ensures cause { HasCause (M.failed meta.old) (M.failed meta.new) result }
+{
+    let mut known = Known::nothing();
+    match geometry.packing {
+        Packing::Slots => known.map = find_map(meta, geometry, slot)?,
+        Packing::Pages => {
+            if let Some(pages) = packs_journal::find_map(meta, body_bytes(geometry), slot)? {
+                known.pages = pages;
+            }
+        }
+    }
+    Ok(known)
+}
+
 // The map of a slot, if it is one.
 fn find_map<M: Meta>(
     meta: &mut M,
     geometry: &Geometry,
     slot: u32,
 ) -> Result<Option<Map>, DeviceError>
-    requires { IsArea (bytes_of_body geometry.now) (M.seen meta.old) × (slot ≤ 1) }
+    requires { IsSlots (bytes_of_body geometry.now) (M.seen meta.old) × (slot ≤ 1) }
     ensures map { IfOk result (λ map. map ≡ map_in geometry.now slot (M.seen meta.old)) }
     ensures quiet { IsQuiet M.seen M.may_leave M.moment M.left_since meta.old meta.new }
     ensures cause { HasCause (M.failed meta.old) (M.failed meta.new) result }
@@ -150,7 +168,7 @@ fn find_map<M: Meta>(
 
 // Settles a footer of 0 in the other slot, where its number is not below the picked version.
 fn lower_other<M: Meta>(meta: &mut M, geometry: &Geometry, found: Found) -> Result<(), DeviceError>
-    requires area { IsArea (bytes_of_body geometry.now) (M.seen meta.old) }
+    requires area { IsArea geometry.now (M.seen meta.old) }
     requires found { IsFound (reading_of geometry.now) (M.seen meta.old) found }
     requires durable { Only (M.seen meta.old) (M.may_leave meta.old) }
     ensures lowered { OnOk result (IsSettled (reading_of geometry.now) ((reading_of geometry.now).body found.slot (M.seen meta.old)) (M.seen meta.new)) }
@@ -163,7 +181,7 @@ fn lower_other<M: Meta>(meta: &mut M, geometry: &Geometry, found: Found) -> Resu
     if found.other < found.version {
         return Ok(());
     }
-    meta.write(footer_at(body_bytes(geometry), 1 - found.slot), &[0; 4])?;
+    meta.write(footer_at(geometry, 1 - found.slot), &[0; 4])?;
     meta.sync()?;
     Ok(())
 }

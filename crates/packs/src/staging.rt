@@ -3,7 +3,7 @@ ghost use Rattle.std.specs.Prelude.{◌≡◌, ◌≢◌, ◌⊎◌, ◌≤◌, 
 ghost use Rattle.device.specs.Disk.{part, Leaves, LeavesOnly, IsQuiet, HasCause};
 ghost use Rattle.image.specs.Slots.{slot_of, version_of};
 ghost use Rattle.packs.specs.Parts.{body_bytes as bytes_of_body, known_sides, side as side_of_part, piece, place as place_of_part};
-ghost use Rattle.packs.specs.Device.{IsArea, KeepsMapped};
+ghost use Rattle.packs.specs.Device.{IsSlots, KeepsMapped};
 ghost use Rattle.packs.specs.Staging.{IsPlan, IsPut, SameEnds, body_piece};
 
 use crate::Packs;
@@ -19,10 +19,10 @@ impl<M: Meta> Packs<M> {
     // Whether a part of the picked pack is known to lie in the other slot.
     fn known_side(&self, k: u32) -> bool
         requires { k < 66 }
-        ensures side { result ≡ side_of_part (known_sides self.now.map) k }
-        ensures few { length (known_sides self.now.map) ≤ 64 }
+        ensures side { result ≡ side_of_part (known_sides self.now.known.map) k }
+        ensures few { length (known_sides self.now.known.map) ≤ 64 }
     {
-        match &self.map {
+        match &self.known.map {
             Some(map) => side(&map.sides, k),
             None => false,
         }
@@ -31,9 +31,9 @@ impl<M: Meta> Packs<M> {
     // Where the parts of the next pack are to lie: a part that equals the picked pack's stays where that lies. The area stays
     // as it is.
     pub(crate) fn plan(&mut self, body: &[u8]) -> Result<[bool; 64], DeviceError>
-        requires area { IsArea (bytes_of_body self.old.geometry) (M.seen self.old.meta) }
+        requires area { IsSlots (bytes_of_body self.old.geometry) (M.seen self.old.meta) }
         requires len { length body.now ≡ bytes_of_body self.old.geometry }
-        ensures plan { IfOk result (λ sides. IsPlan self.old.geometry (slot_of self.old.version) (known_sides self.old.map) sides
+        ensures plan { IfOk result (λ sides. IsPlan self.old.geometry (slot_of self.old.version) (known_sides self.old.known.map) sides
             body.now (M.seen self.old.meta)) }
         ensures quiet { IsQuiet M.seen M.may_leave M.moment M.left_since self.old.meta self.new.meta }
         ensures rest { self.new ≡ record self.old { meta = self.new.meta } }
@@ -50,11 +50,11 @@ impl<M: Meta> Packs<M> {
 
     // The side of a part of the next pack.
     fn side_for(&mut self, body: &[u8], k: u32) -> Result<bool, DeviceError>
-        requires area { IsArea (bytes_of_body self.old.geometry) (M.seen self.old.meta) }
+        requires area { IsSlots (bytes_of_body self.old.geometry) (M.seen self.old.meta) }
         requires len { length body.now ≡ bytes_of_body self.old.geometry }
         requires within { k < 66 }
-        ensures equal { IfOk result (λ side. side ≢ side_of_part (known_sides self.old.map) k
-            → piece self.old.geometry (slot_of self.old.version) (known_sides self.old.map) k (M.seen self.old.meta)
+        ensures equal { IfOk result (λ side. side ≢ side_of_part (known_sides self.old.known.map) k
+            → piece self.old.geometry (slot_of self.old.version) (known_sides self.old.known.map) k (M.seen self.old.meta)
             ≡ body_piece self.old.geometry k body.now) }
         ensures named { IfOk result (λ side. side ≡ true → place_of_part self.old.geometry k < place_of_part self.old.geometry (suc k)) }
         ensures quiet { IsQuiet M.seen M.may_leave M.moment M.left_since self.old.meta self.new.meta }
@@ -62,7 +62,7 @@ impl<M: Meta> Packs<M> {
         ensures cause { HasCause (M.failed self.old.meta) (M.failed self.new.meta) result }
     {
         let bytes = part_of(&self.geometry, body, k);
-        if bytes.is_empty() || self.map.is_none() {
+        if bytes.is_empty() || self.known.map.is_none() {
             return Ok(false);
         }
         let old = self.known_side(k);
@@ -74,15 +74,15 @@ impl<M: Meta> Packs<M> {
     // Puts the map of the next pack, its header and logs, each part that changes its bytes, and its summaries. Nothing of it is
     // settled yet. Both footers and the picked pack stay at every moment.
     pub(crate) fn put(&mut self, body: &[u8], sides: &[bool; 64]) -> Result<(), DeviceError>
-        requires area { IsArea (bytes_of_body self.old.geometry) (M.seen self.old.meta) }
+        requires area { IsSlots (bytes_of_body self.old.geometry) (M.seen self.old.meta) }
         requires len { length body.now ≡ bytes_of_body self.old.geometry }
-        requires plan { IsPlan self.old.geometry (slot_of self.old.version) (known_sides self.old.map) sides.now
+        requires plan { IsPlan self.old.geometry (slot_of self.old.version) (known_sides self.old.known.map) sides.now
             body.now (M.seen self.old.meta) }
-        ensures put { OnOk result (IsPut self.old.geometry (slot_of self.old.version) (known_sides self.old.map) sides.now
+        ensures put { OnOk result (IsPut self.old.geometry (slot_of self.old.version) (known_sides self.old.known.map) sides.now
             body.now 66 (M.seen self.old.meta) (M.seen self.new.meta)) }
         ensures ends { SameEnds self.old.geometry (M.seen self.old.meta) (M.seen self.new.meta) }
         ensures any_moment { (start old : List ℕ) →
-            let settled = KeepsMapped self.old.geometry (slot_of self.old.version) self.old.map start old in
+            let settled = KeepsMapped self.old.geometry (slot_of self.old.version) self.old.known.map start old in
             Leaves M.may_leave self.old.meta settled → slot_of self.old.version ≡ slot_of (version_of old)
             → LeavesOnly M.moment M.left_since self.old.meta self.new.meta settled }
         ensures rest { self.new ≡ record self.old { meta = self.new.meta } }
@@ -98,15 +98,15 @@ impl<M: Meta> Packs<M> {
 
     // Puts one part of the next pack, if it changes its bytes.
     fn put_part(&mut self, body: &[u8], sides: &[bool; 64], k: u32) -> Result<(), DeviceError>
-        requires area { IsArea (bytes_of_body self.old.geometry) (M.seen self.old.meta) }
+        requires area { IsSlots (bytes_of_body self.old.geometry) (M.seen self.old.meta) }
         requires len { length body.now ≡ bytes_of_body self.old.geometry }
         requires within { k < 66 }
-        ensures put { OnOk result ((start : List ℕ) → IsPut self.old.geometry (slot_of self.old.version) (known_sides self.old.map) sides.now
-            body.now k start (M.seen self.old.meta) → IsPut self.old.geometry (slot_of self.old.version) (known_sides self.old.map) sides.now
+        ensures put { OnOk result ((start : List ℕ) → IsPut self.old.geometry (slot_of self.old.version) (known_sides self.old.known.map) sides.now
+            body.now k start (M.seen self.old.meta) → IsPut self.old.geometry (slot_of self.old.version) (known_sides self.old.known.map) sides.now
             body.now (suc k) start (M.seen self.new.meta)) }
         ensures ends { SameEnds self.old.geometry (M.seen self.old.meta) (M.seen self.new.meta) }
         ensures any_moment { (start old : List ℕ) →
-            let settled = KeepsMapped self.old.geometry (slot_of self.old.version) self.old.map start old in
+            let settled = KeepsMapped self.old.geometry (slot_of self.old.version) self.old.known.map start old in
             Leaves M.may_leave self.old.meta settled → slot_of self.old.version ≡ slot_of (version_of old)
             → LeavesOnly M.moment M.left_since self.old.meta self.new.meta settled }
         ensures rest { self.new ≡ record self.old { meta = self.new.meta } }

@@ -1,13 +1,12 @@
 -- Which slot counts is told by the versions and footers at the slots' ends alone: so what was read of those picks the
 -- body that counts in the file.
-use Rattle.std.proofs.Common.{◌≡◌, sym, ap, ℕ, zero, suc, ◌+◌, ◌-◌, ◌*◌, ◌≤◌, Some, None, List, length, arith}
+use Rattle.std.proofs.Common.{◌≡◌, sym, ap, ℕ, ◌≤◌, Some, None, List, length, arith}
 use Rattle.geometry.specs.declared.geometry.Geometry.{Geometry}
 use Rattle.geometry.specs.Area.{meta_bytes}
 use Rattle.image.specs.Slots.{pick, picked_slot, body_in}
 use Rattle.image.proofs.Picking.{is_picked}
 use Rattle.packs.specs.declared.choice.Ends.{Ends}
 use Rattle.packs.specs.Device.{HoldEnds}
-use Rattle.packs.specs.Parts.{slot_at, assembled}
 use Rattle.packs.specs.Area.{reading_of}
 use Rattle.packs.proofs.Picking.{by_ends}
 use Rattle.packs_format.specs.File.{file_bytes, slot_in, picked_body}
@@ -19,7 +18,7 @@ module _ (geometry : Geometry) (file : List ℕ) where
   ends_chosen first second zeroth one = by_ends (reading_of geometry) file first second zeroth one
 
   -- the body of the slot that was chosen
-  pub slot_picked : (slot : ℕ) → Some slot ≡ picked_slot (slot_in geometry file) → picked_body geometry file ≡ Some (assembled geometry slot file)
+  pub slot_picked : (slot : ℕ) → Some slot ≡ picked_slot (slot_in geometry file) → picked_body geometry file ≡ Some ((reading_of geometry).body slot file)
   slot_picked slot is = ap (body_in (slot_in geometry file)) (sym is)
 
   pub slot_within : (slot : ℕ) → Some slot ≡ picked_slot (slot_in geometry file) → slot ≤ 1
@@ -31,9 +30,3 @@ module _ (geometry : Geometry) (file : List ℕ) where
 -- a file has its meta area in front
 pub file_long : (geometry : Geometry) (file : List ℕ) → length file ≡ file_bytes geometry → meta_bytes geometry ≤ length file
 file_long geometry file is = omega (arith, is)
-
--- where a slot and its footer begin
-pub slot_place : (pack len slot start : ℕ) → len ≡ pack - 4 → 4 ≤ pack → slot ≤ 1 → start ≡ 64 + slot * pack → start ≡ slot_at len slot
-slot_place pack len zero start a b c d = omega (arith, a, b, d)
-slot_place pack len (suc zero) start a b c d = omega (arith, a, b, d)
-slot_place pack len (suc (suc slot)) start a b c d = absurd (omega (arith, c))

@@ -2,6 +2,8 @@
 -- it and the blocks: so two images of the same bytes are the same.
 use Rattle.std.proofs.Common.{◌≡◌, refl, sym, subst, ◌∙◌, ap, ℕ, List, Some}
 use Rattle.std.proofs.Props.{props}
+use Rattle.geometry.specs.declared.packing.Packing.{Packing}
+use Rattle.geometry.specs.declared.packing.Packing.TheVariants.{Slots, Pages}
 use Rattle.geometry.specs.declared.shape.Shape.{Shape}
 use Rattle.geometry.specs.declared.shape.Shape.TheVariants.{Tiny, Kernel}
 use Rattle.geometry.specs.declared.geometry.Geometry.{Geometry}
@@ -9,12 +11,18 @@ use Rattle.geometry.specs.Limits.{IsWithinLimits}
 use Rattle.geometry.specs.File.{Block}
 use Rattle.image.specs.Files.{files}
 use Rattle.image.specs.Image.{Image}
-use Rattle.image.specs.Pack.{shape_code}
+use Rattle.image.specs.Pack.{packing_code, shape_code}
 use Rattle.image.specs.Reading.{image_in}
 use Rattle.packs_format.specs.Grammar.{HasSuper}
 use Rattle.packs_format.proofs.SuperLemmas.{front_numbers}
 use Rattle.packs_format.proofs.RoundTrip.{spelled_back}
 use Rattle.packs_format.specs.OneImage.{HoldVolume, OneImageLaw}
+
+one_packing : (a b : Packing) → packing_code a ≡ packing_code b → a ≡ b
+one_packing Slots Slots is = refl
+one_packing Slots Pages is = cc
+one_packing Pages Slots is = cc
+one_packing Pages Pages is = refl
 
 one_shape : (a b : Shape) → shape_code a ≡ shape_code b → a ≡ b
 one_shape Tiny Tiny is = refl
@@ -26,25 +34,26 @@ one_shape Kernel Kernel is = refl
 limits_one : (a b c d : ℕ) → IsProp (IsWithinLimits a b c d)
 limits_one a b c d = Prim.hlevel props
 
-abbrev of : Shape → (a b c d : ℕ) → IsWithinLimits a b c d → Geometry
-of shape a b c d limits = record { shape = shape; segments = a; per_section = b; files = c; nodes = d; limits = limits }
+abbrev of : Packing → Shape → (a b c d : ℕ) → IsWithinLimits a b c d → Geometry
+of packing shape a b c d limits = record { shape = shape; segments = a; per_section = b; files = c; nodes = d; packing = packing; limits = limits }
 
-same_of : (s s' : Shape) (a a' b b' c c' d d' : ℕ) → s ≡ s' → a ≡ a' → b ≡ b' → c ≡ c' → d ≡ d'
-    → (limits : IsWithinLimits a b c d) (limits' : IsWithinLimits a' b' c' d') → of s a b c d limits ≡ of s' a' b' c' d' limits'
-same_of s s' a a' b b' c c' d d' shape first second third fourth limits =
-    subst (λ t. (l : IsWithinLimits a' b' c' d') → of s a b c d limits ≡ of t a' b' c' d' l) shape (
-    subst (λ x. (l : IsWithinLimits x b' c' d') → of s a b c d limits ≡ of s x b' c' d' l) first (
-    subst (λ x. (l : IsWithinLimits a x c' d') → of s a b c d limits ≡ of s a x c' d' l) second (
-    subst (λ x. (l : IsWithinLimits a b x d') → of s a b c d limits ≡ of s a b x d' l) third (
-    subst (λ x. (l : IsWithinLimits a b c x) → of s a b c d limits ≡ of s a b c x l) fourth (
-    λ l. ap (of s a b c d) (limits_one a b c d limits l))))))
+same_of : (p p' : Packing) (s s' : Shape) (a a' b b' c c' d d' : ℕ) → p ≡ p' → s ≡ s' → a ≡ a' → b ≡ b' → c ≡ c' → d ≡ d'
+    → (limits : IsWithinLimits a b c d) (limits' : IsWithinLimits a' b' c' d') → of p s a b c d limits ≡ of p' s' a' b' c' d' limits'
+same_of p p' s s' a a' b b' c c' d d' packing shape first second third fourth limits =
+    subst (λ q. (l : IsWithinLimits a' b' c' d') → of p s a b c d limits ≡ of q s' a' b' c' d' l) packing (
+    subst (λ t. (l : IsWithinLimits a' b' c' d') → of p s a b c d limits ≡ of p t a' b' c' d' l) shape (
+    subst (λ x. (l : IsWithinLimits x b' c' d') → of p s a b c d limits ≡ of p s x b' c' d' l) first (
+    subst (λ x. (l : IsWithinLimits a x c' d') → of p s a b c d limits ≡ of p s a x c' d' l) second (
+    subst (λ x. (l : IsWithinLimits a b x d') → of p s a b c d limits ≡ of p s a b x d' l) third (
+    subst (λ x. (l : IsWithinLimits a b c x) → of p s a b c d limits ≡ of p s a b c x l) fourth (
+    λ l. ap (of p s a b c d) (limits_one a b c d limits l)))))))
 
 pub one_geometry : (g h : Geometry) (area : List ℕ) → HasSuper g area → HasSuper h area → g ≡ h
 one_geometry g h area is is' =
     let there = front_numbers g area is in
     let here = front_numbers h area is' in
-    same_of g.shape h.shape g.segments h.segments g.per_section h.per_section g.files h.files g.nodes h.nodes
-    (one_shape g.shape h.shape (sym there.shape ∙ here.shape)) (sym there.segments ∙ here.segments)
+    same_of g.packing h.packing g.shape h.shape g.segments h.segments g.per_section h.per_section g.files h.files g.nodes h.nodes
+    (one_packing g.packing h.packing (sym there.packing ∙ here.packing)) (one_shape g.shape h.shape (sym there.shape ∙ here.shape)) (sym there.segments ∙ here.segments)
     (sym there.per_section ∙ here.per_section) (sym there.files ∙ here.files) (sym there.nodes ∙ here.nodes) g.limits h.limits
 
 some_same : {A : Type 0} (x y : A) → Some x ≡ Some y → x ≡ y

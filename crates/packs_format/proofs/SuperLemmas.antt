@@ -8,9 +8,11 @@ use Rattle.byteorder.specs.Endian.{little_from}
 use Rattle.byteorder.specs.Numbers.{little_from-take}
 use Rattle.geometry.specs.declared.shape.Shape.{Shape}
 use Rattle.geometry.specs.declared.shape.Shape.TheVariants.{Tiny, Kernel}
+use Rattle.geometry.specs.declared.packing.Packing.{Packing}
+use Rattle.geometry.specs.declared.packing.Packing.TheVariants.{Slots, Pages}
 use Rattle.geometry.specs.declared.geometry.Geometry.{Geometry}
 use Rattle.image.specs.Node.{numbers}
-use Rattle.image.specs.Pack.{superblock, shape_code}
+use Rattle.image.specs.Pack.{superblock, packing_code, shape_code}
 use Rattle.image.specs.Reading.{number_at, numbers_at}
 use Rattle.image.proofs.RoundTrip.{numbers_there}
 use Rattle.packs_format.specs.Fields.{HasNumbers}
@@ -28,7 +30,11 @@ pub super_long : (geometry : Geometry) → length (superblock geometry) ≡ 64
 super_long geometry = refl
 
 fields : Geometry → List ℕ
-fields geometry = 1 ∷ shape_code geometry.shape ∷ geometry.segments ∷ geometry.per_section ∷ geometry.files ∷ geometry.nodes ∷ []
+fields geometry = packing_code geometry.packing ∷ shape_code geometry.shape ∷ geometry.segments ∷ geometry.per_section ∷ geometry.files ∷ geometry.nodes ∷ []
+
+packing_small : (packing : Packing) → packing_code packing < 2 ^ 32
+packing_small Slots = omega arith
+packing_small Pages = omega arith
 
 shape_small : (shape : Shape) → shape_code shape < 2 ^ 32
 shape_small Tiny = omega arith
@@ -36,7 +42,7 @@ shape_small Kernel = omega arith
 
 fields_small : (geometry : Geometry) → All (λ x. x < 2 ^ 32) (fields geometry)
 unfolding fields
-fields_small geometry zero d below = omega arith
+fields_small geometry zero d below = packing_small geometry.packing
 fields_small geometry (suc zero) d below = shape_small geometry.shape
 fields_small geometry (suc (suc zero)) d below = omega (arith, geometry.limits.segments_fit)
 fields_small geometry (suc (suc (suc zero))) d below = omega (arith, geometry.limits.section_fits)
@@ -51,24 +57,25 @@ fields_there geometry =
     ∙ numbers_there (codes "F2SEG001") (fields geometry) (replicate 32 0) (fields_small geometry)
 
 six : (bytes : List ℕ) (a b c d e f : ℕ) → numbers_at bytes 8 6 ≡ a ∷ b ∷ c ∷ d ∷ e ∷ f ∷ []
-    → (number_at bytes 12 ≡ b) × (number_at bytes 16 ≡ c) × (number_at bytes 20 ≡ d) × (number_at bytes 24 ≡ e) × (number_at bytes 28 ≡ f)
-six bytes a b c d e f is = (cc, cc, cc, cc, cc)
+    → (number_at bytes 8 ≡ a) × (number_at bytes 12 ≡ b) × (number_at bytes 16 ≡ c) × (number_at bytes 20 ≡ d) × (number_at bytes 24 ≡ e) × (number_at bytes 28 ≡ f)
+six bytes a b c d e f is = (cc, cc, cc, cc, cc, cc)
 
 pub super_numbers : (geometry : Geometry) → HasNumbers geometry (superblock geometry)
 unfolding fields
 super_numbers geometry =
-    let all = six (superblock geometry) 1 (shape_code geometry.shape) geometry.segments geometry.per_section geometry.files geometry.nodes (fields_there geometry) in
-    record { shape = all.0; segments = all.1; per_section = all.2; files = all.3; nodes = all.4 }
+    let all = six (superblock geometry) (packing_code geometry.packing) (shape_code geometry.shape) geometry.segments geometry.per_section geometry.files geometry.nodes (fields_there geometry) in
+    record { packing = all.0; shape = all.1; segments = all.2; per_section = all.3; files = all.4; nodes = all.5 }
 
 -- bytes have the numbers of one superblock
 pub numbers_same : (g h : Geometry) (bytes : List ℕ) → HasNumbers g bytes → HasNumbers h bytes → superblock g ≡ superblock h
 numbers_same g h bytes p q =
-    let of : ℕ → ℕ → ℕ → ℕ → ℕ → List ℕ = λ a b c d e. codes "F2SEG001" ++ numbers (1 ∷ a ∷ b ∷ c ∷ d ∷ e ∷ []) ++ replicate 32 0 in
-    ap (λ a. of a g.segments g.per_section g.files g.nodes) (sym p.shape ∙ q.shape)
-    ∙ ap (λ b. of (shape_code h.shape) b g.per_section g.files g.nodes) (sym p.segments ∙ q.segments)
-    ∙ ap (λ c. of (shape_code h.shape) h.segments c g.files g.nodes) (sym p.per_section ∙ q.per_section)
-    ∙ ap (λ d. of (shape_code h.shape) h.segments h.per_section d g.nodes) (sym p.files ∙ q.files)
-    ∙ ap (λ e. of (shape_code h.shape) h.segments h.per_section h.files e) (sym p.nodes ∙ q.nodes)
+    let of : ℕ → ℕ → ℕ → ℕ → ℕ → ℕ → List ℕ = λ p a b c d e. codes "F2SEG001" ++ numbers (p ∷ a ∷ b ∷ c ∷ d ∷ e ∷ []) ++ replicate 32 0 in
+    ap (λ x. of x (shape_code g.shape) g.segments g.per_section g.files g.nodes) (sym p.packing ∙ q.packing)
+    ∙ ap (λ a. of (packing_code h.packing) a g.segments g.per_section g.files g.nodes) (sym p.shape ∙ q.shape)
+    ∙ ap (λ b. of (packing_code h.packing) (shape_code h.shape) b g.per_section g.files g.nodes) (sym p.segments ∙ q.segments)
+    ∙ ap (λ c. of (packing_code h.packing) (shape_code h.shape) h.segments c g.files g.nodes) (sym p.per_section ∙ q.per_section)
+    ∙ ap (λ d. of (packing_code h.packing) (shape_code h.shape) h.segments h.per_section d g.nodes) (sym p.files ∙ q.files)
+    ∙ ap (λ e. of (packing_code h.packing) (shape_code h.shape) h.segments h.per_section h.files e) (sym p.nodes ∙ q.nodes)
 
 pub too_short : (geometry : Geometry) (bytes : List ℕ) → length bytes < 64 → ¬ HasSuper geometry bytes
 too_short geometry bytes short is = omega (arith, short, is.0)
@@ -86,6 +93,7 @@ pub front_numbers : (geometry : Geometry) (bytes : List ℕ) → HasSuper geomet
 front_numbers geometry bytes has =
     let numbers = super_numbers geometry in
     record {
+      packing = same_number geometry bytes 8 has (omega arith) ∙ numbers.packing;
       shape = same_number geometry bytes 12 has (omega arith) ∙ numbers.shape;
       segments = same_number geometry bytes 16 has (omega arith) ∙ numbers.segments;
       per_section = same_number geometry bytes 20 has (omega arith) ∙ numbers.per_section;

@@ -10,7 +10,6 @@ ghost use Rattle.image.specs.View.{image_view, node_or_none};
 ghost use Rattle.packs_format.specs.File.{file_bytes as bytes_of_file, block_in as block_of_file, slot_in, HoldsImage, IsRefusalOf, IsFileRefusal};
 ghost use Rattle.packs.specs.Area.{reading_of};
 ghost use Rattle.packs.specs.Device.{HoldEnds};
-ghost use Rattle.packs.specs.Parts.{assembled};
 ghost use Rattle.packs_format.specs.Grammar.{HasSuper, SpellsTables, SpellsNoTables};
 
 use crate::{decode, read_super};
@@ -19,13 +18,8 @@ use geometry::{Error, Geometry};
 use image::{Image, Node, NodeEntry};
 use image_checker::check;
 use image_codec::decode_node;
-use packs::{Ends, assemble, pick};
+use packs::{Ends, assemble, footer_at, header_at, pick};
 use std::alloc::{AllocError, Global};
-
-// The bytes in front of the slots.
-const SUPER_BYTES: u64 = 64;
-
-const FOOTER_BYTES: u64 = 4;
 
 /// The bytes of an image file: those of the meta area and of the main blocks.
 pub fn file_bytes(geometry: &Geometry) -> u64
@@ -58,11 +52,9 @@ fn ends_at(geometry: &Geometry, file: &[u8], slot: u32) -> Ends
     requires slot { slot ≤ 1 }
     ensures { HoldEnds (reading_of geometry.now) slot file.now result }
 {
-    let pack = geometry.pack_bytes();
-    let start = SUPER_BYTES + u64::from(slot) * pack;
     Ends {
-        header: number_at(file, start),
-        footer: number_at(file, start + pack - FOOTER_BYTES),
+        header: number_at(file, header_at(geometry, slot)),
+        footer: number_at(file, footer_at(geometry, slot)),
     }
 }
 
@@ -119,9 +111,9 @@ fn read_nodes(
 fn decode_slot(alloc: Global, geometry: &Geometry, file: &[u8], slot: u32) -> Result<Image, Error>
     requires size { length file.now ≡ bytes_of_file geometry.now }
     requires slot { slot ≤ 1 }
-    ensures tables { IfOk result (λ image. SpellsTables geometry.now (assembled geometry.now slot file.now) (image_view image)) }
+    ensures tables { IfOk result (λ image. SpellsTables geometry.now ((reading_of geometry.now).body slot file.now) (image_view image)) }
     ensures no_nodes { IfOk result (λ image. image.nodes.items ≡ []) }
-    ensures refused { IfErr result (λ e. (e ≡ NoMemory) ⊎ ((e ≡ BadImage 1) × SpellsNoTables geometry.now (assembled geometry.now slot file.now))) }
+    ensures refused { IfErr result (λ e. (e ≡ NoMemory) ⊎ ((e ≡ BadImage 1) × SpellsNoTables geometry.now ((reading_of geometry.now).body slot file.now))) }
 {
     match assemble(alloc, geometry, file, slot)? {
         Some(body) => decode(alloc, geometry, body.as_slice()),

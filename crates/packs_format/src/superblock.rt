@@ -8,7 +8,7 @@ ghost use Rattle.packs_format.specs.Grammar.{HasSuper};
 ghost use Rattle.packs_format.specs.Fields.{HasNumbers};
 
 use byteorder::{ByteOrder, LittleEndian};
-use geometry::{Error, Geometry, Shape};
+use geometry::{Error, Geometry, Packing, Shape};
 
 const SUPER_BYTES: usize = 64;
 
@@ -17,8 +17,10 @@ const FRONT_BYTES: usize = 32;
 
 const NAME: &[u8; 8] = b"F2SEG001";
 
-// The number of this format.
-const FORMAT: u32 = 1;
+// The numbers of the two packings.
+const SLOTS: u32 = 1;
+
+const PAGES: u32 = 3;
 
 /// Writes the superblock of a geometry over 64 bytes. It takes no memory.
 pub fn write_super(geometry: &Geometry, out: &mut [u8])
@@ -29,8 +31,12 @@ pub fn write_super(geometry: &Geometry, out: &mut [u8])
         Shape::Tiny => 0,
         Shape::Kernel => 1,
     };
+    let packing = match geometry.packing {
+        Packing::Slots => SLOTS,
+        Packing::Pages => PAGES,
+    };
     let numbers = [
-        FORMAT,
+        packing,
         shape,
         geometry.segments,
         geometry.per_section,
@@ -57,6 +63,11 @@ fn geometry_in(head: &[u8]) -> Result<Geometry, Error>
     ensures ok { IfOk result (λ geometry. HasNumbers geometry head.now) }
     ensures err { IfErr result (λ e. (e ≡ BadGeometry) × ((geometry : Numbers) → ¬ HasNumbers geometry head.now)) }
 {
+    let packing = match number_in(head, 8) {
+        SLOTS => Packing::Slots,
+        PAGES => Packing::Pages,
+        _ => return Err(Error::BadGeometry),
+    };
     let shape = match number_in(head, 12) {
         0 => Shape::Tiny,
         1 => Shape::Kernel,
@@ -66,7 +77,8 @@ fn geometry_in(head: &[u8]) -> Result<Geometry, Error>
     let per_section = number_in(head, 20);
     let files = number_in(head, 24);
     let nodes = number_in(head, 28);
-    Geometry::new(shape, segments, per_section, files, nodes)
+    let geometry = Geometry::new(shape, segments, per_section, files, nodes)?;
+    Ok(geometry.with_packing(packing))
 }
 
 /// The geometry that the first 32 bytes tell. What comes behind them is not looked at. Answers BadGeometry where they

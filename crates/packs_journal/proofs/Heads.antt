@@ -1,5 +1,5 @@
 -- Bytes are a head where each of four tests says so.
-use Rattle.std.proofs.Common.{◌≡◌, sym, ◌∙◌, ap, ⊎_elim, ℕ, ◌<◌, ◌≤◌, Bool, true, false, List, [], ◌++◌, take, append-nil}
+use Rattle.std.proofs.Common.{◌≡◌, refl, sym, ◌∙◌, ap, ⊎_elim, ℕ, ◌<◌, ◌≤◌, Bool, true, false, List, [], ◌++◌, take, append-nil}
 use Rattle.std.specs.Prelude.{if◌then◌else◌, ◌&&◌, ◌==◌, not, nat_lt}
 use Rattle.std.proofs.lemmas.Bool.{lt-ltb, le-ltb, ne_eqb, cases_lt, cases_eq}
 use Rattle.image.specs.Reading.{number_at}
@@ -50,6 +50,17 @@ head_few len head is = ⊎_elim
 
     go : 248 < number_at head 56 → is_head len head ≡ false
     go less = ⊎_elim (λ zeros. too_many len head zeros less) (λ others. not_zeros len head others) (cases_eq (number_at head 60) 0)
+
+-- and its map has bits for pages alone
+pub head_names : (len : ℕ) (head : List ℕ) → is_head len head ≡ true → names_pages (page_count len) (map_of head) 4352 ≡ true
+head_names len head is = go (names_pages (page_count len) (map_of head) 4352) refl
+  where
+    go : (b : Bool) → names_pages (page_count len) (map_of head) 4352 ≡ b → names_pages (page_count len) (map_of head) 4352 ≡ true
+    go true named = named
+    go false named = ⊎_elim
+        (λ zeros. absurd (let no : false ≡ true = sym (other_pages len head zeros (head_few len head is) named) ∙ is in cc))
+        (λ others. absurd (let no : false ≡ true = sym (not_zeros len head others) ∙ is in cc))
+        (cases_eq (number_at head 60) 0)
 
 -- a body with a head, and one without
 module _ (len slot : ℕ) (area : List ℕ) where

@@ -1,11 +1,11 @@
 -- The map is gone through bit by bit, and one bit is turned.
-use Rattle.std.proofs.Common.{◌≡◌, ◌≢◌, refl, sym, ◌∙◌, ap, ⊎_elim, ℕ, zero, suc, ◌+◌, ◌-◌, ◌*◌, ◌/◌, ◌%◌, ◌^◌, ◌<◌, ◌≤◌, Bool, true, false, List, length, get_or, set, arith}
+use Rattle.std.proofs.Common.{◌≡◌, ◌≢◌, refl, sym, ◌∙◌, ap, ⊎_elim, ℕ, zero, suc, ◌+◌, ◌-◌, ◌*◌, ◌/◌, ◌%◌, ◌^◌, ◌<◌, ◌≤◌, Bool, true, false, List, length, get_or, set, replicate, arith}
 use Rattle.std.specs.Prelude.{◌&&◌, ◌||◌, ◌==◌, nat_lt}
 use Rattle.std.specs.Int.{bit_at}
 use Rattle.std.specs.Int.RustNames.{bit_xor}
 use Rattle.std.proofs.lemmas.Bool.{lt-ltb, le-ltb, eqb-true, cases_lt, cases_eq}
-use Rattle.std.proofs.lemmas.List.{get_or-set_same, get_or-set_other}
-use Rattle.std.proofs.lemmas.Nat.Bits.{bit_at_xor, bit_at-pow_same, bit_at-pow_other, bit_at-lt}
+use Rattle.std.proofs.lemmas.List.{get_or-set_same, get_or-set_other, get_or-replicate, get_or_past}
+use Rattle.std.proofs.lemmas.Nat.Bits.{bit_at_xor, bit_at-pow_same, bit_at-pow_other, bit_at-lt, bit_at-zero}
 use Rattle.packs_journal.specs.Journal.{copy_in, names_pages}
 
 module _ (pages : ℕ) (map : List ℕ) where
@@ -52,6 +52,16 @@ module _ (pages : ℕ) (map : List ℕ) where
 
       is_zero : (n : ℕ) → pages ≤ n → (nat_lt n pages || (copy_in map n == 0)) ≡ true → copy_in map n ≡ 0
       is_zero n behind is = eqb-true (copy_in map n) 0 (ap (λ b. b || (copy_in map n == 0)) (sym (le-ltb n pages behind)) ∙ is)
+
+-- a map of zeros names the first copies
+zero_copy : (k : ℕ) → copy_in (replicate 544 0) k ≡ 0
+zero_copy k = ⊎_elim
+    (λ (less : k / 8 < 544). ap (λ (x : ℕ). bit_at x (k % 8)) (get_or-replicate 544 (k / 8) 0 0 less) ∙ bit_at-zero (k % 8))
+    (λ past. ap (λ (x : ℕ). bit_at x (k % 8)) (get_or_past (replicate 544 0) (k / 8) 0 (omega (arith, past))) ∙ bit_at-zero (k % 8))
+    (cases_lt (k / 8) 544)
+
+pub zeros_named : (pages : ℕ) → names_pages pages (replicate 544 0) 4352 ≡ true
+zeros_named pages = named_by pages (replicate 544 0) 4352 (λ k less behind. zero_copy k)
 
 -- where one page's bit is another
 pub named_turned : (pages k : ℕ) (old new : List ℕ) → k < pages → ((j : ℕ) → j ≢ k → copy_in new j ≡ copy_in old j) → names_pages pages old 4352 ≡ true → names_pages pages new 4352 ≡ true

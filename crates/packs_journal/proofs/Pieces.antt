@@ -106,3 +106,11 @@ word_put w n word before after long within last few is eight =
         sym (drop-drop 8 (8 * w) (take (8 * w) after ++ drop (8 * w) before))
         ∙ ap (drop 8) (drop_at (take (8 * w) after) (drop (8 * w) before) (8 * w) front)
         ∙ drop-drop 8 (8 * w) before ∙ ap (λ (i : ℕ). drop (8 * w + i) before) (sym full)
+
+-- a slice from an offset on
+pub slice_part : (from size at n : ℕ) (xs : List ℕ) → from ≡ at → size ≡ n → take (from + size - from) (drop from xs) ≡ part at n xs
+slice_part from size at n xs is is' =
+    ap (λ (m : ℕ). take m (drop from xs)) (count from size n is') ∙ ap (λ (a : ℕ). part a n xs) is
+  where
+    count : (from size n : ℕ) → size ≡ n → from + size - from ≡ n
+    count from size n is = omega (arith, is)

@@ -21,5 +21,5 @@ mod turning;
 
 pub use map::Map;
 pub use places::{footer_at, head_at};
-pub use reading::{find_map, read_body};
+pub use reading::{assemble, find_map, read_body};
 pub use staging::stage;

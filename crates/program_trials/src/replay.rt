@@ -3,13 +3,7 @@ use crate::fault::Fault;
 use crate::machine::{Machine, Phase, State};
 use crate::naming::{Name, name_of};
 use crate::recorded::Call;
-use packs::assemble;
-
-// The bytes of a footer.
-const FOOTER: u64 = 4;
-
-// Those in front of the slots.
-const FRONT: u64 = 64;
+use packs::{assemble, footer_at};
 
 impl Machine {
     /// Takes the steps that these calls are, or says which is none.
@@ -246,9 +240,7 @@ impl Machine {
 
     // Where the footer of a slot stands.
     fn footer_at(&self, slot: u32) -> u64 {
-        let pack = self.geometry.pack_bytes();
-        let end = FRONT.saturating_add(pack.saturating_mul(u64::from(slot).saturating_add(1)));
-        end.saturating_sub(FOOTER)
+        footer_at(&self.geometry, slot.min(1))
     }
 
     /// The footer of a slot.

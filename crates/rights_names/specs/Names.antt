@@ -5,6 +5,7 @@ use Rattle.atomic_table.specs.Seated.{TableId}
 use Rattle.atomic_table.specs.declared.badge.Badge.{Badge}
 use Rattle.rights_claims.specs.Rules.{Ruled}
 use Rattle.geometry.specs.declared.geometry.Geometry.{Geometry}
+use Rattle.geometry.specs.declared.packing.Packing.TheVariants.{Slots}
 use Rattle.geometry.specs.declared.shape.Shape.TheVariants.{Tiny}
 use Rattle.geometry.specs.Shape.{segment_blocks}
 use Rattle.rights_books.specs.Accounts.{HandView}
@@ -37,7 +38,7 @@ least_limits = record {
 
 -- the smallest volume
 abbrev pub no_geometry : Geometry
-no_geometry = record { shape = Tiny; segments = 16; per_section = 1; files = 1; nodes = 1; limits = least_limits }
+no_geometry = record { shape = Tiny; segments = 16; per_section = 1; files = 1; nodes = 1; packing = Slots; limits = least_limits }
 
 -- the layout of the books of a volume of these numbers
 abbrev pub layout_of : Geometry → Layout

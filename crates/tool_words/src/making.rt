@@ -4,7 +4,7 @@ use crate::fault::Fault;
 use crate::limits::ask_numbers;
 use crate::opener::Opener;
 use file_device::FileFault;
-use flash_volume::{Geometry, Leave, Shape, work_on_new};
+use flash_volume::{Geometry, Leave, Packing, Shape, work_on_new};
 use std::fs;
 use std::fs::{File, Files};
 use std::sync::Wait;
@@ -43,5 +43,6 @@ fn geometry_of(numbers: Numbers) -> Result<Geometry, Fault> {
         nodes,
     } = numbers;
     let shape = if is_tiny { Shape::TINY } else { Shape::KERNEL };
-    Ok(Geometry::new(shape, segments, per_section, files, nodes)?)
+    let geometry = Geometry::new(shape, segments, per_section, files, nodes)?;
+    Ok(geometry.with_packing(Packing::Pages))
 }

@@ -100,7 +100,7 @@ fn into_meta<M>(packs: Packs<M>) -> M
         meta,
         geometry: _,
         version: _,
-        map: _,
+        known: _,
     } = packs;
     meta
 }

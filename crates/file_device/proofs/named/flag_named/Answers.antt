@@ -1,6 +1,6 @@
 use Rattle.std.proofs.Common.{◌≡◌, ◌∙◌, ◌-◌, ◌++◌, ap, arith, drop, length, subst, sym, take}
 use Rattle.image.specs.Image.{Image}
-use Rattle.packs.specs.Parts.{assembled}
+use Rattle.packs.specs.Area.{reading_of}
 use Rattle.packs_format.specs.Grammar.{SpellsTables}
 use Rattle.file_device.specs.Named.{FlagAll, IsSet}
 use Rattle.file_device.proofs.Flags.{of_slots, written_back}
@@ -22,7 +22,7 @@ returns-clause-named c =
     let met = c.as_mut_slice-2.ensures.value ∙ then in
     let long_still : length two ≡ len = let l = second.length in let m = ap length met in omega (arith, long) in
     let last : take len (two ++ drop (length two) between) ≡ two = written_back two between len long_still in
-    of_slots (λ slot. (tables : Image) → SpellsTables geometry (assembled geometry slot area) tables → FlagAll geometry tables (take len (two ++ drop (length two) between)))
+    of_slots (λ slot. (tables : Image) → SpellsTables geometry ((reading_of geometry).body slot area) tables → FlagAll geometry tables (take len (two ++ drop (length two) between)))
     (λ tables spelled address some within named. subst (λ flags. IsSet flags address) (sym last)
     (second.stay (address - 1) (subst (λ flags. IsSet flags address) (sym met) (first.named tables spelled address some within named))))
     (λ tables spelled address some within named. subst (λ flags. IsSet flags address) (sym last) (second.named tables spelled address some within named))

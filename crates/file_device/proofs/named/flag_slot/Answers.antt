@@ -2,14 +2,14 @@ use Rattle.std.proofs.Common.{◌∙◌, subst, OnOk}
 use Rattle.image.specs.Image.{Image}
 use Rattle.packs_format.specs.Grammar.{SpellsTables}
 use Rattle.file_device.specs.Named.{FlagAll}
-use Rattle.packs.specs.Parts.{assembled}
+use Rattle.packs.specs.Area.{reading_of}
 use Rattle.packs_format.proofs.Parts.{long_as_a_body}
 use Rattle.file_device.proofs.named.flag_slot.Goals as goal
 
 pub returns-in-None-clause-named : goal.returns-in-None-clause-named
 returns-in-None-clause-named c =
     let short = rw c.in-None.is at c.in_ok-body.ensures in
-    λ tables spelled address some within named. absurd (short (long_as_a_body c.args.geometry.now (assembled c.args.geometry.now c.args.slot c.args.area.now) tables spelled))
+    λ tables spelled address some within named. absurd (short (long_as_a_body c.args.geometry.now ((reading_of c.args.geometry.now).body c.args.slot c.args.area.now) tables spelled))
 
 pub returns-in-Some-clause-named : goal.returns-in-Some-clause-named
 returns-in-Some-clause-named c =

@@ -1,8 +1,9 @@
 -- The meta area begins with the superblock that was read, and goes on with what was read behind it.
-use Rattle.std.proofs.Common.{◌≡◌, ◌∙◌, ◌+◌, ◌*◌, ◌++◌, ℕ, List, ap, arith, drop, length, subst, sym, take}
+use Rattle.std.proofs.Common.{◌≡◌, ◌∙◌, ◌++◌, ℕ, List, ap, arith, drop, length, subst, sym, take}
 use Rattle.std.proofs.lemmas.List.{take-append-drop, take-append-le}
 use Rattle.std.specs.Io.KnownBytes.{Consumes}
-use Rattle.geometry.specs.Area.{pack_bytes}
+use Rattle.geometry.specs.Area.{pack_bytes, meta_bytes}
+use Rattle.geometry.proofs.Areas.{holds_front}
 use Rattle.file_device.proofs.Consuming.{consumes_more}
 use Rattle.file_device.proofs.reading.read_area.Goals as goal
 
@@ -17,8 +18,9 @@ returns-clause-front g c =
     let super = c.in_ok-geometry.ensures.ok in
     let whole = begins front c.in_ok-area.area.items area c.in_ok-area.ensures.items c.in_ok-read_more.ensures.front in
     let first_32 : take 32 (front ++ drop (length front) area) ≡ take 32 front = take-append-le 32 front (drop (length front) area) (let few = super.0 in omega arith) in
-    let length_is : length area ≡ 64 + 2 * pack_bytes c.in_ok-geometry.geometry = c.in_ok-read_more.ensures.length ∙ c.meta_bytes.ensures in (
-      omega (arith, length_is),
+    let length_is : length area ≡ meta_bytes c.in_ok-geometry.geometry = c.in_ok-read_more.ensures.length ∙ c.meta_bytes.ensures in
+    let long = holds_front c.in_ok-geometry.geometry.packing (pack_bytes c.in_ok-geometry.geometry) in (
+      omega (arith, length_is, long),
       ap (take 32) (sym whole) ∙ first_32 ∙ super.1,
     )
 

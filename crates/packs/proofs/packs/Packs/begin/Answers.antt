@@ -1,11 +1,6 @@
 use Rattle.packs.specs.Area.{reading_of}
-use Rattle.packs.proofs.First.{first_settled}
-use Rattle.packs.proofs.Sizes.{is_area}
 use Rattle.packs.proofs.Named.{settled_self}
 use Rattle.packs.proofs.packs.Packs.begin.Goals as goal
-
-pub write_first-requires-clause-area : goal.write_first-requires-clause-area
-write_first-requires-clause-area g c = is_area c.args.geometry.now (g.M.Meta.seen c.args.meta) c.requires.area
 
 pub of-stored-requires : goal.of-stored-requires
 of-stored-requires g c = settled_self (reading_of c.write_first.new.self.geometry) g.M.Meta.seen g.M.Meta.may_leave g.met.M.Meta.seen_is_left c.write_first.new.self _ c.in-Ok.ensures.settled

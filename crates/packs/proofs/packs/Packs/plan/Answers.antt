@@ -23,5 +23,5 @@ returns-clause-plan g c =
     let p = c.args.self.now in
     let seen = g.M.Meta.seen p.meta in
     let end : c.loop-k.k ≡ 64 = omega (arith, c.loop-k-test.false, c.loop-k.auto.k-end) in
-    plan_all p.geometry (slot_of p.version) (known_sides p.map) c.args.body.now seen c.loop-k.sides c.known_side-last.ensures.few
-    (subst (λ (n : ℕ). IsPlanTo p.geometry (slot_of p.version) (known_sides p.map) n c.loop-k.sides c.args.body.now seen) end c.loop-k.invariant.plan)
+    plan_all p.geometry (slot_of p.version) (known_sides p.known.map) c.args.body.now seen c.loop-k.sides c.known_side-last.ensures.few
+    (subst (λ (n : ℕ). IsPlanTo p.geometry (slot_of p.version) (known_sides p.known.map) n c.loop-k.sides c.args.body.now seen) end c.loop-k.invariant.plan)

@@ -25,9 +25,9 @@ returns-in_err-write-clause-ends g c =
 pub returns-in_err-write-clause-any_moment : goal.returns-in_err-write-clause-any_moment
 returns-in_err-write-clause-any_moment g c = λ start old had slot.
     let p = c.args.self.now in
-    let P = KeepsMapped p.geometry (slot_of p.version) p.map start old in
+    let P = KeepsMapped p.geometry (slot_of p.version) p.known.map start old in
     torn_moments g.M.Meta.moment g.M.Meta.left_since g.M.Meta.may_leave g.met.M.Meta.only_now _ _ _ _ P P had c.write.ensures.crash c.write.ensures.time (λ d is. is)
-    (map_step p.geometry p.version p.map start old slot c.map_at-at.result (length c.spell_map.result) c.map_at-at.ensures (ap length c.spell_map.ensures ∙ spelled_long c.args.sides.now))
+    (map_step p.geometry p.version p.known.map start old slot c.map_at-at.result (length c.spell_map.result) c.map_at-at.ensures (ap length c.spell_map.ensures ∙ spelled_long c.args.sides.now))
 
 pub loop-k-init : goal.loop-k-init
 loop-k-init g c =
@@ -39,11 +39,11 @@ loop-k-init g c =
     let holds = subst (λ (l : List ℕ). Holds (seen p.meta) (place_of_map (1 - slot_of p.version)) l (seen c.write.new.self)) c.spell_map.ensures
     (subst (λ (a : ℕ). Holds (seen p.meta) a c.spell_map.result (seen c.write.new.self)) c.map_at-at.ensures c.in_ok-write.ensures.written) in
     record {
-      put = put_first p.geometry (slot_of p.version) (known_sides p.map) c.args.sides.now c.args.body.now (seen p.meta) (omega arith) (seen c.write.new.self) c.requires.plan c.requires.area.long many torn holds;
+      put = put_first p.geometry (slot_of p.version) (known_sides p.known.map) c.args.sides.now c.args.body.now (seen p.meta) (omega arith) (seen c.write.new.self) c.requires.plan c.requires.area.long many torn holds;
       moment = λ start old had slot.
-          let P = KeepsMapped p.geometry (slot_of p.version) p.map start old in
+          let P = KeepsMapped p.geometry (slot_of p.version) p.known.map start old in
           torn_moments g.M.Meta.moment g.M.Meta.left_since g.M.Meta.may_leave g.met.M.Meta.only_now _ _ _ _ P P had c.write.ensures.crash c.write.ensures.time (λ d is. is)
-          (map_step p.geometry p.version p.map start old slot c.map_at-at.result (length c.spell_map.result) c.map_at-at.ensures long);
+          (map_step p.geometry p.version p.known.map start old slot c.map_at-at.result (length c.spell_map.result) c.map_at-at.ensures long);
       rest = refl;
       failed = omega (arith, c.write.ensures.cause.later);
     }
@@ -57,7 +57,7 @@ loop-k-preserved g c =
     let p = c.args.self.now in
     let seen = g.M.Meta.seen in
     let inv = c.loop-k.invariant in
-    let IsPutBy : Packs g.row.M.Denot → ℕ → List ℕ → Type 0 = λ q n area. IsPut q.geometry (slot_of q.version) (known_sides q.map) c.args.sides.now c.args.body.now n (seen p.meta) area in
+    let IsPutBy : Packs g.row.M.Denot → ℕ → List ℕ → Type 0 = λ q n area. IsPut q.geometry (slot_of q.version) (known_sides q.known.map) c.args.sides.now c.args.body.now n (seen p.meta) area in
     let more = subst (λ (q : Packs g.row.M.Denot). IsPutBy q c.loop-k.k (seen c.loop-k.self.meta) → IsPutBy q (suc c.loop-k.k) (seen c.put_part.new.self.meta)) inv.rest (c.in_ok-put_part.ensures.put (seen p.meta)) in
     record {
       put = subst (λ (n : ℕ). IsPutBy p n (seen c.put_part.new.self.meta)) (sym (add-one c.loop-k.k)) (more inv.put);

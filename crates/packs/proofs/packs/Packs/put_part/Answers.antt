@@ -32,31 +32,31 @@ pub returns-then-is_empty-clause-put : goal.returns-then-is_empty-clause-put
 returns-then-is_empty-clause-put g c = λ start put.
     let p = c.args.self.now in
     let none : length c.part_of-bytes.result.now ≡ 0 = eqb-true _ 0 (sym c.is_empty.ensures ∙ c.if-is_empty.true) in
-    put_same p.geometry (slot_of p.version) (known_sides p.map) c.args.sides.now c.args.body.now start (omega arith) c.args.k (g.M.Meta.seen p.meta)
+    put_same p.geometry (slot_of p.version) (known_sides p.known.map) c.args.sides.now c.args.body.now start (omega arith) c.args.k (g.M.Meta.seen p.meta)
     (inl (no_bytes _ _ _ (place_next p.geometry c.args.k) c.part_of-bytes.ensures.long none)) put
 
 pub returns-then-other-known_side-clause-put : goal.returns-then-other-known_side-clause-put
 returns-then-other-known_side-clause-put g c = λ start put.
     let p = c.args.self.now in
     let apart : c.side-other.result ≢ c.known_side.result = differ _ _ c.if-other-known_side.true in
-    put_same p.geometry (slot_of p.version) (known_sides p.map) c.args.sides.now c.args.body.now start (omega arith) c.args.k (g.M.Meta.seen p.meta)
+    put_same p.geometry (slot_of p.version) (known_sides p.known.map) c.args.sides.now c.args.body.now start (omega arith) c.args.k (g.M.Meta.seen p.meta)
     (inr (λ is. apart (c.side-other.ensures.side ∙ is ∙ sym c.known_side.ensures.side))) put
 
 pub returns-in_err-write-clause-any_moment : goal.returns-in_err-write-clause-any_moment
 returns-in_err-write-clause-any_moment g c = λ start old had slot.
     let p = c.args.self.now in
-    let P = KeepsMapped p.geometry (slot_of p.version) p.map start old in
+    let P = KeepsMapped p.geometry (slot_of p.version) p.known.map start old in
     let same : c.side-other.result ≡ c.known_side.result = agree _ _ c.if-other-known_side.false in
     torn_moments g.M.Meta.moment g.M.Meta.left_since g.M.Meta.may_leave g.met.M.Meta.only_now _ _ _ _ P P had c.write.ensures.crash c.write.ensures.time (λ d is. is)
-    (part_step p.geometry p.version p.map start old slot c.part_at-at.result (length c.part_of-bytes.result.now) c.args.k c.side-other.result c.requires.within (same ∙ c.known_side.ensures.side) c.part_at-at.ensures.place c.part_of-bytes.ensures.long)
+    (part_step p.geometry p.version p.known.map start old slot c.part_at-at.result (length c.part_of-bytes.result.now) c.args.k c.side-other.result c.requires.within (same ∙ c.known_side.ensures.side) c.part_at-at.ensures.place c.part_of-bytes.ensures.long)
 
 pub returns-clause-any_moment : goal.returns-clause-any_moment
 returns-clause-any_moment g c = λ start old had slot.
     let p = c.args.self.now in
-    let P = KeepsMapped p.geometry (slot_of p.version) p.map start old in
+    let P = KeepsMapped p.geometry (slot_of p.version) p.known.map start old in
     let same : c.side-other.result ≡ c.known_side.result = agree _ _ c.if-other-known_side.false in
     torn_moments g.M.Meta.moment g.M.Meta.left_since g.M.Meta.may_leave g.met.M.Meta.only_now _ _ _ _ P P had c.write.ensures.crash c.write.ensures.time (λ d is. is)
-    (part_step p.geometry p.version p.map start old slot c.part_at-at.result (length c.part_of-bytes.result.now) c.args.k c.side-other.result c.requires.within (same ∙ c.known_side.ensures.side) c.part_at-at.ensures.place c.part_of-bytes.ensures.long)
+    (part_step p.geometry p.version p.known.map start old slot c.part_at-at.result (length c.part_of-bytes.result.now) c.args.k c.side-other.result c.requires.within (same ∙ c.known_side.ensures.side) c.part_at-at.ensures.place c.part_of-bytes.ensures.long)
 
 pub returns-in_err-write-clause-ends : goal.returns-in_err-write-clause-ends
 returns-in_err-write-clause-ends g c =
@@ -88,5 +88,5 @@ returns-clause-put g c = λ start put.
     let torn : Torn (slot_at (body_bytes p.geometry) b + place p.geometry c.args.k) n (seen p.meta) (seen c.write.new.self)
     = subst (λ (a : ℕ). Torn a n (seen p.meta) (seen c.write.new.self)) at (subst (λ (m : ℕ). Torn c.part_at-at.result m (seen p.meta) (seen c.write.new.self)) c.part_of-bytes.ensures.long c.write.ensures.others) in
     let holds = subst (λ (a : ℕ). Holds (seen p.meta) a c.part_of-bytes.result.now (seen c.write.new.self)) at c.in_ok-write.ensures.written in
-    put_more p.geometry (slot_of p.version) (known_sides p.map) c.args.sides.now c.args.body.now start (omega arith) c.args.k (seen p.meta) (seen c.write.new.self) c.part_of-bytes.result.now
+    put_more p.geometry (slot_of p.version) (known_sides p.known.map) c.args.sides.now c.args.body.now start (omega arith) c.args.k (seen p.meta) (seen c.write.new.self) c.part_of-bytes.result.now
     c.requires.within c.requires.area.long c.part_of-bytes.ensures.bytes c.part_of-bytes.ensures.long torn holds put

@@ -3,9 +3,8 @@
 use Rattle.std.proofs.Common.{◌≡◌, ℕ, List, Some, length, sym, ◌∙◌, ap, subst}
 use Rattle.image.specs.Slots.{version_of, slot_of}
 use Rattle.packs.specs.Pack.{slots_in, IsPicked, IsSettled}
-use Rattle.packs.specs.Parts.{map_in}
 use Rattle.packs.specs.Area.{reading_of}
-use Rattle.packs.specs.Device.{IsFound, AreSettled, body_of}
+use Rattle.packs.specs.Device.{IsFound, IsKnown, AreSettled, body_of}
 use Rattle.packs.specs.declared.packs.Packs.{Packs}
 use Rattle.image.proofs.Picking.{picks}
 use Rattle.packs.proofs.Named.{settled_named}
@@ -26,24 +25,24 @@ returns-in_err-lower_other-clause-any_moment g c =
     opened g.M.Meta.seen g.M.Meta.may_leave g.M.Meta.moment g.M.Meta.left_since g.met.M.Meta.seen_is_left g.met.M.Meta.counts_now g.met.M.Meta.only_now (reading_of c.args.self.now.geometry) c.in-Some.found.slot _ _ _ old new had c.look.ensures.quiet picked c.lower_other.ensures.any_moment
 
 -- the map is read of an area that was opened
-pub returns-in_err-map-clause-any_moment : goal.returns-in_err-map-clause-any_moment
-returns-in_err-map-clause-any_moment g c =
+pub returns-in_err-known-clause-any_moment : goal.returns-in_err-known-clause-any_moment
+returns-in_err-known-clause-any_moment g c =
     λ old new had.
     let f : IsFound (reading_of c.args.self.now.geometry) (g.M.Meta.seen c.args.self.now.meta) c.in-Some.found = rw c.in-Some.is at c.in_ok-found.ensures.found in
     let picked = subst (IsPicked (reading_of c.args.self.now.geometry) c.in-Some.found.slot) (sym c.look.ensures.quiet.same) f.slot in
-    opened_read g.M.Meta.seen g.M.Meta.may_leave g.M.Meta.moment g.M.Meta.left_since g.met.M.Meta.seen_is_left g.met.M.Meta.counts_now g.met.M.Meta.only_now (reading_of c.args.self.now.geometry) c.in-Some.found.slot _ _ _ _ old new had c.look.ensures.quiet picked c.lower_other.ensures.any_moment c.find_map.ensures.quiet
+    opened_read g.M.Meta.seen g.M.Meta.may_leave g.M.Meta.moment g.M.Meta.left_since g.met.M.Meta.seen_is_left g.met.M.Meta.counts_now g.met.M.Meta.only_now (reading_of c.args.self.now.geometry) c.in-Some.found.slot _ _ _ _ old new had c.look.ensures.quiet picked c.lower_other.ensures.any_moment c.find_known.ensures.quiet
 
 pub returns-clause-any_moment : goal.returns-clause-any_moment
 returns-clause-any_moment g c =
     λ old new had.
     let f : IsFound (reading_of c.args.self.now.geometry) (g.M.Meta.seen c.args.self.now.meta) c.in-Some.found = rw c.in-Some.is at c.in_ok-found.ensures.found in
     let picked = subst (IsPicked (reading_of c.args.self.now.geometry) c.in-Some.found.slot) (sym c.look.ensures.quiet.same) f.slot in
-    opened_read g.M.Meta.seen g.M.Meta.may_leave g.M.Meta.moment g.M.Meta.left_since g.met.M.Meta.seen_is_left g.met.M.Meta.counts_now g.met.M.Meta.only_now (reading_of c.args.self.now.geometry) c.in-Some.found.slot _ _ _ _ old new had c.look.ensures.quiet picked c.lower_other.ensures.any_moment c.find_map.ensures.quiet
+    opened_read g.M.Meta.seen g.M.Meta.may_leave g.M.Meta.moment g.M.Meta.left_since g.met.M.Meta.seen_is_left g.met.M.Meta.counts_now g.met.M.Meta.only_now (reading_of c.args.self.now.geometry) c.in-Some.found.slot _ _ _ _ old new had c.look.ensures.quiet picked c.lower_other.ensures.any_moment c.find_known.ensures.quiet
 
-pub find_map-requires : goal.find_map-requires
-find_map-requires g c =
+pub find_known-requires : goal.find_known-requires
+find_known-requires g c =
     let f : IsFound (reading_of c.args.self.now.geometry) (g.M.Meta.seen c.args.self.now.meta) c.in-Some.found = rw c.in-Some.is at c.in_ok-found.ensures.found in
-    (area_stays _ (g.M.Meta.seen c.args.self.now.meta) _ c.requires (c.lower_other.ensures.same.long ∙ ap length c.look.ensures.quiet.same), f.slot.within)
+    (area_stays c.args.self.now.geometry (g.M.Meta.seen c.args.self.now.meta) _ c.requires (c.lower_other.ensures.same.long ∙ ap length c.look.ensures.quiet.same), f.slot.within)
 
 pub returns-clause-found : goal.returns-clause-found
 returns-clause-found g c =
@@ -54,19 +53,19 @@ returns-clause-found g c =
     let f : IsFound r area c.in-Some.found = rw c.in-Some.is at c.in_ok-found.ensures.found in
     let body : List ℕ = r.body c.in-Some.found.slot (seen c.look.new.meta) in
     let same : r.body c.in-Some.found.slot area ≡ body = ap (λ (l : List ℕ). r.body c.in-Some.found.slot l) (sym c.look.ensures.quiet.same) in
-    let now : Packs g.row.M.Denot = record { meta = c.find_map.new.meta; geometry = geometry; version = c.in-Some.found.version; map = c.in_ok-map.map } in
-    let ended : seen c.find_map.new.meta ≡ seen c.lower_other.new.meta = c.find_map.ensures.quiet.same in
-    let only : (d : List ℕ) → g.M.Meta.may_leave c.find_map.new.meta d → d ≡ seen c.find_map.new.meta =
-    λ d now. c.in_ok-lower_other.ensures.durable d (c.find_map.ensures.quiet.fewer d now) ∙ sym ended in
-    let settles : IsSettled r body (seen c.find_map.new.meta) = subst (IsSettled r body) (sym ended) c.in_ok-lower_other.ensures.lowered in
+    let now : Packs g.row.M.Denot = record { meta = c.find_known.new.meta; geometry = geometry; version = c.in-Some.found.version; known = c.in_ok-known.known } in
+    let ended : seen c.find_known.new.meta ≡ seen c.lower_other.new.meta = c.find_known.ensures.quiet.same in
+    let only : (d : List ℕ) → g.M.Meta.may_leave c.find_known.new.meta d → d ≡ seen c.find_known.new.meta =
+    λ d now. c.in_ok-lower_other.ensures.durable d (c.find_known.ensures.quiet.fewer d now) ∙ sym ended in
+    let settles : IsSettled r body (seen c.find_known.new.meta) = subst (IsSettled r body) (sym ended) c.in_ok-lower_other.ensures.lowered in
     let slot : slot_of c.in-Some.found.version ≡ c.in-Some.found.slot = ap slot_of f.version ∙ f.slot.sound.parity in
-    let mapped : map_in geometry (slot_of c.in-Some.found.version) (seen c.find_map.new.meta) ≡ c.in_ok-map.map =
-    ap (λ (k : ℕ). map_in geometry k (seen c.find_map.new.meta)) slot ∙ ap (map_in geometry c.in-Some.found.slot) ended ∙ sym c.in_ok-map.ensures.map in
+    let known : IsKnown geometry (slot_of c.in-Some.found.version) c.in_ok-known.known (seen c.find_known.new.meta) =
+    subst (λ (k : ℕ). IsKnown geometry k c.in_ok-known.known (seen c.find_known.new.meta)) (sym slot) (subst (IsKnown geometry c.in-Some.found.slot c.in_ok-known.known) (sym ended) c.in_ok-known.ensures.known) in
     let settled : AreSettled r seen g.M.Meta.may_leave now body = record {
-      area = area_stays _ area _ c.requires (ap length ended ∙ c.lower_other.ensures.same.long ∙ ap length c.look.ensures.quiet.same);
+      area = area_stays geometry area _ c.requires (ap length ended ∙ c.lower_other.ensures.same.long ∙ ap length c.look.ensures.quiet.same);
       version = f.version ∙ ap version_of same;
-      left = λ d left. kept_alone (IsSettled r body) (seen c.find_map.new.meta) d (only d left) (subst (IsSettled r body) (sym (only d left)) settles);
-      map = λ d left. subst (λ l. map_in geometry (slot_of c.in-Some.found.version) l ≡ c.in_ok-map.map) (sym (only d left)) mapped;
+      left = λ d left. kept_alone (IsSettled r body) (seen c.find_known.new.meta) d (only d left) (subst (IsSettled r body) (sym (only d left)) settles);
+      known = λ d left. subst (IsKnown geometry (slot_of c.in-Some.found.version) c.in_ok-known.known) (sym (only d left)) known;
     } in
     let named : body_of r seen now ≡ body = settled_named r seen g.M.Meta.may_leave g.met.M.Meta.seen_is_left now body settled in
     λ _. (

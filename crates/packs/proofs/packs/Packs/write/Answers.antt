@@ -1,6 +1,6 @@
 -- Until it is staged the old pack is settled, and while it is made to count the area lies between the two: so a crash
 -- at any moment leaves the one or the other.
-use Rattle.std.proofs.Common.{◌≡◌, ◌+◌, Bool, List, ℕ, sym, ◌∙◌, ap, subst, arith}
+use Rattle.std.proofs.Common.{◌≡◌, ◌+◌, List, ℕ, sym, ◌∙◌, ap, subst, arith}
 use Rattle.byteorder.specs.Endian.{little_number}
 use Rattle.device.specs.Disk.{LeavesOnly}
 use Rattle.device.proofs.Moments.{joined, weaker}
@@ -9,6 +9,7 @@ use Rattle.packs.specs.Pack.{IsSettled, Between}
 use Rattle.geometry.specs.declared.geometry.Geometry.{Geometry}
 use Rattle.packs.specs.Area.{reading_of}
 use Rattle.packs.specs.Device.{KeepsArea, IsSameArea, AreStaged, body_of, staged_in}
+use Rattle.packs.specs.declared.packs.Known.{Known}
 use Rattle.packs.specs.declared.packs.Packs.{Packs}
 use Rattle.packs.proofs.Crash.{settled_between}
 use Rattle.packs.proofs.Fronts.{kept_weaker, kept_from}
@@ -21,7 +22,7 @@ read_version version body is = is
 
 pub commit-requires-clause-version : goal.commit-requires-clause-version
 commit-requires-clause-version g c =
-    let named = new_named (reading_of c.stage.new.self.geometry) g.M.Meta.seen g.M.Meta.may_leave g.met.M.Meta.seen_is_left c.stage.new.self _ _ _ c.in_ok-sides.ensures.staged in
+    let named = new_named (reading_of c.stage.new.self.geometry) g.M.Meta.seen g.M.Meta.may_leave g.met.M.Meta.seen_is_left c.stage.new.self _ _ _ c.in_ok-known.ensures.staged in
     read_version _ _ c.read_u32-version.ensures ∙ ap version_of (sym named)
 
 pub commit-requires-clause-next : goal.commit-requires-clause-next
@@ -30,18 +31,18 @@ commit-requires-clause-next g c =
 
 -- a body is staged and then made to count: a crash at any moment leaves the old pack or the new one
 both_moments : {D : Type 0} (moment : D → ℕ) (left_since : D → ℕ → List ℕ → Type 0) (seen : D → List ℕ) (may_leave : D → List ℕ → Type 0) → ((d : D) → may_leave d (seen d))
-    → (packs mid : Packs D) (after : D) (body : List ℕ) (sides : List Bool) → packs.version ≡ version_of (body_of (reading_of packs.geometry) seen packs) → version_of body ≡ packs.version + 1
-    → AreStaged (reading_of mid.geometry) seen may_leave mid (body_of (reading_of packs.geometry) seen packs) body sides → mid.geometry ≡ packs.geometry → IsSameArea (seen packs.meta) (seen mid.meta)
+    → (packs mid : Packs D) (after : D) (body : List ℕ) (next : Known) → packs.version ≡ version_of (body_of (reading_of packs.geometry) seen packs) → version_of body ≡ packs.version + 1
+    → AreStaged (reading_of mid.geometry) seen may_leave mid (body_of (reading_of packs.geometry) seen packs) body next → mid.geometry ≡ packs.geometry → IsSameArea (seen packs.meta) (seen mid.meta)
     → LeavesOnly moment left_since packs.meta mid.meta (KeepsArea (seen packs.meta) (IsSettled (reading_of packs.geometry) (body_of (reading_of packs.geometry) seen packs)))
     → LeavesOnly moment left_since mid.meta after (KeepsArea (seen mid.meta) (Between (reading_of mid.geometry) (body_of (reading_of mid.geometry) seen mid) (staged_in (reading_of mid.geometry) seen mid)))
     → LeavesOnly moment left_since packs.meta after (KeepsArea (seen packs.meta) (Between (reading_of packs.geometry) (body_of (reading_of packs.geometry) seen packs) body))
-both_moments moment left_since seen may_leave seen_is_left packs mid after body sides is is_next staged len same settling counting =
+both_moments moment left_since seen may_leave seen_is_left packs mid after body next is is_next staged len same settling counting =
     let old = body_of (reading_of packs.geometry) seen packs in
-    let next : version_of body ≡ version_of old + 1 = omega arith in
+    let follows : version_of body ≡ version_of old + 1 = omega arith in
     let area = seen packs.meta in
     let B = Between (reading_of packs.geometry) old body in
     let first = weaker moment left_since packs.meta mid.meta _ (KeepsArea area B)
-    (λ d. kept_weaker (IsSettled (reading_of packs.geometry) old) B area d (settled_between (reading_of packs.geometry) old body d next)) settling in
+    (λ d. kept_weaker (IsSettled (reading_of packs.geometry) old) B area d (settled_between (reading_of packs.geometry) old body d follows)) settling in
     let second = subst (λ (n : Geometry). LeavesOnly moment left_since mid.meta after (KeepsArea (seen mid.meta) (Between (reading_of n) old body))) len
     (subst (λ (l : List ℕ). LeavesOnly moment left_since mid.meta after (KeepsArea (seen mid.meta) (Between (reading_of mid.geometry) l body))) (old_named (reading_of mid.geometry) seen may_leave seen_is_left mid _ _ _ staged)
     (subst (λ (l : List ℕ). LeavesOnly moment left_since mid.meta after (KeepsArea (seen mid.meta) (Between (reading_of mid.geometry) (body_of (reading_of mid.geometry) seen mid) l))) (new_named (reading_of mid.geometry) seen may_leave seen_is_left mid _ _ _ staged)
@@ -51,13 +52,13 @@ both_moments moment left_since seen may_leave seen_is_left packs mid after body 
 
 pub returns-in_err-commit-clause-any_moment : goal.returns-in_err-commit-clause-any_moment
 returns-in_err-commit-clause-any_moment g c =
-    both_moments g.M.Meta.moment g.M.Meta.left_since g.M.Meta.seen g.M.Meta.may_leave g.met.M.Meta.seen_is_left c.args.self.now c.stage.new.self c.commit.new.self.meta c.args.body.now c.in_ok-sides.sides
-    c.requires.settled.version c.requires.next c.in_ok-sides.ensures.staged (ap (λ (p : Packs g.row.M.Denot). p.geometry) c.stage.ensures.rest) c.stage.ensures.same c.stage.ensures.any_moment c.commit.ensures.any_moment
+    both_moments g.M.Meta.moment g.M.Meta.left_since g.M.Meta.seen g.M.Meta.may_leave g.met.M.Meta.seen_is_left c.args.self.now c.stage.new.self c.commit.new.self.meta c.args.body.now c.in_ok-known.known
+    c.requires.settled.version c.requires.next c.in_ok-known.ensures.staged (ap (λ (p : Packs g.row.M.Denot). p.geometry) c.stage.ensures.rest) c.stage.ensures.same c.stage.ensures.any_moment c.commit.ensures.any_moment
 
 pub returns-clause-any_moment : goal.returns-clause-any_moment
 returns-clause-any_moment g c =
-    both_moments g.M.Meta.moment g.M.Meta.left_since g.M.Meta.seen g.M.Meta.may_leave g.met.M.Meta.seen_is_left c.args.self.now c.stage.new.self c.commit.new.self.meta c.args.body.now c.in_ok-sides.sides
-    c.requires.settled.version c.requires.next c.in_ok-sides.ensures.staged (ap (λ (p : Packs g.row.M.Denot). p.geometry) c.stage.ensures.rest) c.stage.ensures.same c.stage.ensures.any_moment c.commit.ensures.any_moment
+    both_moments g.M.Meta.moment g.M.Meta.left_since g.M.Meta.seen g.M.Meta.may_leave g.met.M.Meta.seen_is_left c.args.self.now c.stage.new.self c.commit.new.self.meta c.args.body.now c.in_ok-known.known
+    c.requires.settled.version c.requires.next c.in_ok-known.ensures.staged (ap (λ (p : Packs g.row.M.Denot). p.geometry) c.stage.ensures.rest) c.stage.ensures.same c.stage.ensures.any_moment c.commit.ensures.any_moment
 
 pub of-requires : goal.of-requires
 of-requires g c = settled_self (reading_of c.commit.new.self.geometry) g.M.Meta.seen g.M.Meta.may_leave g.met.M.Meta.seen_is_left c.commit.new.self _ c.in_ok-commit.ensures.settled
@@ -65,4 +66,4 @@ of-requires g c = settled_self (reading_of c.commit.new.self.geometry) g.M.Meta.
 pub returns-clause-body : goal.returns-clause-body
 returns-clause-body g c =
     settled_named (reading_of c.commit.new.self.geometry) g.M.Meta.seen g.M.Meta.may_leave g.met.M.Meta.seen_is_left c.commit.new.self _ c.in_ok-commit.ensures.settled
-    ∙ new_named (reading_of c.stage.new.self.geometry) g.M.Meta.seen g.M.Meta.may_leave g.met.M.Meta.seen_is_left c.stage.new.self _ _ _ c.in_ok-sides.ensures.staged
+    ∙ new_named (reading_of c.stage.new.self.geometry) g.M.Meta.seen g.M.Meta.may_leave g.met.M.Meta.seen_is_left c.stage.new.self _ _ _ c.in_ok-known.ensures.staged

@@ -3,7 +3,7 @@ use Rattle.std.specs.Prelude.{Some}
 use Rattle.packs.specs.Parts.{body_bytes}
 use Rattle.packs.proofs.Gathering.{assembled_is, assembled_short}
 use Rattle.packs.proofs.Sizes.{is_more, is_long, front_fits}
-use Rattle.packs.proofs.reading.assemble.Goals as goal
+use Rattle.packs.proofs.reading.assemble_parts.Goals as goal
 
 pub returns-in_ok-parts_of-in-Some : goal.returns-in_ok-parts_of-in-Some
 returns-in_ok-parts_of-in-Some c =
@@ -14,4 +14,4 @@ returns-in-None c =
     let geometry = c.args.geometry.now in
     let more = is_more geometry in
     assembled_short geometry c.args.slot c.args.area.now
-    (front_fits (body_bytes geometry) c.args.slot (length c.args.area.now) c.requires.slot (omega (arith, more)) (is_long geometry c.args.area.now c.requires.long)) more (sym c.find_map.ensures ∙ c.in-None.is)
+    (front_fits (body_bytes geometry) c.args.slot (length c.args.area.now) c.requires.slot (omega (arith, more)) (is_long geometry c.args.area.now c.requires.slots c.requires.long)) more (sym c.find_map.ensures ∙ c.in-None.is)

@@ -1,0 +1,88 @@
+-- A head of zeros names the first copies, so what is staged beside it is the first pack.
+use Rattle.std.proofs.Common.{◌≡◌, refl, sym, ◌∙◌, ap, subst, inl, inr, ℕ, zero, suc, ◌+◌, ◌-◌, ◌<◌, ◌≤◌, ◌⊎◌, true, List, [], ◌∷◌, length, take, drop, replicate, arith}
+use Rattle.byteorder.specs.Endian.{little_number}
+use Rattle.device.specs.Disk.{part, Torn, Holds}
+use Rattle.device.proofs.Ranges.{holds_part, torn_before, torn_after}
+use Rattle.std.proofs.lemmas.List.{length-replicate, drop-replicate, take-replicate}
+use Rattle.packs.specs.Parts.{body_bytes}
+use Rattle.packs.specs.Device.{IsSameArea, IsKnown}
+use Rattle.packs.proofs.Sizes.{is_paged}
+use Rattle.packs.proofs.Keeping.{torn_area, area_joined}
+use Rattle.packs.proofs.Paging.{beside_area}
+use Rattle.packs.proofs.Knowing.{known_pages}
+use Rattle.packs_journal.specs.Places.{IsArea, head_at, footer_at, page_count}
+use Rattle.packs_journal.specs.Journal.{map_of, names_pages, is_head}
+use Rattle.packs_journal.specs.Reading.{head_in, footer_in, assembled}
+use Rattle.packs_journal.proofs.Beside.{apart_same}
+use Rattle.packs_journal.proofs.Maps.{zeros_named}
+use Rattle.packs.proofs.packs.Packs.put_first_pages.Goals as goal
+
+-- a head's write leaves the footers
+feet_stay : (n : ℕ) (c d : List ℕ) → n ≤ 3584 → Torn (head_at 0) n c d → (slot : ℕ) → slot < 2 → footer_in slot d ≡ footer_in slot c
+feet_stay n c d few torn slot below = ap (little_number 4) (apart_same (head_at 0) n (footer_at slot) 4 c d (inr (omega (arith, few))) torn)
+
+zeros_are : length (replicate {A = ℕ} 3584 0) ≡ 3584
+zeros_are = length-replicate {A = ℕ} 3584 0
+
+zeros_long : length (replicate {A = ℕ} 3584 0) ≤ 3584
+zeros_long = omega (arith, zeros_are)
+
+no_map : map_of (replicate 3584 0) ≡ replicate 544 0
+no_map = ap (take 544) (drop-replicate 64 3584 0) ∙ take-replicate 544 3520 0 (omega arith)
+
+head_torn : (n : ℕ) (at : ℕ) (c d : List ℕ) → at ≡ head_at 0 → Torn at n c d → Torn (head_at 0) n c d
+head_torn n at c d is torn = subst (λ (a : ℕ). Torn a n c d) is torn
+
+pub returns-in_err-write-clause-footers : goal.returns-in_err-write-clause-footers
+returns-in_err-write-clause-footers g c = feet_stay _ (g.M.Meta.seen c.args.self.now.meta) (g.M.Meta.seen c.write.new.self) zeros_long (head_torn _ _ _ _ c.head_at.ensures c.write.ensures.others)
+
+pub returns-in_err-write-clause-same : goal.returns-in_err-write-clause-same
+returns-in_err-write-clause-same g c = torn_area _ _ _ _ (omega (arith, c.head_at.ensures)) c.write.ensures.others
+
+pub returns-in_err-sync-clause-footers : goal.returns-in_err-sync-clause-footers
+returns-in_err-sync-clause-footers g c = λ slot below.
+    ap (footer_in slot) c.sync.ensures.quiet.same ∙ feet_stay _ (g.M.Meta.seen c.args.self.now.meta) (g.M.Meta.seen c.write.new.self) zeros_long (head_torn _ _ _ _ c.head_at.ensures c.write.ensures.others) slot below
+
+pub returns-in_err-sync-clause-same : goal.returns-in_err-sync-clause-same
+returns-in_err-sync-clause-same g c =
+    subst (IsSameArea (g.M.Meta.seen c.args.self.now.meta)) (sym c.sync.ensures.quiet.same) (torn_area _ _ _ _ (omega (arith, c.head_at.ensures)) c.write.ensures.others)
+
+pub stage-requires-clause-area : goal.stage-requires-clause-area
+stage-requires-clause-area g c =
+    let p = c.args.self.now in
+    let seen = g.M.Meta.seen in
+    let was : IsArea (length c.args.body.now) (seen p.meta) = subst (λ (n : ℕ). IsArea n (seen p.meta)) (sym c.requires.len) (is_paged p.geometry (seen p.meta) c.requires.pages c.requires.area) in
+    record { body = was.body; long = ap length c.sync.ensures.quiet.same ∙ c.write.ensures.others.long ∙ was.long }
+
+pub stage-requires-clause-named : goal.stage-requires-clause-named
+stage-requires-clause-named g c = zeros_named (page_count (length c.args.body.now))
+
+pub stage-requires-clause-mapped : goal.stage-requires-clause-mapped
+stage-requires-clause-mapped g c = λ d left is.
+    let seen = g.M.Meta.seen in
+    let p = c.args.self.now in
+    let whole = is_paged p.geometry (seen p.meta) c.requires.pages c.requires.area in
+    let holds = subst (λ (a : ℕ). Holds (seen p.meta) a (replicate 3584 0) (seen c.write.new.self)) c.head_at.ensures c.in_ok-write.ensures.written in
+    let head : head_in 0 (seen c.write.new.self) ≡ replicate 3584 0
+    = ap (λ (n : ℕ). part (head_at 0) n (seen c.write.new.self)) (sym zeros_are) ∙ holds_part (head_at 0) (replicate 3584 0) (seen p.meta) (seen c.write.new.self) (omega (arith, zeros_are, whole.long)) holds in
+    ap (λ (l : List ℕ). map_of (head_in 0 l)) (c.in_ok-sync.ensures.durable d left) ∙ ap map_of head ∙ no_map
+
+pub returns-in_err-stage-clause-footers : goal.returns-in_err-stage-clause-footers
+returns-in_err-stage-clause-footers g c = λ slot below.
+    c.stage.ensures.beside.footers slot below ∙ ap (footer_in slot) c.sync.ensures.quiet.same
+    ∙ feet_stay _ (g.M.Meta.seen c.args.self.now.meta) (g.M.Meta.seen c.write.new.self) zeros_long (head_torn _ _ _ _ c.head_at.ensures c.write.ensures.others) slot below
+
+pub returns-in_err-stage-clause-same : goal.returns-in_err-stage-clause-same
+returns-in_err-stage-clause-same g c =
+    area_joined _ _ _ (subst (IsSameArea (g.M.Meta.seen c.args.self.now.meta)) (sym c.sync.ensures.quiet.same) (torn_area _ _ _ _ (omega (arith, c.head_at.ensures)) c.write.ensures.others))
+    (beside_area (length c.args.body.now) 0 _ _ c.stage.ensures.beside)
+
+pub returns-clause-footers : goal.returns-clause-footers
+returns-clause-footers g c = λ slot below.
+    c.stage.ensures.beside.footers slot below ∙ ap (footer_in slot) c.sync.ensures.quiet.same
+    ∙ feet_stay _ (g.M.Meta.seen c.args.self.now.meta) (g.M.Meta.seen c.write.new.self) zeros_long (head_torn _ _ _ _ c.head_at.ensures c.write.ensures.others) slot below
+
+pub returns-clause-same : goal.returns-clause-same
+returns-clause-same g c =
+    area_joined _ _ _ (subst (IsSameArea (g.M.Meta.seen c.args.self.now.meta)) (sym c.sync.ensures.quiet.same) (torn_area _ _ _ _ (omega (arith, c.head_at.ensures)) c.write.ensures.others))
+    (beside_area (length c.args.body.now) 0 _ _ c.stage.ensures.beside)
