@@ -29,10 +29,10 @@ read_whole {D} seen may_leave moment left_since packs area whole rest quiet =
     let s = whole.settled in
     let read : Packs D = record packs.area { meta = area.meta } in
     let settled : AreSettled r seen may_leave read (counting_body seen (record { area = read; geometry = packs.geometry })) = record {
-      area = subst (IsArea (body_bytes packs.area.geometry)) (sym quiet.same) s.area;
+      area = subst (IsArea packs.area.geometry) (sym quiet.same) s.area;
       version = s.version ∙ ap (λ (l : List ℕ). version_of (r.body slot l)) (sym quiet.same);
       left = λ c left. subst (λ (l : List ℕ). KeepsArea l (IsSettled r (r.body slot l)) c) (sym quiet.same) (s.left c (quiet.fewer c left));
-      map = λ c left. s.map c (quiet.fewer c left);
+      known = λ c left. s.known c (quiet.fewer c left);
     } in
     subst (λ (p : Packs D). AreWhole seen may_leave (record { area = p; geometry = packs.geometry })) (sym rest) (record { size = whole.size; settled = settled })
 
