@@ -4,12 +4,20 @@ use crate::acts::Acts;
 use crate::mounting::Nothing;
 use device::MemDevice;
 use file_device::read_device;
-use flash_volume::{Leave, Stage, Threading, visit_volume, work_on_new};
+use flash_volume::{Leave, Packing, Stage, Threading, visit_volume, work_on_new};
 use geometry::{Error, Geometry, Shape};
 use program_trials::{Around, Chance, Counts, Fault, Machine, bytes_of, inside, tear};
 use std::alloc::{AllocError, Global};
 use std::rt::Runtime;
 use std::sync::Wait;
+
+// The volumes: with packs in slots, and in pages. The larger one has more words than a head has room for, so that its pages are written
+// now and then.
+const VOLUMES: [(Packing, u32, &str); 3] = [
+    (Packing::Slots, 16, ""),
+    (Packing::Pages, 16, " in pages"),
+    (Packing::Pages, 48, " in pages, with more segments"),
+];
 
 // So often a script's device is mounted, and so many calls are made each time.
 const MOUNTS: u32 = 4;
@@ -18,12 +26,29 @@ const CALLS: u32 = 100;
 
 /// Replays so many scripts, and prints how many steps of each kind they took.
 pub fn replay_all<R: Runtime + Wait>(rt: &R, alloc: Global, count: u32) -> Result<(), Fault> {
+    for (packing, segments, name) in VOLUMES {
+        let Ok(geometry) = Geometry::new(Shape::TINY, segments, 1, 4, 32) else {
+            return Err(Fault::Wrong(String::from_str(alloc, "no geometry")?));
+        };
+        replay_on(rt, alloc, geometry.with_packing(packing), count, name)?;
+    }
+    Ok(())
+}
+
+// Replays so many scripts on volumes of a geometry.
+fn replay_on<R: Runtime + Wait>(
+    rt: &R,
+    alloc: Global,
+    geometry: Geometry,
+    count: u32,
+    name: &str,
+) -> Result<(), Fault> {
     let mut counts = Counts::NONE;
     for seed in 0..count {
         if seed.is_multiple_of(100) {
             let _ = eprintln!(rt; "machine: script {seed} of {count}");
         }
-        counts = match replay_script(rt, alloc, seed, counts) {
+        counts = match replay_script(rt, alloc, geometry, seed, counts) {
             Ok(counts) => counts,
             Err(Fault::Wrong(what)) => {
                 return Err(Fault::Wrong(format!(in alloc; "script {seed}: {what}")?));
@@ -32,7 +57,7 @@ pub fn replay_all<R: Runtime + Wait>(rt: &R, alloc: Global, count: u32) -> Resul
         };
     }
     println!(rt;
-        "{count} scripts: {} appends, {} in holes, {} moved, {} spoiled; {} releases, {} segments opened, {} packs, {} crashes",
+        "{count} scripts{name}: {} appends, {} in holes, {} moved, {} spoiled; {} releases, {} segments opened, {} packs, {} crashes",
         counts.appends,
         counts.holes,
         counts.migrations,
@@ -49,12 +74,10 @@ pub fn replay_all<R: Runtime + Wait>(rt: &R, alloc: Global, count: u32) -> Resul
 fn replay_script<R: Wait>(
     rt: &R,
     alloc: Global,
+    geometry: Geometry,
     seed: u32,
     counts: Counts,
 ) -> Result<Counts, Fault> {
-    let Ok(geometry) = Geometry::new(Shape::TINY, 16, 1, 4, 32) else {
-        return Err(Fault::Wrong(String::from_str(alloc, "no geometry")?));
-    };
     let mut chance = Chance::of(seed);
     let mut machine = Machine::new(alloc, geometry, counts)?;
     let mut file = format(rt, alloc, geometry)?;
