@@ -19,11 +19,7 @@ const SUPER_BYTES: usize = 64;
 
 /// A meta area with the superblock of a geometry, and a pack of the first version that spells an image's tables. The only error is
 /// NoMemory.
-pub(crate) fn new_area(
-    alloc: Global,
-    geometry: &Geometry,
-    image: &Image,
-) -> Result<Vec<u8>, Error>
+pub(crate) fn new_area(alloc: Global, geometry: &Geometry, image: &Image) -> Result<Vec<u8>, Error>
     requires first { image.now.version ≡ 1 }
     requires range { IsInRange geometry.now (image_view image.now) }
     ensures long { IfOk result (λ area. length area.items ≡ meta_bytes geometry.now) }
@@ -32,8 +28,8 @@ pub(crate) fn new_area(
     ensures refused { IfErr result (λ error. error ≡ NoMemory) }
 {
     let body = encode(alloc, geometry, image)?;
-    let area = front_area(alloc, geometry)?;
-    match Packs::begin(MemMeta::new(area), geometry, body.as_slice()) {
+    let meta = front_area(alloc, geometry)?;
+    match Packs::begin(meta, geometry, body.as_slice()) {
         Ok((packs, _)) => Ok(into_bytes(packs)),
         // An area in memory never fails.
         Err(_) => Err(Error::NoMemory),
@@ -41,14 +37,19 @@ pub(crate) fn new_area(
 }
 
 // A meta area of zeros behind the superblock.
-fn front_area(alloc: Global, geometry: &Geometry) -> Result<Vec<u8>, Error>
-    ensures long { IfOk result (λ area. length area.items ≡ meta_bytes geometry.now) }
-    ensures front { IfOk result (λ area. HasSuper geometry.now area.items) }
+fn front_area(alloc: Global, geometry: &Geometry) -> Result<MemMeta, Error>
+    ensures long { IfOk result (λ meta. length (⟦<MemMeta as Meta>⟧.seen meta) ≡ meta_bytes geometry.now) }
+    ensures front { IfOk result (λ meta. HasSuper geometry.now (⟦<MemMeta as Meta>⟧.seen meta)) }
     ensures refused { IfErr result (λ error. error ≡ NoMemory) }
 {
-    let mut area = vec![in alloc; 0u8; geometry.meta_bytes() as usize]?;
-    write_super(geometry, &mut area.as_mut_slice()[..SUPER_BYTES]);
-    Ok(area)
+    let zeros = vec![in alloc; 0u8; geometry.meta_bytes() as usize]?;
+    let mut meta = MemMeta::new(zeros);
+    let mut front = [0u8; SUPER_BYTES];
+    write_super(geometry, &mut front);
+    match meta.write(0, &front) {
+        Ok(()) => Ok(meta),
+        Err(_) => Err(Error::NoMemory),
+    }
 }
 
 // The bytes of the meta area of packs.

@@ -19,6 +19,7 @@ struct Scene {
     name: &'static str,
     packing: Packing,
     segments: u32,
+    nodes: u32,
     work: TwoCheckpoints,
 }
 
@@ -28,18 +29,21 @@ const SCENES: [Scene; 3] = [
         name: "a checkpoint",
         packing: Packing::Slots,
         segments: 16,
+        nodes: 32,
         work: TwoCheckpoints::Few,
     },
     Scene {
         name: "a checkpoint in pages, with few changes",
         packing: Packing::Pages,
         segments: 16,
+        nodes: 32,
         work: TwoCheckpoints::Few,
     },
     Scene {
         name: "a checkpoint in pages, with many changes",
         packing: Packing::Pages,
-        segments: 64,
+        segments: 128,
+        nodes: 64,
         work: TwoCheckpoints::Many,
     },
 ];
@@ -119,7 +123,7 @@ fn stop_at<R: Wait>(
 
 // Writes two checkpoints on a new device, and answers what the second one did.
 fn write_checkpoint<R: Wait>(rt: &R, alloc: Global, scene: Scene) -> Result<Written, Fault> {
-    let Ok(geometry) = Geometry::new(Shape::TINY, scene.segments, 1, 4, 32) else {
+    let Ok(geometry) = Geometry::new(Shape::TINY, scene.segments, 1, 4, scene.nodes) else {
         return Err(Fault::Wrong(String::from_str(alloc, "no geometry")?));
     };
     let geometry = geometry.with_packing(scene.packing);

@@ -1,7 +1,6 @@
 //! Lawful images that are damaged.
-use crate::mounting::mount_bytes;
 use crate::play::play;
-use flash_volume::{Geometry, Leave};
+use flash_volume::{Geometry, Packing};
 use image_reading::{ReadFault, read_image};
 use image_upgrade::upgrade;
 use program_run::OpenGate;
@@ -39,31 +38,37 @@ pub fn lawful_images<R: Threads + Wait + Sync>(
     rt: &R,
     alloc: Global,
 ) -> Result<[Lawful; 3], Fault> {
-    let mut saved = Vec::new(alloc);
-    let _told = play(rt, alloc, DEEP, Some(&mut saved), &OpenGate);
     Ok([
         lawful(alloc, base_file(alloc)?)?,
         lawful(alloc, file_of_format_one(alloc)?)?,
-        lawful(alloc, saved)?,
+        deep(rt, alloc, Packing::Slots)?,
     ])
 }
 
-/// The same in format 3: one that was built by hand, and two that were written anew, the last with a checkpoint more.
+/// Such ones of format 3: one was built by hand, one written anew, and one is what a script leaves.
 pub fn lawful_in_pages<R: Threads + Wait + Sync>(
     rt: &R,
     alloc: Global,
 ) -> Result<[Lawful; 3], Fault> {
-    let [_, one, deep] = lawful_images(rt, alloc)?;
-    let deep = lawful_in(alloc, &deep)?;
-    let deep = match mount_bytes(rt, alloc, deep.bytes.as_slice(), Leave::Close)? {
-        Some(handed) => handed.bytes,
-        None => return Err(Fault::Wrong(String::from_str(alloc, "no mount in pages")?)),
+    let one = file_of_format_one(alloc)?;
+    let Ok(anew) = in_pages(alloc, one.as_slice()) else {
+        return Err(Fault::Wrong(String::from_str(alloc, "no image in pages")?));
     };
     Ok([
         lawful(alloc, paged_file(alloc)?)?,
-        lawful_in(alloc, &one)?,
-        lawful(alloc, deep)?,
+        anew,
+        deep(rt, alloc, Packing::Pages)?,
     ])
+}
+
+fn deep<R: Threads + Wait + Sync>(
+    rt: &R,
+    alloc: Global,
+    packing: Packing,
+) -> Result<Lawful, Fault> {
+    let mut saved = Vec::new(alloc);
+    let _told = play(rt, alloc, packing, DEEP, Some(&mut saved), &OpenGate);
+    lawful(alloc, saved)
 }
 
 /// The volume of an image file, written anew in format 3. It is refused as by `read_image`.
@@ -73,13 +78,6 @@ pub fn in_pages(alloc: Global, bytes: &[u8]) -> Result<Lawful, ReadFault> {
     let (geometry, image) = read_image(alloc, &mut source)?;
     let geometry = upgrade(alloc, &geometry, image, &mut source, &mut bytes)?;
     Ok(Lawful { geometry, bytes })
-}
-
-fn lawful_in(alloc: Global, old: &Lawful) -> Result<Lawful, Fault> {
-    match in_pages(alloc, old.bytes.as_slice()) {
-        Ok(lawful) => Ok(lawful),
-        Err(_) => Err(Fault::Wrong(String::from_str(alloc, "no image in pages")?)),
-    }
 }
 
 fn lawful(alloc: Global, bytes: Vec<u8>) -> Result<Lawful, Fault> {

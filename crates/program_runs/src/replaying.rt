@@ -11,44 +11,70 @@ use std::alloc::{AllocError, Global};
 use std::rt::Runtime;
 use std::sync::Wait;
 
-// The volumes: with packs in slots, and in pages. The larger one has more words than a head has room for, so that its pages are written
-// now and then.
-const VOLUMES: [(Packing, u32, &str); 3] = [
-    (Packing::Slots, 16, ""),
-    (Packing::Pages, 16, " in pages"),
-    (Packing::Pages, 48, " in pages, with more segments"),
+// A volume that scripts are replayed on.
+#[derive(Clone, Copy)]
+struct Kind {
+    name: &'static str,
+    packing: Packing,
+    segments: u32,
+    nodes: u32,
+    // So many calls are made each time that it is mounted, and most writes go to so many blocks of a file.
+    calls: u32,
+    near: u32,
+}
+
+// In the last one more words of the tables change than a head has room for, so that pages are written now and then.
+const KINDS: [Kind; 3] = [
+    Kind {
+        name: "",
+        packing: Packing::Slots,
+        segments: 16,
+        nodes: 32,
+        calls: 100,
+        near: 12,
+    },
+    Kind {
+        name: " in pages",
+        packing: Packing::Pages,
+        segments: 16,
+        nodes: 32,
+        calls: 100,
+        near: 12,
+    },
+    Kind {
+        name: " in pages, of large files",
+        packing: Packing::Pages,
+        segments: 128,
+        nodes: 160,
+        calls: 300,
+        near: 250,
+    },
 ];
 
-// So often a script's device is mounted, and so many calls are made each time.
+// So often a script's device is mounted.
 const MOUNTS: u32 = 4;
-
-const CALLS: u32 = 100;
 
 /// Replays so many scripts, and prints how many steps of each kind they took.
 pub fn replay_all<R: Runtime + Wait>(rt: &R, alloc: Global, count: u32) -> Result<(), Fault> {
-    for (packing, segments, name) in VOLUMES {
-        let Ok(geometry) = Geometry::new(Shape::TINY, segments, 1, 4, 32) else {
-            return Err(Fault::Wrong(String::from_str(alloc, "no geometry")?));
-        };
-        replay_on(rt, alloc, geometry.with_packing(packing), count, name)?;
+    for kind in KINDS {
+        replay_on(rt, alloc, kind, count)?;
     }
     Ok(())
 }
 
-// Replays so many scripts on volumes of a geometry.
+// Replays so many scripts on volumes of a kind.
 fn replay_on<R: Runtime + Wait>(
     rt: &R,
     alloc: Global,
-    geometry: Geometry,
+    kind: Kind,
     count: u32,
-    name: &str,
 ) -> Result<(), Fault> {
     let mut counts = Counts::NONE;
     for seed in 0..count {
         if seed.is_multiple_of(100) {
             let _ = eprintln!(rt; "machine: script {seed} of {count}");
         }
-        counts = match replay_script(rt, alloc, geometry, seed, counts) {
+        counts = match replay_script(rt, alloc, kind, seed, counts) {
             Ok(counts) => counts,
             Err(Fault::Wrong(what)) => {
                 return Err(Fault::Wrong(format!(in alloc; "script {seed}: {what}")?));
@@ -56,8 +82,13 @@ fn replay_on<R: Runtime + Wait>(
             Err(fault) => return Err(fault),
         };
     }
+    let pages = match kind.packing {
+        Packing::Slots => String::new(alloc),
+        Packing::Pages => format!(in alloc; " with {} pages", counts.pages)?,
+    };
     println!(rt;
-        "{count} scripts{name}: {} appends, {} in holes, {} moved, {} spoiled; {} releases, {} segments opened, {} packs, {} crashes",
+        "{count} scripts{}: {} appends, {} in holes, {} moved, {} spoiled; {} releases, {} segments opened, {} packs{pages}, {} crashes",
+        kind.name,
         counts.appends,
         counts.holes,
         counts.migrations,
@@ -74,16 +105,20 @@ fn replay_on<R: Runtime + Wait>(
 fn replay_script<R: Wait>(
     rt: &R,
     alloc: Global,
-    geometry: Geometry,
+    kind: Kind,
     seed: u32,
     counts: Counts,
 ) -> Result<Counts, Fault> {
+    let Ok(geometry) = Geometry::new(Shape::TINY, kind.segments, 1, 4, kind.nodes) else {
+        return Err(Fault::Wrong(String::from_str(alloc, "no geometry")?));
+    };
+    let geometry = geometry.with_packing(kind.packing);
     let mut chance = Chance::of(seed);
     let mut machine = Machine::new(alloc, geometry, counts)?;
     let mut file = format(rt, alloc, geometry)?;
     for _mount in 0..MOUNTS {
         machine.mount(file.as_slice())?;
-        file = work(rt, alloc, file.as_slice(), &mut machine, &mut chance)?;
+        file = work(rt, alloc, kind, file.as_slice(), &mut machine, &mut chance)?;
         tear(&machine, &mut file, &mut chance);
     }
     machine.mount(file.as_slice())?;
@@ -106,6 +141,7 @@ fn format<R: Wait>(rt: &R, alloc: Global, geometry: Geometry) -> Result<Vec<u8>,
 fn work<R: Wait>(
     rt: &R,
     alloc: Global,
+    kind: Kind,
     file: &[u8],
     machine: &mut Machine,
     chance: &mut Chance,
@@ -128,7 +164,8 @@ fn work<R: Wait>(
         recorder: &around.recorder,
         meta: &around.meta,
         blocks: &around.blocks,
-        count: CALLS,
+        count: kind.calls,
+        near: kind.near,
         crowded,
     };
     // A crowded volume threads whenever it can, so that many holes are filled.

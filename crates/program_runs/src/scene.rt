@@ -12,7 +12,7 @@ const OLD: &str = "file 1 length 3 11 12 13\nfile 2 length 4 21 22 23 24\n";
 const NEW: &str = "file 1 length 5 11 32 13 00 35\nfile 3 length 1 41\n";
 
 // So many blocks are written twice where many are.
-const MANY: u32 = 130;
+const MANY: u32 = 260;
 
 /// Two checkpoints on a new volume, with few changes between them or with many.
 #[derive(Clone, Copy, Drop)]
