@@ -163,10 +163,16 @@ fn look<R: Wait>(
     image.extend_from_slice(written.blocks.as_slice())?;
     let (mut input, mut lines, mut errors) = (image.as_slice(), Vec::new(alloc), Vec::new(alloc));
     let status = tell_files(rt, alloc, &mut input, &mut lines, &mut errors);
-    if status == 0 && stop < written.calls.len() && is_told(lines.as_slice(), found.old_files.as_str()) {
+    if status == 0
+        && stop < written.calls.len()
+        && is_told(lines.as_slice(), found.old_files.as_str())
+    {
         found.old = found.old.saturating_add(1);
         Ok(())
-    } else if status == 0 && stop > written.footer() && is_told(lines.as_slice(), found.new_files.as_str()) {
+    } else if status == 0
+        && stop > written.footer()
+        && is_told(lines.as_slice(), found.new_files.as_str())
+    {
         found.new = found.new.saturating_add(1);
         Ok(())
     } else {

@@ -46,7 +46,10 @@ impl TwoCheckpoints {
     /// The lines of the files at the first checkpoint, and at the second one.
     pub fn files(self, alloc: Global) -> Result<(String, String), AllocError> {
         match self {
-            TwoCheckpoints::Few => Ok((String::from_str(alloc, OLD)?, String::from_str(alloc, NEW)?)),
+            TwoCheckpoints::Few => Ok((
+                String::from_str(alloc, OLD)?,
+                String::from_str(alloc, NEW)?,
+            )),
             TwoCheckpoints::Many => Ok((many_blocks(alloc, " 11")?, many_blocks(alloc, " 22")?)),
         }
     }

@@ -2,7 +2,9 @@
 use crate::room::filled::Filled;
 use device::{Block, Fuse, Meta};
 use file_device::read_device;
-use flash_volume::{Error, Leave, Packing, Policy, Rights, Volume, VolumeName, Work, make_room, work_on};
+use flash_volume::{
+    Error, Leave, Packing, Policy, Rights, Volume, VolumeName, Work, make_room, work_on,
+};
 use program_trials::{Around, Fault, bytes_of, inside};
 use std::alloc::{AllocError, Global};
 use std::rt::Runtime;

@@ -4,7 +4,8 @@ use crate::users::player::Player;
 use device::{Block, Meta};
 use file_device::read_device;
 use flash_volume::{
-    Error, Geometry, Leave, Packing, Rights, Shape, Volume, VolumeName, Work, usable_blocks, work_on,
+    Error, Geometry, Leave, Packing, Rights, Shape, Volume, VolumeName, Work, usable_blocks,
+    work_on,
 };
 use program_trials::{Fault, Plan, User, bytes_of};
 use std::alloc::{AllocError, Global};

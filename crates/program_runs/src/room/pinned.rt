@@ -5,7 +5,9 @@ use crate::users::held::Held;
 use crate::users::player::Player;
 use device::{Block, Meta};
 use file_device::read_device;
-use flash_volume::{Error, Leave, Packing, Policy, Rights, Volume, VolumeName, Work, make_room, work_on};
+use flash_volume::{
+    Error, Leave, Packing, Policy, Rights, Volume, VolumeName, Work, make_room, work_on,
+};
 use program_trials::{Deed, Fault, bytes_of, tagged_block};
 use std::alloc::{AllocError, Global};
 use std::rt::Runtime;
