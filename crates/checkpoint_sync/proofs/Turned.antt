@@ -19,8 +19,8 @@ found_more segments turns number here turn at is before k r other below there wi
     let long = length-set turns number turn in
     ⊎_elim
     (λ (e : k ≡ number).
-        let same : here ≡ r = one_segment r here (sym there ∙ (ap (slice_get segments) e ∙ at)) in
-        let found = ap (λ j. get_or (set turns number turn) j other) e ∙ get_or-set_same turns number turn other (omega arith) in
-        subst (λ t. IsTurnOf r t) (sym found) (subst (λ s. IsTurnOf s turn) same is))
+    let same : here ≡ r = one_segment r here (sym there ∙ (ap (slice_get segments) e ∙ at)) in
+    let found = ap (λ j. get_or (set turns number turn) j other) e ∙ get_or-set_same turns number turn other (omega arith) in
+    subst (λ t. IsTurnOf r t) (sym found) (subst (λ s. IsTurnOf s turn) same is))
     (λ apart. subst (IsTurnOf r) (sym (get_or-set_other turns number k turn other apart)) (before k r other (omega arith) there (omega arith)))
     (cases_eq k number)
