@@ -4,7 +4,7 @@
 mod help;
 mod saving;
 
-use flash_volume::Threading;
+use flash_volume::{Packing, Threading};
 use help::{HELP, asks_for_help};
 use program_run::status::{DONE, FAILED, MISUSED};
 use program_run::{OpenGate, check_image, run_script, tell_files, tell_io_failure};
@@ -124,6 +124,7 @@ fn run_saving<R: Runtime + AllocGlobal + Threads + Wait + Sync, W: Write, E: Wri
         out,
         errors,
         saved,
+        Packing::Slots,
         threading,
         &OpenGate,
     );

@@ -15,7 +15,7 @@ use crate::steps::Carried;
 use crate::stop::Stop;
 use crate::telling::tell_parts;
 use device::{Block, MemDevice, Meta, Parts};
-use flash_volume::{SharedBlock, Threading};
+use flash_volume::{Packing, SharedBlock, Threading};
 use geometry::Geometry;
 use packs_format::one_image_law;
 use program_script::{Numbers, Script, Step};
@@ -31,7 +31,8 @@ use volume_law::{format_law, mount_law};
 /// as it is, behind a line that tells so. The bytes of the device are added to `saved`, if there is one. Then the device is
 /// mounted again, and each file has a line with its length and its blocks, and the image's total a last one.
 ///
-/// The script's volume threads by the rule `threading`. The calls of workers side by side go through `gate`.
+/// The script's volume has its packs as `packing` says, and threads by the rule `threading`. The calls of workers side by side go through
+/// `gate`.
 ///
 /// Answers the exit status: 0 where all was done; 1 where the volume could not be made, closed or mounted again, or a file not
 /// be read at the end, which is told on `out`; 3 where a line is not of the grammar, which is told on `errors` and nothing is
@@ -44,6 +45,7 @@ pub fn run_script<T: Threads + Wait + Sync, G: Gate + Sync, R: Read, W: Write, E
     out: &mut W,
     errors: &mut E,
     saved: Option<&mut Vec<u8>>,
+    packing: Packing,
     threading: Threading,
     gate: &G,
 ) -> u8
@@ -53,7 +55,7 @@ pub fn run_script<T: Threads + Wait + Sync, G: Gate + Sync, R: Read, W: Write, E
     ensures bad_line { result ≡ 3 → out.new ≡ out.old }
     ensures quiet { result ≢ 3 → result ≢ 4 → errors.new ≡ errors.old }
 {
-    match read_and_run(rt, alloc, input, out, saved, threading, gate) {
+    match read_and_run(rt, alloc, input, out, saved, packing, threading, gate) {
         Ok(()) => DONE,
         Err(stop) => stop.tell(out, errors),
     }
@@ -65,6 +67,7 @@ fn read_and_run<T: Threads + Wait + Sync, G: Gate + Sync, R: Read, W: Write>(
     input: &mut R,
     out: &mut W,
     saved: Option<&mut Vec<u8>>,
+    packing: Packing,
     threading: Threading,
     gate: &G,
 ) -> Result<(), Stop>
@@ -84,6 +87,7 @@ fn read_and_run<T: Threads + Wait + Sync, G: Gate + Sync, R: Read, W: Write>(
         script.steps.as_slice(),
         out,
         saved,
+        packing,
         threading,
         gate,
     )
@@ -97,6 +101,7 @@ fn run_whole<T: Threads + Wait + Sync, G: Gate + Sync, W: Write>(
     steps: &[Step],
     out: &mut W,
     saved: Option<&mut Vec<u8>>,
+    packing: Packing,
     threading: Threading,
     gate: &G,
 ) -> Result<(), Stop>
@@ -109,7 +114,8 @@ fn run_whole<T: Threads + Wait + Sync, G: Gate + Sync, W: Write>(
         numbers.per_section,
         numbers.files,
         numbers.nodes,
-    )?;
+    )?
+    .with_packing(packing);
     let setting = Setting {
         faults: Faults::new(alloc)?,
         threading,

@@ -16,6 +16,8 @@ pub struct Acts<'a> {
     pub meta: &'a Fuse,
     pub blocks: &'a Fuse,
     pub count: u32,
+    /// To so many blocks of a file most writes go.
+    pub near: u32,
     /// Whether nothing is cleaned and few checkpoints are written, so that no segment stays free.
     pub crowded: bool,
 }
@@ -112,7 +114,7 @@ impl Acts<'_> {
         let most = match self.chance.below(16) {
             0 => 250,
             1 | 2 | 3 => 40,
-            _ => 12,
+            _ => self.near,
         };
         let index = self.chance.number_below(most);
         let byte = self.chance.byte().max(1);

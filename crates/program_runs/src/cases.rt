@@ -13,7 +13,7 @@ use std::thread::Threads;
 use std::{fs, io};
 
 // The files, in the order in which they are played.
-const FILES: [&str; 14] = [
+const FILES: [&str; 15] = [
     "files",
     "readers",
     "cleans",
@@ -26,6 +26,7 @@ const FILES: [&str; 14] = [
     "grammar",
     "inputs",
     "images",
+    "paged",
     "saved",
     "examples",
 ];

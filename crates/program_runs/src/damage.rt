@@ -1,5 +1,5 @@
 //! Images that are damaged by a seed: each is told alike by a check and by a mount, which hands its bytes back, in no long time.
-use crate::lawful::lawful_images;
+use crate::lawful::{Lawful, lawful_images, lawful_in_pages};
 use crate::mounting::mount_bytes;
 use flash_volume::Leave;
 use program_run::status::REFUSED;
@@ -17,14 +17,27 @@ const TIMES: u32 = 10;
 // So many tries are made where times are measured.
 const TRIES: u32 = 20;
 
-/// Damages so many images, and prints how many of them were refused.
+/// Damages so many images of each packing, and prints how many of them were refused.
 pub fn damage<R: Runtime + Threads + Wait + Sync>(
     rt: &R,
     alloc: Global,
     count: u32,
 ) -> Result<(), Fault> {
     let images = lawful_images(rt, alloc)?;
-    let limit = limit(rt, alloc, images.as_slice())?;
+    damage_some(rt, alloc, images.as_slice(), count, "images")?;
+    let images = lawful_in_pages(rt, alloc)?;
+    damage_some(rt, alloc, images.as_slice(), count, "images in pages")
+}
+
+// Damages one of these images so often.
+fn damage_some<R: Runtime + Threads + Wait + Sync>(
+    rt: &R,
+    alloc: Global,
+    images: &[Lawful],
+    count: u32,
+    name: &str,
+) -> Result<(), Fault> {
+    let limit = limit(rt, alloc, images)?;
     let mut refused = 0u32;
     for seed in 0..count {
         if seed.is_multiple_of(20_000) {
@@ -32,13 +45,13 @@ pub fn damage<R: Runtime + Threads + Wait + Sync>(
         }
         let mut chance = Chance::of(seed);
         let which = chance.below(images.len());
-        if let Some(image) = images.as_slice().get(which)
-            && is_refused(rt, alloc, image.as_slice(), limit, seed, &mut chance)?
+        if let Some(image) = images.get(which)
+            && is_refused(rt, alloc, image, limit, seed, &mut chance)?
         {
             refused = refused.saturating_add(1);
         }
     }
-    println!(rt; "{count} damaged images: {refused} are refused, and each is told alike")?;
+    println!(rt; "{count} damaged {name}: {refused} are refused, and each is told alike")?;
     Ok(())
 }
 
@@ -46,17 +59,17 @@ pub fn damage<R: Runtime + Threads + Wait + Sync>(
 fn is_refused<R: Runtime + Wait>(
     rt: &R,
     alloc: Global,
-    image: &[u8],
+    image: &Lawful,
     limit: Duration,
     seed: u32,
     chance: &mut Chance,
 ) -> Result<bool, Fault> {
-    let mut bytes = Vec::from_slice(alloc, image)?;
-    spoil(chance, &mut bytes)?;
+    let mut bytes = Vec::from_slice(alloc, image.bytes.as_slice())?;
+    spoil(chance, &image.geometry, &mut bytes)?;
     let (answer, time) = timed(rt, alloc, bytes.as_slice())?;
-    let quick = time < limit || is_quick(rt, alloc, image, bytes.as_slice())?;
+    let quick = time < limit || is_quick(rt, alloc, image.bytes.as_slice(), bytes.as_slice())?;
     let handed = mount_bytes(rt, alloc, bytes.as_slice(), Leave::Discard)?;
-    let agreed = answer.agrees(alloc, bytes.as_slice(), &handed)?;
+    let agreed = answer.agrees(alloc, &image.geometry, bytes.as_slice(), &handed)?;
     if !agreed || !quick {
         let line = String::from_utf8_lossy(alloc, answer.line.as_slice())?;
         let files = String::from_utf8_lossy(alloc, answer.files.as_slice())?;
@@ -90,11 +103,11 @@ fn timed<R: Runtime + Wait>(
 }
 
 // So long takes what is told of each lawful image in its quickest try, so many times.
-fn limit<R: Runtime + Wait>(rt: &R, alloc: Global, images: &[Vec<u8>]) -> Result<Duration, Fault> {
+fn limit<R: Runtime + Wait>(rt: &R, alloc: Global, images: &[Lawful]) -> Result<Duration, Fault> {
     let mut least = Duration::MAX;
     for _turn in 0..TRIES {
         for image in images {
-            let (_, time) = timed(rt, alloc, image.as_slice())?;
+            let (_, time) = timed(rt, alloc, image.bytes.as_slice())?;
             least = least.min(time);
         }
     }

@@ -1,5 +1,6 @@
 //! Scripts under which a growth is refused: by whoever runs this program, since it has no allocator of its own.
 use crate::play::try_script;
+use flash_volume::Packing;
 use program_run::status::DONE;
 use program_trials::{FORMAT, Fault, SCRIPTS, Told, Trouble, Verdict, compare, without};
 use std::alloc::Global;
@@ -12,11 +13,23 @@ pub fn grow<R: Runtime + Threads + Wait + Sync>(rt: &R, alloc: Global) -> Result
     for script in SCRIPTS {
         let behind = script.written_out(alloc)?;
         let text = format!(in alloc; "{FORMAT}{behind}")?;
-        let (told, verdict) = try_script(rt, alloc, text.as_str(), Trouble::Memory)?;
+        let (told, verdict) = try_script(
+            rt,
+            alloc,
+            Packing::Slots,
+            text.as_str(),
+            Trouble::Memory,
+        )?;
         if is_done(&told, &verdict) {
             let refused = verdict.refused.as_slice();
             let accepted = without(alloc, text.as_str(), refused)?;
-            let (plain, plain_verdict) = try_script(rt, alloc, accepted.as_str(), Trouble::Memory)?;
+            let (plain, plain_verdict) = try_script(
+                rt,
+                alloc,
+                Packing::Slots,
+                accepted.as_str(),
+                Trouble::Memory,
+            )?;
             // It may be this run whose growth was refused.
             if is_done(&plain, &plain_verdict) && plain_verdict.refused.is_empty() {
                 compare(alloc, text.as_str(), &told, refused, &plain)?;

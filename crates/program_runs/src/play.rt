@@ -1,15 +1,16 @@
 //! A script that is run, and what it told.
-use flash_volume::Threading;
+use flash_volume::{Packing, Threading};
 use program_run::{Gate, OpenGate, run_script};
 use program_trials::{Fault, Told, Trouble, Verdict, judge_lines};
 use std::alloc::Global;
 use std::sync::Wait;
 use std::thread::Threads;
 
-/// Runs a script, the calls of whose workers go through a gate. The bytes of its device are added to `saved`, if there is one.
+/// Runs a script on a volume with such packs, the calls of whose workers go through a gate. The bytes of its device are added to `saved`, if there is one.
 pub fn play<R: Threads + Wait + Sync, G: Gate + Sync>(
     rt: &R,
     alloc: Global,
+    packing: Packing,
     text: &str,
     saved: Option<&mut Vec<u8>>,
     gate: &G,
@@ -24,6 +25,7 @@ pub fn play<R: Threads + Wait + Sync, G: Gate + Sync>(
         &mut lines,
         &mut errors,
         saved,
+        packing,
         Threading::Whenever,
         gate,
     );
@@ -34,14 +36,15 @@ pub fn play<R: Threads + Wait + Sync, G: Gate + Sync>(
     }
 }
 
-/// Runs a script and judges its lines.
+/// Runs a script on a volume with such packs, and judges its lines.
 pub fn try_script<R: Threads + Wait + Sync>(
     rt: &R,
     alloc: Global,
+    packing: Packing,
     text: &str,
     trouble: Trouble,
 ) -> Result<(Told, Verdict), Fault> {
-    let told = play(rt, alloc, text, None, &OpenGate);
+    let told = play(rt, alloc, packing, text, None, &OpenGate);
     let verdict = judge_lines(alloc, text, &told, trouble)?;
     Ok((told, verdict))
 }

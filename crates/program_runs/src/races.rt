@@ -6,7 +6,7 @@
 //! that came free too early shows as a block of another file, or of a later time.
 use crate::races::racer::{Look, Race, Racer};
 use device::MemDevice;
-use flash_volume::{Beside, Leave, work_on, work_side_by_side_on_new};
+use flash_volume::{Beside, Leave, Packing, work_on, work_side_by_side_on_new};
 use geometry::{Error, Geometry, Shape};
 use program_trials::{Fault, Found, WRITERS, written_by};
 use std::alloc::Global;
@@ -26,7 +26,12 @@ pub fn race<R: Runtime + Threads + Wait + Sync>(
         if number.is_multiple_of(50) {
             let _ = eprintln!(rt; "races: {number} of {races}");
         }
-        match run_one(rt, alloc, number % 24) {
+        let packing = if (number / 24).is_multiple_of(2) {
+            Packing::Slots
+        } else {
+            Packing::Pages
+        };
+        match run_one(rt, alloc, packing, number % 24) {
             Ok(true) => {}
             Ok(false) => return Err(Fault::Wrong(format!(in alloc; "race {number}")?)),
             Err(error) => {
@@ -43,9 +48,10 @@ pub fn race<R: Runtime + Threads + Wait + Sync>(
 fn run_one<R: Threads + Wait + Sync>(
     rt: &R,
     alloc: Global,
+    packing: Packing,
     checkpoints: u32,
 ) -> Result<bool, Error> {
-    let geometry = Geometry::new(Shape::TINY, 20, 1, 16, 64)?;
+    let geometry = Geometry::new(Shape::TINY, 20, 1, 16, 64)?.with_packing(packing);
     let parts = MemDevice::new(alloc, &geometry)?.split();
     let race = Race::new(alloc, checkpoints)?;
     let mut works = Vec::new(alloc);

@@ -4,26 +4,77 @@ use crate::acts::Acts;
 use crate::mounting::Nothing;
 use device::MemDevice;
 use file_device::read_device;
-use flash_volume::{Leave, Stage, Threading, visit_volume, work_on_new};
+use flash_volume::{Leave, Packing, Stage, Threading, visit_volume, work_on_new};
 use geometry::{Error, Geometry, Shape};
 use program_trials::{Around, Chance, Counts, Fault, Machine, bytes_of, inside, tear};
 use std::alloc::{AllocError, Global};
 use std::rt::Runtime;
 use std::sync::Wait;
 
-// So often a script's device is mounted, and so many calls are made each time.
-const MOUNTS: u32 = 4;
+// A volume that scripts are replayed on.
+#[derive(Clone, Copy)]
+struct Kind {
+    name: &'static str,
+    packing: Packing,
+    segments: u32,
+    nodes: u32,
+    // So many calls are made each time that it is mounted, and most writes go to so many blocks of a file.
+    calls: u32,
+    near: u32,
+}
 
-const CALLS: u32 = 100;
+// In the last one more words of the tables change than a head has room for, so that pages are written now and then.
+const KINDS: [Kind; 3] = [
+    Kind {
+        name: "",
+        packing: Packing::Slots,
+        segments: 16,
+        nodes: 32,
+        calls: 100,
+        near: 12,
+    },
+    Kind {
+        name: " in pages",
+        packing: Packing::Pages,
+        segments: 16,
+        nodes: 32,
+        calls: 100,
+        near: 12,
+    },
+    Kind {
+        name: " in pages, of large files",
+        packing: Packing::Pages,
+        segments: 128,
+        nodes: 160,
+        calls: 300,
+        near: 250,
+    },
+];
+
+// So often a script's device is mounted.
+const MOUNTS: u32 = 4;
 
 /// Replays so many scripts, and prints how many steps of each kind they took.
 pub fn replay_all<R: Runtime + Wait>(rt: &R, alloc: Global, count: u32) -> Result<(), Fault> {
+    for kind in KINDS {
+        replay_on(rt, alloc, kind, count)?;
+    }
+    Ok(())
+}
+
+// Replays so many scripts on volumes of a kind.
+fn replay_on<R: Runtime + Wait>(
+    rt: &R,
+    alloc: Global,
+    kind: Kind,
+    count: u32,
+) -> Result<(), Fault> {
     let mut counts = Counts::NONE;
     for seed in 0..count {
         if seed.is_multiple_of(100) {
             let _ = eprintln!(rt; "machine: script {seed} of {count}");
         }
-        counts = match replay_script(rt, alloc, seed, counts) {
+        counts = match replay_script(rt, alloc, kind, seed, counts) {
             Ok(counts) => counts,
             Err(Fault::Wrong(what)) => {
                 return Err(Fault::Wrong(format!(in alloc; "script {seed}: {what}")?));
@@ -31,8 +82,13 @@ pub fn replay_all<R: Runtime + Wait>(rt: &R, alloc: Global, count: u32) -> Resul
             Err(fault) => return Err(fault),
         };
     }
+    let pages = match kind.packing {
+        Packing::Slots => String::new(alloc),
+        Packing::Pages => format!(in alloc; " with {} pages", counts.pages)?,
+    };
     println!(rt;
-        "{count} scripts: {} appends, {} in holes, {} moved, {} spoiled; {} releases, {} segments opened, {} packs, {} crashes",
+        "{count} scripts{}: {} appends, {} in holes, {} moved, {} spoiled; {} releases, {} segments opened, {} packs{pages}, {} crashes",
+        kind.name,
         counts.appends,
         counts.holes,
         counts.migrations,
@@ -49,18 +105,20 @@ pub fn replay_all<R: Runtime + Wait>(rt: &R, alloc: Global, count: u32) -> Resul
 fn replay_script<R: Wait>(
     rt: &R,
     alloc: Global,
+    kind: Kind,
     seed: u32,
     counts: Counts,
 ) -> Result<Counts, Fault> {
-    let Ok(geometry) = Geometry::new(Shape::TINY, 16, 1, 4, 32) else {
+    let Ok(geometry) = Geometry::new(Shape::TINY, kind.segments, 1, 4, kind.nodes) else {
         return Err(Fault::Wrong(String::from_str(alloc, "no geometry")?));
     };
+    let geometry = geometry.with_packing(kind.packing);
     let mut chance = Chance::of(seed);
     let mut machine = Machine::new(alloc, geometry, counts)?;
     let mut file = format(rt, alloc, geometry)?;
     for _mount in 0..MOUNTS {
         machine.mount(file.as_slice())?;
-        file = work(rt, alloc, file.as_slice(), &mut machine, &mut chance)?;
+        file = work(rt, alloc, kind, file.as_slice(), &mut machine, &mut chance)?;
         tear(&machine, &mut file, &mut chance);
     }
     machine.mount(file.as_slice())?;
@@ -83,6 +141,7 @@ fn format<R: Wait>(rt: &R, alloc: Global, geometry: Geometry) -> Result<Vec<u8>,
 fn work<R: Wait>(
     rt: &R,
     alloc: Global,
+    kind: Kind,
     file: &[u8],
     machine: &mut Machine,
     chance: &mut Chance,
@@ -105,7 +164,8 @@ fn work<R: Wait>(
         recorder: &around.recorder,
         meta: &around.meta,
         blocks: &around.blocks,
-        count: CALLS,
+        count: kind.calls,
+        near: kind.near,
         crowded,
     };
     // A crowded volume threads whenever it can, so that many holes are filled.

@@ -1,5 +1,6 @@
 //! Each call of a device fails in turn, under each script.
 use crate::play::{play, try_script};
+use flash_volume::Packing;
 use program_run::OpenGate;
 use program_trials::{FORMAT, Fault, SCRIPTS, Script, Trouble, compare, without};
 use std::alloc::Global;
@@ -37,19 +38,21 @@ const KINDS: [Kind; 3] = [
     },
 ];
 
-/// Lets each call fail in turn, and prints for each script how many there were. With `twice` each of the next so many calls behind
+/// Lets each call fail in turn, with packs in slots and in pages, and prints for each script how many there were. With `twice` each of the next so many calls behind
 /// it fails too.
 pub fn sweep<R: Runtime + Threads + Wait + Sync>(
     rt: &R,
     alloc: Global,
     twice: u32,
 ) -> Result<(), Fault> {
-    for script in SCRIPTS {
-        let _ = eprintln!(rt; "sweep: {}", script.name);
-        let text = script.written_out(alloc)?;
-        for kind in KINDS {
-            let calls = sweep_kind(rt, alloc, text.as_str(), kind, twice)?;
-            println!(rt; "{}: {calls} {}", script.name, kind.name)?;
+    for (packing, how) in [(Packing::Slots, ""), (Packing::Pages, " in pages")] {
+        for script in SCRIPTS {
+            let _ = eprintln!(rt; "sweep: {}{how}", script.name);
+            let text = script.written_out(alloc)?;
+            for kind in KINDS {
+                let calls = sweep_kind(rt, alloc, packing, text.as_str(), kind, twice)?;
+                println!(rt; "{}{how}: {calls} {}", script.name, kind.name)?;
+            }
         }
     }
     Ok(())
@@ -59,41 +62,47 @@ pub fn sweep<R: Runtime + Threads + Wait + Sync>(
 fn sweep_kind<R: Threads + Wait + Sync>(
     rt: &R,
     alloc: Global,
+    packing: Packing,
     text: &str,
     kind: Kind,
     twice: u32,
 ) -> Result<u32, Fault> {
     let plain = format!(in alloc; "{FORMAT}{text}")?;
-    let (told, _) = try_script(rt, alloc, plain.as_str(), Trouble::None)?;
+    let (told, _) = try_script(rt, alloc, packing, plain.as_str(), Trouble::None)?;
     for call in 1..MOST {
         let fail = format!(in alloc; "{}{call}{}\n", kind.before, kind.after)?;
         let failing = format!(in alloc; "{FORMAT}{fail}{text}")?;
-        let failed = play(rt, alloc, failing.as_str(), None, &OpenGate);
+        let failed = play(rt, alloc, packing, failing.as_str(), None, &OpenGate);
         if failed.lines.as_slice() == told.lines.as_slice() {
             return Ok(call.saturating_sub(1));
         }
-        try_one(rt, alloc, failing.as_str())?;
+        try_one(rt, alloc, packing, failing.as_str())?;
         for more in 1..twice.saturating_add(1) {
             let next = call.saturating_add(more);
             let again = format!(in alloc;
                 "{FORMAT}{fail}{}{next}{}\n{text}",
                 kind.before, kind.after
             )?;
-            try_one(rt, alloc, again.as_str())?;
+            try_one(rt, alloc, packing, again.as_str())?;
         }
     }
     Err(Fault::Wrong(String::from_str(alloc, "a sweep has no end")?))
 }
 
 // Runs a script whose device fails, judges its lines, and compares its numbers with those of what was accepted.
-fn try_one<R: Threads + Wait + Sync>(rt: &R, alloc: Global, text: &str) -> Result<(), Fault> {
-    let tried = try_script(rt, alloc, text, Trouble::Device);
+fn try_one<R: Threads + Wait + Sync>(
+    rt: &R,
+    alloc: Global,
+    packing: Packing,
+    text: &str,
+) -> Result<(), Fault> {
+    let tried = try_script(rt, alloc, packing, text, Trouble::Device);
     let (told, verdict) = named(alloc, text, tried)?;
     if verdict.wounded || told.status != 0 {
         return Ok(());
     }
     let accepted = without(alloc, text, verdict.refused.as_slice())?;
-    let (plain, _) = try_script(rt, alloc, accepted.as_str(), Trouble::None)?;
+    let (plain, _) = try_script(rt, alloc, packing, accepted.as_str(), Trouble::None)?;
     let compared = compare(alloc, text, &told, verdict.refused.as_slice(), &plain);
     named(alloc, text, compared)
 }

@@ -3,7 +3,7 @@ use crate::text::number;
 use std::alloc::Global;
 use std::io;
 use std::io::Write;
-use test_support::{base_file, empty_file, file_of_format_one};
+use test_support::{base_file, empty_file, file_of_format_one, paged_file};
 
 /// An image file, and one that is kept beside it.
 #[derive(Drop)]
@@ -29,6 +29,7 @@ impl ImageFile {
             "empty" => self.bytes = empty_file(self.alloc)?,
             "base" => self.bytes = base_file(self.alloc)?,
             "one" => self.bytes = file_of_format_one(self.alloc)?,
+            "paged" => self.bytes = paged_file(self.alloc)?,
             "keep" => self.kept = Vec::from_slice(self.alloc, self.bytes.as_slice())?,
             "same" if self.kept.as_slice() == self.bytes.as_slice() => {}
             "change" => self.change(rest),

@@ -51,6 +51,8 @@ pub struct Counts {
     pub releases: u32,
     pub openings: u32,
     pub packs: u32,
+    /// Pages that were written for them.
+    pub pages: u32,
     pub crashes: u32,
 }
 
@@ -97,6 +99,7 @@ impl Counts {
         releases: 0,
         openings: 0,
         packs: 0,
+        pages: 0,
         crashes: 0,
     };
 }

@@ -3,7 +3,11 @@ use crate::fault::Fault;
 use crate::machine::{Machine, Phase, State};
 use crate::naming::{Name, name_of};
 use crate::recorded::Call;
+use geometry::Packing;
 use packs::{assemble, footer_at};
+
+// Where an area has its pages, if it has any.
+const PAGES: u64 = 12_288;
 
 impl Machine {
     /// Takes the steps that these calls are, or says which is none.
@@ -161,6 +165,9 @@ impl Machine {
             *place = *byte;
         }
         self.loose_area.push((at, bytes.len()))?;
+        if self.geometry.packing == Packing::Pages && at >= PAGES {
+            self.counts.pages = self.counts.pages.saturating_add(1);
+        }
         self.may_be_new = self.may_be_new || next == Phase::FooterWritten;
         self.phase = if done { next } else { Phase::Broken };
         if next == Phase::BodyWritten {

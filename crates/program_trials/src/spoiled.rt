@@ -2,11 +2,9 @@
 use crate::chance::Chance;
 use crate::fault::Fault;
 use crate::judge::{DONE, REFUSED};
-use geometry::Error;
+use geometry::{Error, Geometry, Packing};
+use packs::footer_at;
 use std::alloc::Global;
-
-// The bytes of the meta area of each image: 32 segments of 8 blocks of 64 bytes lie behind them.
-const AREA: usize = 6_136;
 
 /// What a mount of a device's bytes leaves of them, and why it was refused, or the close behind it.
 #[derive(Drop)]
@@ -25,14 +23,16 @@ pub struct Answer {
 }
 
 impl Answer {
-    /// Whether a check, the telling of the files and a mount of these bytes, which hands them back, agree.
+    /// Whether a check, the telling of the files and a mount of these bytes, which hands them back, agree. The geometry is that of the
+    /// image before it was damaged.
     pub fn agrees(
         &self,
         alloc: Global,
+        geometry: &Geometry,
         bytes: &[u8],
         handed: &Option<Handed>,
     ) -> Result<bool, Fault> {
-        Ok(self.is_alike() && self.is_handed(alloc, bytes, handed)?)
+        Ok(self.is_alike() && self.is_handed(alloc, geometry, bytes, handed)?)
     }
 
     // Both refuse the image in one line, or the files have its total.
@@ -51,13 +51,14 @@ impl Answer {
     fn is_handed(
         &self,
         alloc: Global,
+        geometry: &Geometry,
         bytes: &[u8],
         handed: &Option<Handed>,
     ) -> Result<bool, Fault> {
         let Some(handed) = handed else {
             return Ok(self.status == REFUSED);
         };
-        let same = is_same(bytes, handed.bytes.as_slice());
+        let same = is_same(geometry, bytes, handed.bytes.as_slice());
         match handed.refused {
             None => Ok(same && self.status == DONE),
             Some(error) => {
@@ -80,16 +81,17 @@ fn total_of(lines: &[u8]) -> Option<u32> {
     total
 }
 
+// The bytes of a superblock, and of a head with its footer.
+const SUPER: usize = 64;
+
+const HEAD: usize = 3_588;
+
 /// Changes some bytes of an image, most of them in its meta area, and now and then its length.
-pub fn spoil(chance: &mut Chance, bytes: &mut Vec<u8>) -> Result<(), Fault> {
+pub fn spoil(chance: &mut Chance, geometry: &Geometry, bytes: &mut Vec<u8>) -> Result<(), Fault> {
     for _change in 0..chance.below(4).saturating_add(1) {
-        let end = if chance.below(4) == 0 {
-            bytes.len()
-        } else {
-            AREA
-        };
-        let place = chance.below(end);
-        let from = chance.below(end);
+        let anywhere = chance.below(4) == 0;
+        let place = pick_place(chance, geometry, bytes.len(), anywhere);
+        let from = pick_place(chance, geometry, bytes.len(), anywhere);
         let found = bytes.as_slice().get(from).copied().unwrap_or(0);
         let byte = match chance.below(4) {
             0 => chance.byte(),
@@ -111,23 +113,38 @@ pub fn spoil(chance: &mut Chance, bytes: &mut Vec<u8>) -> Result<(), Fault> {
     Ok(())
 }
 
-// Whether bytes are the same, but for a footer of zeros: each of the two slots behind the superblock ends with one of 4 bytes, and
-// the second one with the meta area.
-fn is_same(bytes: &[u8], back: &[u8]) -> bool {
+// A place of the file, or of its meta area. In pages most of an area has nothing: then the places are those of the superblock, of the
+// heads with their footers, and of the pages.
+fn pick_place(chance: &mut Chance, geometry: &Geometry, length: usize, anywhere: bool) -> usize {
+    let area = geometry.meta_bytes() as usize;
+    if anywhere {
+        return chance.below(length);
+    }
+    match geometry.packing {
+        Packing::Slots => chance.below(area),
+        Packing::Pages => match chance.below(4) {
+            0 => chance.below(SUPER),
+            1 => 4_096usize.saturating_add(chance.below(HEAD)),
+            2 => 8_192usize.saturating_add(chance.below(HEAD)),
+            _ => 12_288usize.saturating_add(chance.below(area.saturating_sub(12_288))),
+        },
+    }
+}
+
+// Whether bytes are the same, but for a footer of zeros: each of the two packs has one of 4 bytes.
+fn is_same(geometry: &Geometry, bytes: &[u8], back: &[u8]) -> bool {
     if bytes.len() != back.len() {
         return false;
     }
+    let footers = [footer_at(geometry, 0), footer_at(geometry, 1)];
     for (place, (byte, other)) in bytes.iter().zip(back).enumerate() {
-        if byte != other && !(*other == 0 && is_footer(place)) {
+        let place = place as u64;
+        let in_footer = footers
+            .iter()
+            .any(|at| *at <= place && place < at.saturating_add(4));
+        if byte != other && !(*other == 0 && in_footer) {
             return false;
         }
     }
     true
-}
-
-fn is_footer(place: usize) -> bool {
-    let middle = 64 + (AREA - 64) / 2;
-    [middle, AREA]
-        .iter()
-        .any(|end| place < *end && place.saturating_add(4) >= *end)
 }

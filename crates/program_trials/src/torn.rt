@@ -1,4 +1,5 @@
-//! What a crash leaves of a checkpoint's write: what was not settled has zeros, ones, what was there, what was written, or any bytes.
+//! What a crash leaves of a checkpoint's write: what was not settled has zeros, ones, what was there, what was written, the front of that,
+//! or any bytes.
 use crate::chance::Chance;
 use crate::device_bytes::bytes_of;
 use crate::fault::Fault;
@@ -24,6 +25,8 @@ pub enum Filling {
     Old,
     New,
     Byte(u8),
+    /// What was written, up to a byte, and behind it what was there.
+    Torn,
     Any,
 }
 
@@ -121,11 +124,12 @@ fn last_sync(calls: &[Call]) -> usize {
 }
 
 fn any_of(chance: &mut Chance) -> Filling {
-    match chance.below(5) {
+    match chance.below(6) {
         0 => Filling::Old,
         1 => Filling::New,
         2 => Filling::Byte(0),
         3 => Filling::Byte(0xff),
+        4 => Filling::Torn,
         _ => Filling::Any,
     }
 }
@@ -144,6 +148,7 @@ fn fill(
         Filling::Old => return Ok(()),
         Filling::New => {}
         Filling::Byte(byte) => torn.as_mut_slice().fill(byte),
+        Filling::Torn => torn.truncate(chance.below(bytes.len())),
         Filling::Any => {
             for byte in torn.as_mut_slice() {
                 *byte = chance.byte();

@@ -4,6 +4,8 @@
 //! and its last 4 bytes are the version once more. Version V lies in the pack V mod 2. Behind the meta area the block of address
 //! a begins at 6136 + 64 * (a - 1).
 //!
+//! `paged_file` has another meta area, of 20,480 bytes: heads at 4,096 and 8,192, and two copies of its one page at 12,288 and 16,384.
+//!
 //! The superblock ends with a map for each pack, at 32 and at 48: the format, 2, and a bit for each part of the two tables that
 //! lies in the other pack's slot. A pack of format 1 has a map of zeros.
 use std::alloc::{AllocError, Global};
@@ -126,6 +128,61 @@ const ONE_BLOCK: [(usize, u8); 46] = [
 // The end of its inode: its number, twice.
 const ONE_BLOCK_INODE: [(usize, u8); 2] = [(6_688, 1), (6_692, 1)];
 
+// The same version 2 in pages, beside that of a new volume: its head has the eight words in which its page differs from zeros.
+const IN_PAGES: [(usize, u8); 39] = [
+    (4_096, 2),
+    (4_100, 3),
+    (4_112, 1),
+    (4_116, 1),
+    (4_120, 2),
+    (4_128, 3),
+    (4_136, 4),
+    (4_140, 2),
+    (4_144, 5),
+    (4_152, 8),
+    (4_708, 1),
+    (4_712, 9),
+    (4_716, 0x41),
+    (4_725, 1),
+    (4_728, 0x43),
+    (4_733, 1),
+    (4_740, 0x46),
+    (4_748, 2),
+    (4_752, 0x48),
+    (4_756, 3),
+    (4_764, 0x7c),
+    (4_768, 1),
+    (4_772, 0xff),
+    (4_773, 0xff),
+    (4_774, 0xff),
+    (4_775, 0xff),
+    (4_776, 0x94),
+    (4_780, 1),
+    (4_788, 0x95),
+    (4_792, 1),
+    (4_796, 1),
+    (7_680, 2),
+    (8_192, 1),
+    (8_208, 1),
+    (8_216, 2),
+    (8_224, 3),
+    (8_232, 4),
+    (8_240, 5),
+    (11_776, 1),
+];
+
+// Its inode, in the block of address 9.
+const IN_PAGES_INODE: [(usize, u8); 5] = [
+    (20_992, 2),
+    (21_000, 0x21),
+    (21_004, 0x22),
+    (21_032, 1),
+    (21_036, 1),
+];
+
+// The length of a file in pages. Its main blocks begin at 20,480.
+const PAGED_BYTES: usize = 36_864;
+
 /// Puts bytes at places of a file. Places past its end are left out.
 pub fn change(file: &mut [u8], changes: Changes) {
     for (place, byte) in changes {
@@ -164,6 +221,22 @@ pub fn file_of_format_one(alloc: Global) -> Result<Vec<u8>, AllocError> {
     change(file.as_mut_slice(), &ONE_BLOCK_INODE);
     for byte in file.as_mut_slice().iter_mut().skip(8_184).take(64) {
         *byte = 0x41;
+    }
+    Ok(file)
+}
+
+/// The image of `base_file` in format 3, by its description in docs/SPEC.md: version 2 in the head of slot 0, beside a new volume's.
+pub fn paged_file(alloc: Global) -> Result<Vec<u8>, AllocError> {
+    let mut file = Vec::from_slice(alloc, &SUPERBLOCK)?;
+    file.resize(PAGED_BYTES, 0)?;
+    change(file.as_mut_slice(), &[(8, 3)]);
+    change(file.as_mut_slice(), &IN_PAGES);
+    change(file.as_mut_slice(), &IN_PAGES_INODE);
+    for byte in file.as_mut_slice().iter_mut().skip(22_528).take(64) {
+        *byte = 0x41;
+    }
+    for byte in file.as_mut_slice().iter_mut().skip(22_592).take(64) {
+        *byte = 0x42;
     }
     Ok(file)
 }

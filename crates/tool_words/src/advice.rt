@@ -27,7 +27,8 @@ pub fn volume_advice(error: Error) -> &'static str {
         Error::NoNode =>
             "nothing was changed; rm a file, or format an image with more nodes (--nodes)",
         Error::TooFar => "nothing was changed; a file can't be so long",
-        Error::BadGeometry => "this is no image of a volume; format makes one",
+        Error::BadGeometry =>
+            "this is no image of a volume, or one of a later format; format makes one",
         Error::NoPack =>
             "no checkpoint of the volume can be read; take a copy of the image that check calls sound",
         Error::BadImage(_) =>

@@ -111,6 +111,10 @@ pub enum Task<'a> {
     Dump {
         folder: &'a str,
     },
+    /// Writes the volume into a new image file of format 3.
+    Upgrade {
+        to: &'a str,
+    },
     Import {
         folder: &'a str,
     },
@@ -135,6 +139,7 @@ impl<'a> Task<'a> {
             Task::Rename { .. } => Some("the file is renamed"),
             Task::Clean { .. } => Some("the volume is cleaned"),
             Task::Import { .. } => Some("the files are put"),
+            Task::Upgrade { .. } => Some("the new image is made"),
             Task::Serve(_) => Some("the disk was served"),
             _ => None,
         }
@@ -199,6 +204,9 @@ fn task_of<'a>(command: &str, found: &ArgMatches<'a>) -> Option<Task<'a>> {
         },
         "dump" => Task::Dump {
             folder: text_of(found, "folder"),
+        },
+        "upgrade" => Task::Upgrade {
+            to: text_of(found, "to"),
         },
         "import" => Task::Import {
             folder: text_of(found, "folder"),

@@ -19,6 +19,7 @@ use crate::screen::Screen;
 use crate::serving::serve;
 use crate::shown::Shown;
 use crate::stat::{list, stat};
+use crate::upgrading::upgrade_image;
 use flash_volume::{Geometry, Leave, Policy};
 use std::fs::{File, Files};
 use std::io::{Read, Write};
@@ -52,6 +53,7 @@ pub fn obey<
         | Task::Put { .. }
         | Task::Append { .. }
         | Task::Copy { .. }
+        | Task::Upgrade { .. }
         | Task::Remove
         | Task::Rename { .. } => change(rt, opener, screen, words, input, out, errors)?,
         Task::Get {
@@ -112,6 +114,12 @@ fn change<
         Task::Copy { name, to, replaces } => {
             let done = copy(rt, opener, image, name, to, replaces)?;
             tell_put(screen, to, done, out)
+        }
+        Task::Upgrade { to } => {
+            screen.tell(errors, "upgrade", image.path);
+            let made = upgrade_image(rt, image, to);
+            screen.clear(errors);
+            tell_made(screen, to, &made?, out)
         }
         Task::Rename { name, to } => rename(rt, opener, image, name, to),
         _ => remove(rt, opener, image, words.names.as_slice()),

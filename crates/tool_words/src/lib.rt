@@ -28,11 +28,13 @@ mod run;
 mod screen;
 mod serving;
 mod shown;
+mod sparse;
 mod stat;
 mod streams;
 mod svg;
 mod svg_legend;
 mod telling;
+mod upgrading;
 mod window;
 
 pub use fault::Fault;

@@ -5,7 +5,7 @@ use crate::image_run::{ImageFile, open_volume, read_image};
 use crate::json_text::write_json;
 use crate::room::{bytes_of, room_of};
 use crate::shown::Shown;
-use flash_volume::Geometry;
+use flash_volume::{Geometry, Packing};
 use image::Image;
 use serde::Serialize;
 use std::alloc::Global;
@@ -19,6 +19,7 @@ use unicode_width::UnicodeWidthStr;
 /// The numbers of a volume.
 #[derive(Drop, Serialize)]
 struct Facts {
+    layout: &'static str,
     version: u32,
     block_bytes: u32,
     segment_blocks: u32,
@@ -58,6 +59,7 @@ pub fn stat<R: AllocGlobal + Clock + Files<File = File>, O: Write>(
         let text = serde_json::to_string_pretty(rt.alloc(), &facts);
         return write_json(text, out);
     }
+    writeln!(out, "layout    {}", layout_text(geometry.packing))?;
     writeln!(out, "version   {}", facts.version)?;
     writeln!(
         out,
@@ -83,6 +85,14 @@ pub fn stat<R: AllocGlobal + Clock + Files<File = File>, O: Write>(
     Ok(())
 }
 
+// How checkpoints lie, with the numbers of the formats that have them so.
+fn layout_text(packing: Packing) -> &'static str {
+    match packing {
+        Packing::Slots => "checkpoints in slots (format 1 or 2; upgrade makes format 3)",
+        Packing::Pages => "checkpoints in pages (format 3)",
+    }
+}
+
 fn facts_of(geometry: &Geometry, image: &Image) -> Facts {
     let nodes = image.nat.iter().filter(|entry| entry.inode != 0).count();
     let files = image
@@ -95,6 +105,10 @@ fn facts_of(geometry: &Geometry, image: &Image) -> Facts {
         .count();
     let room = room_of(geometry, image);
     Facts {
+        layout: match geometry.packing {
+            Packing::Slots => "slots",
+            Packing::Pages => "pages",
+        },
         version: image.version,
         block_bytes: geometry.shape.block_bytes(),
         segment_blocks: geometry.shape.segment_blocks(),

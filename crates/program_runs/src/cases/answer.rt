@@ -1,5 +1,5 @@
 //! What the program `f2fsim` tells of an input.
-use flash_volume::Threading;
+use flash_volume::{Packing, Threading};
 use program_run::{OpenGate, check_image, run_script, tell_files};
 use program_trials::Input;
 use std::alloc::Global;
@@ -38,6 +38,7 @@ pub fn answer<R: Threads + Wait + Sync>(
             &mut out,
             &mut errors,
             Some(saved),
+            Packing::Slots,
             threading,
             &OpenGate,
         ),

@@ -1,8 +1,10 @@
 //! What stands ready for the steps of a case.
 use crate::cases::answer::{Question, answer};
 use crate::cases::turns::run_in_turns;
+use crate::lawful::in_pages;
 use crate::mounting::mount_bytes;
 use flash_volume::{Leave, Threading};
+use image_reading::ReadFault;
 use program_trials::{
     End, ImageFile, Input, number, push_lines, tell_call, tell_script, text_bytes,
 };
@@ -50,7 +52,8 @@ impl Stage {
     /// - `turns N` does so through a gate that holds two workers before their second call, each until the other's first has answered;
     /// - `careful` has threads begin only while the reserve is full, in the scripts of this case from here on;
     /// - `run TEXT` and `parse TEXT` take a text as a script, `call WORDS` words of the program;
-    /// - `empty`, `base` and `one`, of format 1, are images built by hand; `keep` keeps one, and `same` tells where another is not the same;
+    /// - `empty`, `base`, `one`, of format 1, and `paged`, of format 3, are images built by hand; `anew` writes the image anew in format 3;
+    ///   `keep` keeps one, and `same` tells where another is not the same;
     /// - `change PLACE=BYTE ..`, or `PLACE+COUNT=BYTE`, and `cut LENGTH` change the image; `length` and `bytes FROM COUNT` tell what it is;
     /// - `mount` mounts the image and gives the volume up, and `close` closes it: the image is what they left, and a refusal is told;
     /// - `check` and `files` tell of the image, `endless` of one with zeros behind it, and `broken KIND` of one that cannot be read.
@@ -73,6 +76,7 @@ impl Stage {
             "files" => self.ask(rt, Question::Files, End::Here),
             "mount" => self.mount(rt, Leave::Discard),
             "close" => self.mount(rt, Leave::Close),
+            "anew" => self.write_anew(),
             "endless" => self.read_endless(rt),
             "broken" => self.read_broken(rt, rest),
             "parse" => {
@@ -147,6 +151,18 @@ impl Stage {
             Some(error) => writeln!(self.told, "refused {}: {error}", error.number()),
             None => Ok(()),
         }
+    }
+
+    // Writes the image anew in format 3.
+    fn write_anew(&mut self) -> io::Result<()> {
+        match in_pages(self.alloc, self.image.bytes.as_slice()) {
+            Ok(made) => self.image.bytes = made.bytes,
+            Err(ReadFault::Refused(error)) => {
+                writeln!(self.told, "refused {}: {error}", error.number())?
+            }
+            Err(_) => writeln!(self.told, "not anew")?,
+        }
+        Ok(())
     }
 
     fn read_endless<R: Threads + Wait + Sync>(&mut self, rt: &R) -> io::Result<()> {

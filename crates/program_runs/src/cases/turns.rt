@@ -1,5 +1,5 @@
 //! Scripts through a gate that holds each of two workers before its second call until the other's first one has answered.
-use flash_volume::Threading;
+use flash_volume::{Packing, Threading};
 use program_run::{Gate, run_script};
 use std::alloc::Global;
 use std::io::Write;
@@ -99,6 +99,7 @@ fn run_once<R: Threads + Wait + Sync>(rt: &R, alloc: Global, script: &[u8]) -> i
         &mut told,
         &mut errors,
         None,
+        Packing::Slots,
         Threading::Whenever,
         &turns,
     );

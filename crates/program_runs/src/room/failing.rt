@@ -2,7 +2,9 @@
 use crate::room::filled::Filled;
 use device::{Block, Fuse, Meta};
 use file_device::read_device;
-use flash_volume::{Error, Leave, Policy, Rights, Volume, VolumeName, Work, make_room, work_on};
+use flash_volume::{
+    Error, Leave, Packing, Policy, Rights, Volume, VolumeName, Work, make_room, work_on,
+};
 use program_trials::{Around, Fault, bytes_of, inside};
 use std::alloc::{AllocError, Global};
 use std::rt::Runtime;
@@ -20,12 +22,27 @@ struct Failure {
     call: u32,
 }
 
-/// Lets each call fail, and prints how many there were of each kind.
+/// Lets each call fail, with packs in slots and in pages, and prints how many there were of each kind.
 pub fn fail_each_call<R: Runtime + Threads + Wait + Sync>(
     rt: &R,
     alloc: Global,
 ) -> Result<(), Fault> {
-    let mut filled = Filled::new(rt, alloc, 16, 1)?;
+    for (packing, how) in [(Packing::Slots, ""), (Packing::Pages, " in pages")] {
+        let filled = Filled::new(rt, alloc, packing, 16, 1)?;
+        fail_each_of(rt, alloc, filled, how)?;
+    }
+    println!(rt; "room: each of them fails in turn, and nothing is lost")?;
+    Ok(())
+}
+
+// Lets each call fail on one volume.
+fn fail_each_of<R: Runtime + Threads + Wait + Sync>(
+    rt: &R,
+    alloc: Global,
+    filled: Filled,
+    how: &str,
+) -> Result<(), Fault> {
+    let mut filled = filled;
     for (name, is_meta, is_late) in [
         ("block writes", false, false),
         ("writes and syncs of the meta area", true, false),
@@ -43,9 +60,8 @@ pub fn fail_each_call<R: Runtime + Threads + Wait + Sync>(
             }
             calls = call;
         }
-        println!(rt; "room: {calls} {name} while it is made")?;
+        println!(rt; "room{how}: {calls} {name} while it is made")?;
     }
-    println!(rt; "room: each of them fails in turn, and nothing is lost")?;
     Ok(())
 }
 

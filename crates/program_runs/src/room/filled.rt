@@ -4,7 +4,8 @@ use crate::users::player::Player;
 use device::{Block, Meta};
 use file_device::read_device;
 use flash_volume::{
-    Error, Geometry, Leave, Rights, Shape, Volume, VolumeName, Work, usable_blocks, work_on,
+    Error, Geometry, Leave, Packing, Rights, Shape, Volume, VolumeName, Work, usable_blocks,
+    work_on,
 };
 use program_trials::{Fault, Plan, User, bytes_of};
 use std::alloc::{AllocError, Global};
@@ -23,12 +24,14 @@ impl Filled {
     pub fn new<R: Threads + Wait + Sync>(
         rt: &R,
         alloc: Global,
+        packing: Packing,
         segments: u32,
         per_section: u32,
     ) -> Result<Filled, Fault> {
         let Ok(geometry) = Geometry::new(Shape::TINY, segments, per_section, 8, 128) else {
             return Err(Fault::from(AllocError));
         };
+        let geometry = geometry.with_packing(packing);
         let plan = Plan {
             shape: Shape::TINY,
             files: 3,

@@ -5,7 +5,9 @@ use crate::users::held::Held;
 use crate::users::player::Player;
 use device::{Block, Meta};
 use file_device::read_device;
-use flash_volume::{Error, Leave, Policy, Rights, Volume, VolumeName, Work, make_room, work_on};
+use flash_volume::{
+    Error, Leave, Packing, Policy, Rights, Volume, VolumeName, Work, make_room, work_on,
+};
 use program_trials::{Deed, Fault, bytes_of, tagged_block};
 use std::alloc::{AllocError, Global};
 use std::rt::Runtime;
@@ -26,8 +28,12 @@ pub fn hold_each_segment<R: Runtime + Threads + Wait + Sync>(
     rt: &R,
     alloc: Global,
 ) -> Result<(), Fault> {
-    for (segments, per_section) in [(16, 1), (32, 1), (64, 2)] {
-        if let Some(wrong) = hold_one(rt, alloc, segments, per_section)? {
+    for (packing, segments, per_section) in [
+        (Packing::Slots, 16, 1),
+        (Packing::Pages, 32, 1),
+        (Packing::Slots, 64, 2),
+    ] {
+        if let Some(wrong) = hold_one(rt, alloc, packing, segments, per_section)? {
             let what = format!(in alloc; "room: {segments} segments held by readers: {wrong}")?;
             return Err(Fault::Wrong(what));
         }
@@ -42,10 +48,11 @@ pub fn hold_each_segment<R: Runtime + Threads + Wait + Sync>(
 fn hold_one<R: Threads + Wait + Sync>(
     rt: &R,
     alloc: Global,
+    packing: Packing,
     segments: u32,
     per_section: u32,
 ) -> Result<Option<&'static str>, Fault> {
-    let mut filled = Filled::new(rt, alloc, segments, per_section)?;
+    let mut filled = Filled::new(rt, alloc, packing, segments, per_section)?;
     let mut input = filled.image.as_slice();
     let Ok((_, device)) = read_device(alloc, &mut input) else {
         return Err(Fault::from(AllocError));

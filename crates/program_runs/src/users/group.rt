@@ -1,6 +1,6 @@
 //! Kinds of users, and the volumes that they have.
 use crate::users::player::Player;
-use flash_volume::{Error, Geometry, Shape, usable_blocks};
+use flash_volume::{Error, Geometry, Packing, Shape, usable_blocks};
 use program_trials::{Plan, User};
 use std::alloc::{AllocError, Global};
 
@@ -96,7 +96,15 @@ impl Group {
         let (segments, per_section) = self.sizes.get(place).copied().unwrap_or((16, 1));
         // Four users have two files each, and one at a time makes another in place of one.
         let files = self.threads.saturating_mul(4).max(8);
-        Geometry::new(self.shape, segments, per_section, files, 256)
+        let geometry = Geometry::new(self.shape, segments, per_section, files, 256)?;
+        // Each size has its turn with either packing.
+        let turn = (number as usize).checked_div(self.sizes.len()).unwrap_or(0);
+        let packing = if turn.wrapping_add(number as usize).is_multiple_of(2) {
+            Packing::Slots
+        } else {
+            Packing::Pages
+        };
+        Ok(geometry.with_packing(packing))
     }
 
     /// The users of a number. They share a part of the usable room, from 30 to 99 %.

@@ -89,6 +89,7 @@ fn with_volume_commands<'a>(
         .subcommand(on_image(alloc, "stat", stat)?.arg(json(alloc))?)?
         .subcommand(on_image(alloc, "df", room)?.arg(json(alloc))?)?
         .subcommand(map_command(alloc)?)?
+        .subcommand(upgrade_command(alloc)?)?
         .subcommand(serve_command(alloc)?)
 }
 
@@ -276,6 +277,16 @@ fn map_command<'a>(alloc: Global) -> Result<Command<'a>, AllocError> {
     )?
     .arg(svg.conflicts_with("json")?)?
     .arg(json(alloc))
+}
+
+fn upgrade_command<'a>(alloc: Global) -> Result<Command<'a>, AllocError> {
+    let to = Arg::new(alloc, "to")
+        .value_name("NEW")
+        .help("The new image file, which is not there")
+        .required(true);
+    let about =
+        "Writes the volume, of any format, into a new image file of format 3; IMAGE stays as it is";
+    on_image(alloc, "upgrade", about)?.arg(to)
 }
 
 fn serve_command<'a>(alloc: Global) -> Result<Command<'a>, AllocError> {

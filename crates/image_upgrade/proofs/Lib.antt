@@ -1,0 +1,3 @@
+mod Anew
+mod Copying
+mod Written
