@@ -1,4 +1,5 @@
 pub mod Turns
+pub mod Turned
 pub mod LockLaws
 pub mod Stored
 pub mod TreeHeld

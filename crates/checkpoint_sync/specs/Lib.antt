@@ -5,3 +5,4 @@ pub mod FileParts
 pub mod WrittenFiles
 pub mod Lent
 pub mod TakenFrom
+pub mod Turned

@@ -1,4 +1,7 @@
 //! A main area whose locks are all held.
+ghost use Rattle.std.specs.Prelude.{◌≡◌, vec_len};
+ghost use Rattle.checkpoint_sync.specs.Turned.{AreTurnsOf};
+
 use crate::log::HeldLog;
 use crate::segment::HeldSegment;
 use crate::shard::HeldShard;
@@ -27,7 +30,10 @@ impl<'a, V: VolumeName, B: Block + Drop + 'a> Model for HeldArea<'a, V, B> {
 
 impl<'a, V: VolumeName, B: Block + Drop + 'a> HeldArea<'a, V, B> {
     /// Finds what a completed checkpoint has to do with each segment.
-    pub fn find_unsettled(&self, unsettled: &mut Unsettled) {
+    pub fn find_unsettled(&self, unsettled: &mut Unsettled)
+        ensures found { AreTurnsOf self.now.segments unsettled.new.turns.items }
+        ensures count { vec_len unsettled.new.turns ≡ vec_len unsettled.old.turns }
+    {
         for number in 0..self.segments.len() {
             unsettled.find(number as u32, self.segments[number].turn());
         }

@@ -7,7 +7,7 @@ mod saving;
 use flash_volume::{Packing, Threading};
 use help::{HELP, asks_for_help};
 use program_run::status::{DONE, FAILED, MISUSED};
-use program_run::{OpenGate, check_image, run_script, tell_files, tell_io_failure};
+use program_run::{OpenGate, Rules, check_image, run_script, tell_files, tell_io_failure};
 use program_script::words::USAGE;
 use program_script::{Words, WordsError};
 use saving::save;
@@ -124,8 +124,10 @@ fn run_saving<R: Runtime + AllocGlobal + Threads + Wait + Sync, W: Write, E: Wri
         out,
         errors,
         saved,
-        Packing::Slots,
-        threading,
+        Rules {
+            packing: Packing::Slots,
+            threading,
+        },
         &OpenGate,
     );
     match path {

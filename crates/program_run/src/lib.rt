@@ -40,6 +40,7 @@ pub use part::{give_shares, take_shares};
 pub use places::{close_readers, no_items};
 pub use run::run_script;
 pub use session::Session;
+pub use setting::Rules;
 pub use stop::{tell_failure, tell_io_failure, tell_no_memory};
 pub use synced::Synced;
 pub use work::{policy_of, run_work};

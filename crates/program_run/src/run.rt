@@ -9,13 +9,13 @@ use crate::disk::{Faults, new_parts, with_faults, without_faults};
 use crate::gate::Gate;
 use crate::reading::read_all;
 use crate::remounting::{Left, run_mounted};
-use crate::setting::Setting;
+use crate::setting::{Rules, Setting};
 use crate::status::DONE;
 use crate::steps::Carried;
 use crate::stop::Stop;
 use crate::telling::tell_parts;
 use device::{Block, MemDevice, Meta, Parts};
-use flash_volume::{Packing, SharedBlock, Threading};
+use flash_volume::SharedBlock;
 use geometry::Geometry;
 use packs_format::one_image_law;
 use program_script::{Numbers, Script, Step};
@@ -31,8 +31,7 @@ use volume_law::{format_law, mount_law};
 /// as it is, behind a line that tells so. The bytes of the device are added to `saved`, if there is one. Then the device is
 /// mounted again, and each file has a line with its length and its blocks, and the image's total a last one.
 ///
-/// The script's volume has its packs as `packing` says, and threads by the rule `threading`. The calls of workers side by side go through
-/// `gate`.
+/// The script's volume is made and written by `rules`. The calls of workers side by side go through `gate`.
 ///
 /// Answers the exit status: 0 where all was done; 1 where the volume could not be made, closed or mounted again, or a file not
 /// be read at the end, which is told on `out`; 3 where a line is not of the grammar, which is told on `errors` and nothing is
@@ -45,8 +44,7 @@ pub fn run_script<T: Threads + Wait + Sync, G: Gate + Sync, R: Read, W: Write, E
     out: &mut W,
     errors: &mut E,
     saved: Option<&mut Vec<u8>>,
-    packing: Packing,
-    threading: Threading,
+    rules: Rules,
     gate: &G,
 ) -> u8
     ensures status { (result ≡ 0) ⊎ ((result ≡ 1) ⊎ ((result ≡ 3) ⊎ (result ≡ 4))) }
@@ -55,7 +53,7 @@ pub fn run_script<T: Threads + Wait + Sync, G: Gate + Sync, R: Read, W: Write, E
     ensures bad_line { result ≡ 3 → out.new ≡ out.old }
     ensures quiet { result ≢ 3 → result ≢ 4 → errors.new ≡ errors.old }
 {
-    match read_and_run(rt, alloc, input, out, saved, packing, threading, gate) {
+    match read_and_run(rt, alloc, input, out, saved, rules, gate) {
         Ok(()) => DONE,
         Err(stop) => stop.tell(out, errors),
     }
@@ -67,8 +65,7 @@ fn read_and_run<T: Threads + Wait + Sync, G: Gate + Sync, R: Read, W: Write>(
     input: &mut R,
     out: &mut W,
     saved: Option<&mut Vec<u8>>,
-    packing: Packing,
-    threading: Threading,
+    rules: Rules,
     gate: &G,
 ) -> Result<(), Stop>
     ensures read { OnOk result (IsAtEnd (R.remaining input.new)) }
@@ -87,8 +84,7 @@ fn read_and_run<T: Threads + Wait + Sync, G: Gate + Sync, R: Read, W: Write>(
         script.steps.as_slice(),
         out,
         saved,
-        packing,
-        threading,
+        rules,
         gate,
     )
 }
@@ -101,8 +97,7 @@ fn run_whole<T: Threads + Wait + Sync, G: Gate + Sync, W: Write>(
     steps: &[Step],
     out: &mut W,
     saved: Option<&mut Vec<u8>>,
-    packing: Packing,
-    threading: Threading,
+    rules: Rules,
     gate: &G,
 ) -> Result<(), Stop>
     ensures done { OnOk result (WroteScript steps.now (W.contents out.old) (W.contents out.new)) }
@@ -115,10 +110,10 @@ fn run_whole<T: Threads + Wait + Sync, G: Gate + Sync, W: Write>(
         numbers.files,
         numbers.nodes,
     )?
-    .with_packing(packing);
+    .with_packing(rules.packing);
     let setting = Setting {
         faults: Faults::new(alloc)?,
-        threading,
+        threading: rules.threading,
         gate,
     };
     let parts = new_parts(alloc, &geometry, &setting.faults)?;

@@ -1,7 +1,16 @@
 //! What a script runs in.
 use crate::disk::Faults;
 use crate::gate::Gate;
-use flash_volume::Threading;
+use flash_volume::{Packing, Threading};
+
+/// By which rules a script's volume is made and written.
+#[derive(Clone, Copy)]
+pub struct Rules {
+    /// How its checkpoint packs lie.
+    pub packing: Packing,
+    /// When it threads used segments.
+    pub threading: Threading,
+}
 
 /// What a script runs in beside its volume: what lets calls of its device fail, when the volume threads used segments, and the gate that
 /// its workers' calls go through.

@@ -1,6 +1,6 @@
 //! A script that is run, and what it told.
 use flash_volume::{Packing, Threading};
-use program_run::{Gate, OpenGate, run_script};
+use program_run::{Gate, OpenGate, Rules, run_script};
 use program_trials::{Fault, Told, Trouble, Verdict, judge_lines};
 use std::alloc::Global;
 use std::sync::Wait;
@@ -25,8 +25,10 @@ pub fn play<R: Threads + Wait + Sync, G: Gate + Sync>(
         &mut lines,
         &mut errors,
         saved,
-        packing,
-        Threading::Whenever,
+        Rules {
+            packing,
+            threading: Threading::Whenever,
+        },
         gate,
     );
     Told {

@@ -10,6 +10,7 @@ mod lent;
 pub mod loading;
 pub mod room;
 pub mod segment;
+mod standing;
 mod thread;
 mod valid;
 

@@ -15,9 +15,9 @@ ghost use Rattle.sit.specs.Summaries.{is_set, count_of};
 ghost use Rattle.sit.specs.NextValid.{IsNextValid};
 ghost use Rattle.geometry.specs.Segment.{IsHole};
 ghost use Rattle.sit.specs.Thread.{ended, keeping, IsNextHole};
-ghost use Rattle.sit.specs.declared.segment.Released.TheVariants.{Retired};
 
 use crate::body::Body;
+use crate::standing::{retire_empty, seal_full, show_open};
 use device::Block;
 use geometry::{Error, Mark, Owner, State};
 use rights_books::{Audit, Books, FileAccount, Permit, SegmentAccount};
@@ -450,58 +450,5 @@ impl<B: Block + Drop> SegmentState<B> {
         ensures capacity { vec_capacity all.new ≡ vec_capacity all.old }
     {
         self.body.empty_into(all);
-    }
-}
-
-ghost use Rattle.sit.specs.Registered.{HasLivedOn as HasSealedFull, HasStood as HasRetiredEmpty, slip_after as slip_left};
-
-// Shows that a standing's segment is open, by its slip.
-fn show_open(words: &Words, standing: &mut Standing, slip: &mut Option<StoredOpenSlip>)
-    requires table { standing.old.table ≡ words.now.table }
-    requires slip { slip.old ≡ Some (record { table = standing.old.table; segment = standing.old.life.segment }) }
-    ensures state { standing.old.life.state ≡ Open }
-    ensures standing { standing.new ≡ standing.old }
-    ensures slip { slip.new ≡ slip.old }
-{
-    match slip.take() {
-        Some(stored) => {
-            let mut open = stored.restore();
-            words.is_open(standing, &mut open);
-            *slip = Some(open.store());
-        }
-        None => unreachable!(),
-    }
-}
-
-// Seals a standing's segment where it has this state, and spends its slip.
-fn seal_full(
-    words: &Words,
-    standing: &mut Standing,
-    slip: &mut Option<StoredOpenSlip>,
-    state: State,
-)
-    requires table { standing.old.table ≡ words.now.table }
-    requires slip { slip.old ≡ Some (record { table = standing.old.table; segment = standing.old.life.segment }) }
-    ensures standing { HasSealedFull state standing.old standing.new }
-    ensures slip { slip.new ≡ slip_left state slip.old }
-{
-    match state {
-        State::Sealed => match slip.take() {
-            Some(stored) => words.seal(standing, stored.restore()),
-            None => unreachable!(),
-        },
-        State::Free | State::Open | State::Prefree => {}
-    }
-}
-
-// Retires a standing's segment where it has lost its last valid block.
-fn retire_empty(words: &Words, standing: &mut Standing, released: Released)
-    requires table { standing.old.table ≡ words.now.table }
-    requires sealed { released ≡ Retired → standing.old.life.state ≡ Sealed }
-    ensures { HasRetiredEmpty released standing.old standing.new }
-{
-    match released {
-        Released::Kept => {}
-        Released::Retired => words.retire(standing),
     }
 }

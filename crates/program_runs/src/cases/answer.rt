@@ -1,6 +1,6 @@
 //! What the program `f2fsim` tells of an input.
 use flash_volume::{Packing, Threading};
-use program_run::{OpenGate, check_image, run_script, tell_files};
+use program_run::{OpenGate, Rules, check_image, run_script, tell_files};
 use program_trials::Input;
 use std::alloc::Global;
 use std::io;
@@ -38,8 +38,10 @@ pub fn answer<R: Threads + Wait + Sync>(
             &mut out,
             &mut errors,
             Some(saved),
-            Packing::Slots,
-            threading,
+            Rules {
+                packing: Packing::Slots,
+                threading,
+            },
             &OpenGate,
         ),
     };

@@ -1,6 +1,6 @@
 //! Scripts through a gate that holds each of two workers before its second call until the other's first one has answered.
 use flash_volume::{Packing, Threading};
-use program_run::{Gate, run_script};
+use program_run::{Gate, Rules, run_script};
 use std::alloc::Global;
 use std::io::Write;
 use std::sync::Wait;
@@ -99,8 +99,10 @@ fn run_once<R: Threads + Wait + Sync>(rt: &R, alloc: Global, script: &[u8]) -> i
         &mut told,
         &mut errors,
         None,
-        Packing::Slots,
-        Threading::Whenever,
+        Rules {
+            packing: Packing::Slots,
+            threading: Threading::Whenever,
+        },
         &turns,
     );
     if status != 0 || !errors.is_empty() {
