@@ -12,38 +12,56 @@ mod scene;
 mod trial;
 
 use failures::try_failures;
+use flash_volume::Packing;
 use removal::Removal;
 use std::io::Write;
 use std::sync::Wait;
 use tool_words::Fault;
 use trial::{Counts, Trial};
 
-/// Tries all states, with what becomes of the calls picked by chance so many times, and tells the counts. Answers the exit status: 0
-/// where no state is bad, and one is where no settle counts.
+/// Tries all states, of volumes with packs in slots and in pages, with what becomes of the calls picked by chance so many times, and tells
+/// the counts. Answers the exit status: 0 where no state is bad, and one is where no settle counts.
 pub fn try_states<R: AllocGlobal + Wait, O: Write>(
     rt: &R,
     picks: u64,
     out: &mut O,
 ) -> Result<u8, Fault> {
-    let trial = Trial::record(rt)?;
+    let mut is_all = true;
+    for (packing, how) in [(Packing::Slots, "slots"), (Packing::Pages, "pages")] {
+        writeln!(out, "with packs in {how}")?;
+        let is_good = try_packing(rt, packing, picks, out)?;
+        is_all = is_all && is_good;
+    }
+    Ok(u8::from(!is_all))
+}
+
+// Tries those of volumes whose packs lie so, and answers whether none is bad, and the others are there.
+fn try_packing<R: AllocGlobal + Wait, O: Write>(
+    rt: &R,
+    packing: Packing,
+    picks: u64,
+    out: &mut O,
+) -> Result<bool, Fault> {
+    let trial = Trial::record(rt, packing)?;
     let counts = trial.count(rt, picks, true)?;
     let unsettled = trial.count(rt, picks, false)?;
     writeln!(out, "one put makes {} calls of its store", trial.calls())?;
     tell(out, "as settled", counts)?;
     tell(out, "as if no settle counted", unsettled)?;
     let is_put = counts.bad == 0 && counts.old > 0 && counts.new > 0 && unsettled.bad > 0;
-    let is_removed = try_removal(rt, picks, out)?;
-    try_failures(rt, out)?;
-    Ok(u8::from(!is_put || !is_removed))
+    let is_removed = try_removal(rt, packing, picks, out)?;
+    try_failures(rt, packing, out)?;
+    Ok(is_put && is_removed)
 }
 
 // Tries all states of a removal, and answers whether none is bad, and each other kind is there.
 fn try_removal<R: AllocGlobal + Wait, O: Write>(
     rt: &R,
+    packing: Packing,
     picks: u64,
     out: &mut O,
 ) -> Result<bool, Fault> {
-    let removal = Removal::record(rt)?;
+    let removal = Removal::record(rt, packing)?;
     let left = removal.count(rt, picks)?;
     writeln!(
         out,

@@ -5,7 +5,8 @@ ghost use Rattle.device.specs.Parts.{IsBlockRun};
 use super::scene::{FILE, OLD_BYTES, is, mounted, put_of, read};
 use device::{Faulty, Fuse};
 use flash_volume::{
-    Block, Geometry, Leave, MemBlock, MemDevice, MemMeta, Parts, Shape, work_on, work_on_new,
+    Block, Geometry, Leave, MemBlock, MemDevice, MemMeta, Packing, Parts, Shape, work_on,
+    work_on_new,
 };
 use std::io::Write;
 use std::sync::{Arc, Wait};
@@ -20,13 +21,17 @@ const MOST: u32 = 40;
 
 /// Lets each write and sync of the meta area fail in turn, not done and done, until a put makes no more of them. Tells what the tool
 /// says, where that changes, and which file a later run finds.
-pub fn try_failures<R: AllocGlobal + Wait, O: Write>(rt: &R, out: &mut O) -> Result<(), Fault> {
+pub fn try_failures<R: AllocGlobal + Wait, O: Write>(
+    rt: &R,
+    packing: Packing,
+    out: &mut O,
+) -> Result<(), Fault> {
     let mut said = Vec::new(rt.alloc());
     for call in 1..MOST {
-        if !try_failure(rt, call, false, &mut said, out)? {
+        if !try_failure(rt, packing, call, false, &mut said, out)? {
             break;
         }
-        try_failure(rt, call, true, &mut said, out)?;
+        try_failure(rt, packing, call, true, &mut said, out)?;
     }
     Ok(())
 }
@@ -34,13 +39,14 @@ pub fn try_failures<R: AllocGlobal + Wait, O: Write>(rt: &R, out: &mut O) -> Res
 // Lets a call fail, and answers whether it did. `said` is what the tool said last.
 fn try_failure<R: AllocGlobal + Wait, O: Write>(
     rt: &R,
+    packing: Packing,
     call: u32,
     late: bool,
     said: &mut Vec<u8>,
     out: &mut O,
 ) -> Result<bool, Fault> {
     let alloc = rt.alloc();
-    let Parts { meta, blocks } = small_volume(rt)?;
+    let Parts { meta, blocks } = small_volume(rt, packing)?;
     let fuse = Arc::new(alloc, Fuse::new(alloc))?;
     fuse.arm(call, late)?;
     let meta = Faulty::new(meta, fuse);
@@ -84,11 +90,14 @@ fn tell_found<R: AllocGlobal + Wait, O: Write>(
 }
 
 // A volume with one file.
-fn small_volume<R: AllocGlobal + Wait>(rt: &R) -> Result<Parts<MemMeta, MemBlock>, Fault>
+fn small_volume<R: AllocGlobal + Wait>(
+    rt: &R,
+    packing: Packing,
+) -> Result<Parts<MemMeta, MemBlock>, Fault>
     ensures run { IfOk result (λ parts. (bytes : ℕ) × IsBlockRun ⟦<MemBlock as Block>⟧.address_of ⟦<MemBlock as Block>⟧.content_of bytes 1 parts.blocks.items) }
 {
     let alloc = rt.alloc();
-    let geometry = Geometry::new(Shape::TINY, 16, 1, 8, 32)?;
+    let geometry = Geometry::new(Shape::TINY, 16, 1, 8, 32)?.with_packing(packing);
     let device = MemDevice::new(alloc, &geometry)?;
     let made = work_on_new(
         rt,

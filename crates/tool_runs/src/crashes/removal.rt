@@ -3,7 +3,7 @@ use super::fates::Fates;
 use super::scene::{
     FILE, OLD_BYTES, OTHER, OTHER_BYTES, Recording, Scene, is, mounted, read, worked,
 };
-use flash_volume::{Leave, work_on};
+use flash_volume::{Leave, Packing, work_on};
 use std::alloc::Global;
 use std::sync::Wait;
 use tool_files::{DeleteFile, Remove};
@@ -37,9 +37,9 @@ pub struct Removal {
 }
 
 impl Removal {
-    /// Removes one of two files: first the file goes, with a checkpoint, and then its name.
-    pub fn record<R: AllocGlobal + Wait>(rt: &R) -> Result<Removal, Fault> {
-        let (scene, parts) = Scene::begin(rt)?;
+    /// Removes one of two files, on a volume whose packs lie so: first the file goes, with a checkpoint, and then its name.
+    pub fn record<R: AllocGlobal + Wait>(rt: &R, packing: Packing) -> Result<Removal, Fault> {
+        let (scene, parts) = Scene::begin(rt, packing)?;
         let file = DeleteFile { name: FILE };
         let deleted = work_on(rt, rt.alloc(), parts, Leave::Close, file)?;
         deleted.output?;

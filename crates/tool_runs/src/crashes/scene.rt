@@ -6,7 +6,8 @@ use super::fates::Fates;
 use super::recorder::{Call, Recorder};
 use file_device::{Asked, FileBlock, FileMeta, keep_in, read_device};
 use flash_volume::{
-    Block, Error, Geometry, Leave, MemDevice, Parts, Policy, Shape, Work, work_on, work_on_new,
+    Block, Error, Geometry, Leave, MemDevice, Packing, Parts, Policy, Shape, Work, work_on,
+    work_on_new,
 };
 use std::alloc::{AllocError, Global};
 use std::sync::Wait;
@@ -36,12 +37,15 @@ pub struct Scene {
 pub type RecordedParts = Parts<FileMeta<Recorder>, FileBlock<Recorder>>;
 
 impl Scene {
-    /// Makes a volume with two files.
-    pub fn begin<R: AllocGlobal + Wait>(rt: &R) -> Result<(Scene, RecordedParts), Fault>
+    /// Makes a volume with two files, whose packs lie so.
+    pub fn begin<R: AllocGlobal + Wait>(
+        rt: &R,
+        packing: Packing,
+    ) -> Result<(Scene, RecordedParts), Fault>
         ensures run { IfOk result (λ begun. (bytes : ℕ) × IsBlockRun ⟦<FileBlock<Recorder> as Block>⟧.address_of ⟦<FileBlock<Recorder> as Block>⟧.content_of bytes 1 begun.1.blocks.items) }
     {
         let alloc = rt.alloc();
-        let geometry = Geometry::new(Shape::TINY, 16, 1, 8, 32)?;
+        let geometry = Geometry::new(Shape::TINY, 16, 1, 8, 32)?.with_packing(packing);
         let recorder = Recorder::new(alloc)?;
         let device = MemDevice::new(alloc, &geometry)?;
         let store = Asked::of(recorder.share()?);

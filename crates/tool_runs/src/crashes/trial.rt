@@ -3,7 +3,7 @@ use super::fates::Fates;
 use super::scene::{
     FILE, OLD_BYTES, OTHER, OTHER_BYTES, Recording, Scene, is, mounted, put_of, read,
 };
-use flash_volume::{Leave, work_on};
+use flash_volume::{Leave, Packing, work_on};
 use std::sync::Wait;
 use tool_words::Fault;
 
@@ -25,9 +25,9 @@ pub struct Trial {
 }
 
 impl Trial {
-    /// Puts one of two files again.
-    pub fn record<R: AllocGlobal + Wait>(rt: &R) -> Result<Trial, Fault> {
-        let (scene, parts) = Scene::begin(rt)?;
+    /// Puts one of two files again, on a volume whose packs lie so.
+    pub fn record<R: AllocGlobal + Wait>(rt: &R, packing: Packing) -> Result<Trial, Fault> {
+        let (scene, parts) = Scene::begin(rt, packing)?;
         let new = put_of(FILE, NEW_BYTES.as_slice());
         let new = work_on(rt, rt.alloc(), parts, Leave::Close, new)?;
         let _number = new.output?;
