@@ -73,14 +73,16 @@ impl NewFile {
         path: &str,
     ) -> Result<(), Fault> {
         let settled = self.bytes.settle();
-        let settled = settled.and_then(|()| name_new(rt, self.beside.as_str(), path));
-        match settled.and_then(|()| settle_folder(rt, path)) {
-            Ok(()) => Ok(()),
-            Err(error) => {
-                let fault = Fault::of_file(rt.alloc(), path, error);
-                Err(self.drop_for(rt, path, fault))
-            }
+        if let Err(error) = settled.and_then(|()| name_new(rt, self.beside.as_str(), path)) {
+            let fault = Fault::of_file(rt.alloc(), path, error);
+            return Err(self.drop_for(rt, path, fault));
         }
+        if let Err(error) = settle_folder(rt, path) {
+            // What can't be removed either stays.
+            let _ = fs::remove_file(rt, path);
+            return Err(Fault::of_file(rt.alloc(), path, error));
+        }
+        Ok(())
     }
 
     /// Removes the file, since writing it failed so. Where it was the file that failed its path is named.
@@ -111,7 +113,11 @@ fn refuse_there<R: AllocGlobal + Files<File = File>>(rt: &R, path: &str) -> Resu
 // Gives a file another name, which no file has. A link is refused where one has it. Where the system knows no links, the file is renamed.
 fn name_new<R: Files<File = File>>(rt: &R, old: &str, new: &str) -> io::Result<()> {
     match fs::hard_link(rt, old, new) {
-        Ok(()) => fs::remove_file(rt, old),
+        Ok(()) => {
+            // A name that can't be removed stays beside the new one.
+            let _ = fs::remove_file(rt, old);
+            Ok(())
+        }
         Err(error) if error.kind() == io::ErrorKind::AlreadyExists => Err(error),
         Err(_) if fs::symlink_metadata(rt, new).is_ok() => {
             Err(io::Error::from(io::ErrorKind::AlreadyExists))
