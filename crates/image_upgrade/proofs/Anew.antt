@@ -1,10 +1,10 @@
 -- The same main blocks behind another meta area: the nodes and the files are the same.
-use Rattle.std.proofs.Common.{◌≡◌, ◌∙◌, refl, sym, ap, subst, ℕ, ◌+◌, ◌-◌, ◌*◌, List, ◌++◌, map, length, take, drop, Option, Some, None, arith}
+use Rattle.std.proofs.Common.{◌≡◌, ◌∙◌, refl, sym, ap, subst, ℕ, ◌-◌, ◌*◌, List, ◌++◌, map, length, take, drop, Option, Some, None, arith}
 use Rattle.std.proofs.Math.Path.{fun_ext}
 use Rattle.std.proofs.lemmas.List.{drop-drop, drop_at, length-append, length-drop, take_at}
 use Rattle.std.specs.FinMap.{from_entries}
 use Rattle.std.specs.List.{filter_map}
-use Rattle.geometry.specs.Area.{block_count, meta_bytes}
+use Rattle.geometry.specs.Area.{meta_bytes}
 use Rattle.geometry.specs.File.{Block, File}
 use Rattle.geometry.specs.Path.{path}
 use Rattle.geometry.specs.Shape.{block_bytes}
@@ -19,7 +19,7 @@ use Rattle.image.specs.Rules.{IsLawful}
 use Rattle.image.specs.Walk.{inodes}
 use Rattle.image_reading.specs.Held.{HoldsVolume}
 use Rattle.image_upgrade.specs.Upgraded.{IsUpgraded, first, paged}
-use Rattle.packs_format.specs.File.{block_in, file_bytes}
+use Rattle.packs_format.specs.File.{block_in}
 use Rattle.packs_format.specs.Grammar.{HasSuper}
 use Rattle.packs_format.specs.Holding.{HoldsTables}
 

@@ -1,3 +1,4 @@
 mod Anew
 mod Copying
+mod Refusing
 mod Written

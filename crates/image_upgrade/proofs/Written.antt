@@ -1,6 +1,5 @@
 -- A settled pack of an image's body, and what stands in front of it.
-use Rattle.std.proofs.Common.{◌≡◌, ◌∙◌, ℕ, ◌^◌, ◌<◌, List, length, ap, subst, arith}
-use Rattle.device.specs.Disk.{Leaves}
+use Rattle.std.proofs.Common.{◌≡◌, ◌∙◌, ℕ, List, length, ap, subst, arith}
 use Rattle.geometry.specs.declared.geometry.Geometry.{Geometry}
 use Rattle.image.specs.Image.{Image}
 use Rattle.image.specs.Slots.{version_of}

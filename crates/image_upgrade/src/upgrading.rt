@@ -1,14 +1,14 @@
 //! A volume is written anew.
-ghost use Rattle.std.specs.Prelude.{◌≡◌, ◌+◌, ◌*◌, ℕ, List, drop, length, IfErr, IfOk, OnOk};
+ghost use Rattle.std.specs.Prelude.{◌≡◌, ℕ, List, drop, length, IfErr, IfOk, OnOk};
 ghost use Rattle.std.specs.Io.KnownBytes.{Appends};
-ghost use Rattle.geometry.specs.Area.{block_count, meta_bytes};
-ghost use Rattle.geometry.specs.Shape.{block_bytes};
+ghost use Rattle.geometry.specs.Area.{meta_bytes};
 ghost use Rattle.geometry.specs.declared.error.Error.TheVariants.{NoMemory};
 ghost use Rattle.image.specs.Faults.{IsRefusal};
 ghost use Rattle.image.specs.View.{image_view};
 ghost use Rattle.image_reading.specs.Held.{HoldsVolume};
 ghost use Rattle.image_reading.specs.Refused.{IfRefused};
 ghost use Rattle.image_reading.specs.Told.{Narrows};
+ghost use Rattle.packs_format.specs.File.{file_bytes as bytes_of_file};
 ghost use Rattle.image_upgrade.specs.Upgraded.{IsUpgraded, first, paged};
 
 use crate::area::new_area;
@@ -16,6 +16,7 @@ use geometry::{Geometry, Packing};
 use image::Image;
 use image_checker::check;
 use image_reading::{ImageSource, ReadFault};
+use packs_format::file_bytes;
 use std::alloc::Global;
 use std::io::Write;
 
@@ -63,23 +64,22 @@ fn copy_blocks<S: ImageSource, O: Write>(
     source: &mut S,
     out: &mut O,
 ) -> Result<(), ReadFault>
-    ensures copied { OnOk result ((bytes : List ℕ) → S.shows source.new bytes → length bytes ≡ meta_bytes geometry.now + block_count geometry.now * block_bytes geometry.now.shape
+    ensures copied { OnOk result ((bytes : List ℕ) → S.shows source.new bytes → length bytes ≡ bytes_of_file geometry.now
         → Appends (O.contents out.old) (O.contents out.new) (drop (meta_bytes geometry.now) bytes)) }
     ensures refused { IfErr result (λ fault. IfRefused fault (λ error. error ≡ NoMemory)) }
     ensures kept { Narrows (S.shows source.old) (S.shows source.new) }
 {
-    let front = geometry.meta_bytes();
-    let all = u64::from(geometry.blocks()) * u64::from(geometry.shape.block_bytes());
+    let end = file_bytes(geometry);
     let mut buffer = vec![in alloc; 0u8; MOST_BYTES as usize]?;
-    let mut done = 0u64;
-    while done < all {
-        let count = MOST_BYTES.min(all - done);
+    let mut at = geometry.meta_bytes();
+    while at < end {
+        let count = MOST_BYTES.min(end - at);
         let piece = &mut buffer.as_mut_slice()[..count as usize];
-        source.read_at(front + done, piece)?;
+        source.read_at(at, piece)?;
         if let Err(error) = out.write_all(piece) {
             return Err(ReadFault::Out(error));
         }
-        done += count;
+        at += count;
     }
     Ok(())
 }
