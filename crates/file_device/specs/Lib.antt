@@ -1,4 +1,4 @@
 pub mod Place
-pub mod Shared
 pub mod Held
+pub mod Blocks
 pub mod Named

@@ -1,7 +1,7 @@
 //! Image files of the operating system: made, and opened.
 ghost use Rattle.std.specs.Prelude.{◌≡◌, length, map, IfOk};
 ghost use Rattle.device.specs.Parts.{HasSize};
-ghost use Rattle.file_device.specs.Held.{is_kept};
+ghost use Rattle.file_device.specs.Blocks.{is_kept};
 ghost use Rattle.file_device.specs.Named.{FlagNamed};
 ghost use Rattle.geometry.specs.Area.{block_count, meta_bytes};
 ghost use Rattle.geometry.specs.declared.geometry.Geometry.{Geometry as Numbers};
@@ -87,7 +87,7 @@ pub fn open_image<R: Files<File = File>>(
         × HasSize ⟦<FileMeta<File> as Meta>⟧.seen ⟦<FileBlock<File> as Block>⟧.address_of ⟦<FileBlock<File> as Block>⟧.content_of geometry parts) }
     // What the tables name is read.
     ensures read { IfOk result (λ parts. (geometry : Numbers) × HasSuper geometry (⟦<FileMeta<File> as Meta>⟧.seen parts.meta)
-        × FlagNamed geometry (⟦<FileMeta<File> as Meta>⟧.seen parts.meta) (map (λ block. is_kept block.kept.held) parts.blocks.items)) }
+        × FlagNamed geometry (⟦<FileMeta<File> as Meta>⟧.seen parts.meta) (map is_kept parts.blocks.items)) }
 {
     // A pipe would keep who opens it waiting.
     if !std::fs::metadata(rt, path)?.is_file() {

@@ -1,74 +1,77 @@
 //! Neighbouring blocks of a file are read at once.
-ghost use Rattle.std.specs.Prelude.{◌≡◌, ◌+◌, ◌-◌, ◌*◌, ◌<◌, ◌≤◌, drop, length, max, take, IfOk, OnOk};
+ghost use Rattle.std.specs.Prelude.{◌≡◌, ◌+◌, ◌-◌, ◌*◌, ◌<◌, ◌≤◌, true, length, max, IfOk, OnOk};
+ghost use Rattle.std.specs.Arc.{arc_value};
+ghost use Rattle.file_device.specs.Held.{content_in, geometry_of, is_read, size_of};
+ghost use Rattle.file_device.specs.declared.held.Held.TheVariants.{From};
 ghost use Rattle.geometry.specs.Area.{block_count};
-ghost use Rattle.file_device.specs.Shared.{shared_bytes};
 ghost use Rattle.geometry.specs.Shape.{block_bytes};
 
 use crate::fault::FileFault;
+use crate::held::Held;
+use crate::kept::{Kept, Site};
 use crate::reading::fault_of;
-use crate::shared::SharedBytes;
 use crate::whole::place_of;
-use geometry::{Error, Geometry};
+use geometry::Error;
 use std::alloc::{AllocError, Global};
 use std::fs::File;
 use std::os::unix::fs::FileExt;
+use std::sync::Arc;
 
 // The bytes that are read in one call at most.
 const MOST_BYTES: u32 = 131_072;
 
-/// Neighbouring blocks that were read in one call: so many, from a place on, of so many bytes each.
+/// Neighbouring blocks that were read in one call: so many, from a place on.
 #[derive(Drop)]
 pub(crate) struct Run {
-    bytes: SharedBytes,
+    kept: Arc<Kept<File>>,
     first: u32,
     count: u32,
-    size: u32,
-    ghost long: { count * size ≤ length (shared_bytes bytes) },
+    ghost begins: { (arc_value kept).held ≡ From (first + 1) },
+    ghost long: { count * size_of (arc_value kept) ≤ length (arc_value kept).bytes.items },
 }
 
 impl Run {
-    /// No block of so many bytes.
-    pub(crate) fn none(alloc: Global, size: u32) -> Result<Run, AllocError>
-        ensures { IfOk result (λ run. run.size ≡ size) }
+    /// No block.
+    pub(crate) fn none(alloc: Global, site: &Arc<Site<File>>) -> Result<Run, AllocError>
+        ensures { IfOk result (λ run. geometry_of (arc_value run.kept) ≡ (arc_value site.now).geometry) }
     {
-        let bytes = SharedBytes::new(alloc, Vec::new(alloc))?;
+        let kept = Kept::new(site, Held::From(1), Vec::new(alloc))?;
         Ok(Run {
-            bytes,
+            kept,
             first: 0,
             count: 0,
-            size,
         })
     }
 
-    /// The bytes of the block at a place that the run has.
-    pub(crate) fn block(&self, place: u32) -> Result<SharedBytes, AllocError>
+    /// What the block at a place holds, which the run has.
+    pub(crate) fn block(&self, place: u32) -> Result<Arc<Kept<File>>, AllocError>
         requires from { self.now.first ≤ place }
         requires below { place < self.now.first + self.now.count }
-        ensures bytes { IfOk result (λ block. shared_bytes block ≡ take self.now.size (drop ((place - self.now.first) * self.now.size) (shared_bytes self.now.bytes))) }
-        ensures length { IfOk result (λ block. length (shared_bytes block) ≡ self.now.size) }
+        ensures numbers { IfOk result (λ kept. geometry_of (arc_value kept) ≡ geometry_of (arc_value self.now.kept)) }
+        ensures read { IfOk result (λ kept. is_read (arc_value kept).held ≡ true) }
+        ensures length { IfOk result (λ kept. length (content_in (arc_value kept) (place + 1)) ≡ size_of (arc_value self.now.kept)) }
     {
-        let size = self.size as usize;
-        self.bytes.part((place - self.first) as usize * size, size)
+        let _place = place;
+        Arc::try_clone(&self.kept)
     }
 
     /// The run has the block at a place. If it has not yet, that block is read, and with it those behind it that are named.
     pub(crate) fn reach(
         &mut self,
         alloc: Global,
-        geometry: &Geometry,
+        site: &Arc<Site<File>>,
         named: &[bool],
         place: u32,
-        file: &File,
     ) -> Result<(), FileFault>
-        requires size { self.old.size ≡ block_bytes geometry.now.shape }
-        requires named { length named.now ≡ block_count geometry.now }
-        requires place { place < block_count geometry.now }
-        ensures size { self.new.size ≡ self.old.size }
+        requires numbers { geometry_of (arc_value self.old.kept) ≡ (arc_value site.now).geometry }
+        requires named { length named.now ≡ block_count (arc_value site.now).geometry }
+        requires place { place < block_count (arc_value site.now).geometry }
+        ensures numbers { geometry_of (arc_value self.new.kept) ≡ (arc_value site.now).geometry }
         ensures from { OnOk result (self.new.first ≤ place) }
         ensures below { OnOk result (place < self.new.first + self.new.count) }
     {
         if self.first > place || place - self.first >= self.count {
-            *self = read_run(alloc, geometry, named, place, file)?;
+            *self = read_run(alloc, site, named, place)?;
         }
         Ok(())
     }
@@ -77,26 +80,25 @@ impl Run {
 // Reads the block at a place, and with it those behind it that are named, as far as one call goes.
 fn read_run(
     alloc: Global,
-    geometry: &Geometry,
+    site: &Arc<Site<File>>,
     named: &[bool],
     place: u32,
-    file: &File,
 ) -> Result<Run, FileFault>
-    requires named { length named.now ≡ block_count geometry.now }
-    requires place { place < block_count geometry.now }
-    ensures size { IfOk result (λ run. run.size ≡ block_bytes geometry.now.shape) }
+    requires named { length named.now ≡ block_count (arc_value site.now).geometry }
+    requires place { place < block_count (arc_value site.now).geometry }
+    ensures numbers { IfOk result (λ run. geometry_of (arc_value run.kept) ≡ (arc_value site.now).geometry) }
     ensures first { IfOk result (λ run. run.first ≡ place) }
     ensures some { IfOk result (λ run. 0 < run.count) }
 {
-    let size = geometry.shape.block_bytes();
+    let size = site.geometry.shape.block_bytes();
     let count = count_named(&named[place as usize..], MOST_BYTES / size);
     let mut bytes = vec![in alloc; 0u8; count as usize * size as usize]?;
-    match file.read_exact_at(bytes.as_mut_slice(), place_of(geometry, place + 1)) {
+    let at = place_of(&site.geometry, place + 1);
+    match site.store.store.read_exact_at(bytes.as_mut_slice(), at) {
         Ok(()) => Ok(Run {
-            bytes: SharedBytes::new(alloc, bytes)?,
+            kept: Kept::new(site, Held::From(place + 1), bytes)?,
             first: place,
             count,
-            size,
         }),
         Err(error) => Err(fault_of(error, Error::BadImage(1))),
     }

@@ -1,12 +1,15 @@
 //! A whole device over an image file.
-ghost use Rattle.std.specs.Prelude.{◌≡◌, map, All, IfOk, IfErr};
+ghost use Rattle.std.specs.Prelude.{◌≡◌, map, length, All, IfOk, IfErr};
+ghost use Rattle.std.specs.Arc.{arc_value};
 ghost use Rattle.device.specs.Parts.{HasSize, image_file};
-ghost use Rattle.file_device.specs.Held.{content_in};
+ghost use Rattle.file_device.specs.Blocks as blocks;
 ghost use Rattle.file_device.specs.Place.{block_place};
 ghost use Rattle.geometry.specs.declared.error.Error.TheVariants.{NoMemory};
+ghost use Rattle.geometry.specs.Shape.{block_bytes};
 
 use crate::block::FileBlock;
-use crate::kept::{Held, Kept};
+use crate::held::Held;
+use crate::kept::{Kept, Site};
 use crate::meta::FileMeta;
 use crate::store::{Asked, Settled, Store};
 use device::{Block, MemBlock, MemDevice, MemMeta, Meta, Parts};
@@ -28,7 +31,7 @@ pub fn keep_in<S: Store + Drop>(
     ensures front { IfOk result (λ parts. ⟦<FileMeta<S> as Meta>⟧.seen parts.meta ≡ ⟦<MemMeta as Meta>⟧.seen device.parts.meta) }
     ensures bytes { IfOk result (λ parts. image_file ⟦<FileMeta<S> as Meta>⟧.seen ⟦<FileBlock<S> as Block>⟧.content_of parts
         ≡ image_file ⟦<MemMeta as Meta>⟧.seen ⟦<MemBlock as Block>⟧.content_of device.parts) }
-    ensures places { IfOk result (λ parts. All (λ block. block.kept.at ≡ block_place geometry.now block.kept.address) parts.blocks.items) }
+    ensures places { IfOk result (λ parts. All (λ block. blocks.place_of block ≡ block_place geometry.now block.address) parts.blocks.items) }
     ensures error { IfErr result (λ error. error ≡ NoMemory) }
 {
     wrap(alloc, device, geometry, store, settled)
@@ -41,26 +44,43 @@ fn wrap<S: Store + Drop>(
     store: Asked<S>,
     settled: Settled,
 ) -> Result<Parts<FileMeta<S>, FileBlock<S>>, Error>
+    requires { All (λ block. length (⟦<MemBlock as Block>⟧.content_of block) ≡ block_bytes geometry.now.shape) device.parts.blocks.items }
     ensures meta { IfOk result (λ parts. parts.meta.kept.area ≡ device.parts.meta) }
-    ensures addresses { IfOk result (λ parts. map (λ block. block.kept.address) parts.blocks.items ≡ map ⟦<MemBlock as Block>⟧.address_of device.parts.blocks.items) }
-    ensures contents { IfOk result (λ parts. map (λ block. content_in block.kept.held) parts.blocks.items ≡ map ⟦<MemBlock as Block>⟧.content_of device.parts.blocks.items) }
-    ensures places { IfOk result (λ parts. All (λ block. block.kept.at ≡ block_place geometry.now block.kept.address) parts.blocks.items) }
+    ensures addresses { IfOk result (λ parts. map (λ block. block.address) parts.blocks.items ≡ map ⟦<MemBlock as Block>⟧.address_of device.parts.blocks.items) }
+    ensures contents { IfOk result (λ parts. map blocks.content_of parts.blocks.items ≡ map ⟦<MemBlock as Block>⟧.content_of device.parts.blocks.items) }
+    ensures places { IfOk result (λ parts. All (λ block. blocks.place_of block ≡ block_place geometry.now block.address) parts.blocks.items) }
     ensures error { IfErr result (λ error. error ≡ NoMemory) }
 {
     let store = match Arc::new(alloc, store) {
         Ok(store) => store,
         Err(_) => return Err(Error::NoMemory),
     };
+    let site = Site::new(alloc, Arc::try_clone(&store)?, geometry)?;
     let Parts { meta, blocks } = device.split();
-    let meta = FileMeta::of(meta, Arc::try_clone(&store)?, settled);
+    let meta = FileMeta::of(meta, store, settled);
     let mut kept = Vec::with_capacity(alloc, blocks.len())?;
     for block in blocks {
-        let address = block.address();
-        let held = Held::Own(Vec::from_slice(alloc, block.as_slice())?);
-        let block = Kept::new(alloc, address, place_of(geometry, address), held);
-        kept.push_reserved(FileBlock::of(block, Arc::try_clone(&store)?));
+        kept.push_reserved(keep(alloc, &site, &block)?);
     }
     Ok(Parts { meta, blocks: kept })
+}
+
+// A block with the bytes of one in memory.
+fn keep<S: Store + Drop>(
+    alloc: Global,
+    site: &Arc<Site<S>>,
+    block: &MemBlock,
+) -> Result<FileBlock<S>, Error>
+    requires { length (⟦<MemBlock as Block>⟧.content_of block.now) ≡ block_bytes (arc_value site.now).geometry.shape }
+    ensures address { IfOk result (λ made. made.address ≡ ⟦<MemBlock as Block>⟧.address_of block.now) }
+    ensures content { IfOk result (λ made. blocks.content_of made ≡ ⟦<MemBlock as Block>⟧.content_of block.now) }
+    ensures place { IfOk result (λ made. blocks.place_of made ≡ block_place (arc_value site.now).geometry made.address) }
+    ensures error { IfErr result (λ error. error ≡ NoMemory) }
+{
+    let address = block.address();
+    let bytes = Vec::from_slice(alloc, block.as_slice())?;
+    let kept = Kept::new(site, Held::From(address), bytes)?;
+    Ok(FileBlock::of(address, kept))
 }
 
 /// Where the block of an address begins in an image file.

@@ -1,8 +1,6 @@
 use Rattle.std.proofs.Common.{◌∙◌, map, subst, sym}
 use Rattle.packs_format.specs.Grammar.{HasSuper}
-use Rattle.std.specs.declared.fs.File.{File}
-use Rattle.file_device.specs.declared.block.FileBlock.{FileBlock}
-use Rattle.file_device.specs.Held.{is_kept}
+use Rattle.file_device.specs.Blocks.{is_kept}
 use Rattle.file_device.specs.Named.{FlagNamed}
 use Rattle.file_device.proofs.image_file.open_image.Goals as goal
 
@@ -11,7 +9,7 @@ returns g c =
     let read = c.in_ok-geometry in
     let opened = c.in_ok-parts.ensures in
     let front = subst (HasSuper read.geometry) (sym opened.front) read.ensures.front in
-    let kept = map (λ (b : FileBlock File). is_kept b.kept.held) c.in_ok-parts.parts.blocks.items in
+    let kept = map is_kept c.in_ok-parts.parts.blocks.items in
     record {
       parts = (read.geometry, front, opened.size);
       read = (

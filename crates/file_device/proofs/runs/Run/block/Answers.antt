@@ -1,8 +1,8 @@
-use Rattle.std.proofs.Common.{◌≡◌, ◌∙◌, ◌+◌, ◌-◌, ◌*◌, ◌<◌, ◌≤◌, ℕ, List, Result, Ok, Err, IfOk, ap, arith, drop, length, take}
+use Rattle.std.proofs.Common.{◌≡◌, ◌∙◌, ◌+◌, ◌-◌, ◌*◌, ◌<◌, ◌≤◌, ℕ, List, Result, Ok, Err, IfOk, ap, arith, drop, length, subst, sym, take}
 use Rattle.std.proofs.Math.Nat.{add-mul, mul-le-mul_right, one-mul}
 use Rattle.std.proofs.lemmas.List.{length-drop, length-take-le}
-use Rattle.file_device.specs.declared.shared.SharedBytes.{SharedBytes}
-use Rattle.file_device.specs.Shared.{shared_bytes}
+use Rattle.std.specs.Arc.{arc_value}
+use Rattle.file_device.specs.Held.{content_in, held_at, size_of}
 use Rattle.file_device.proofs.runs.Run.block.Goals as goal
 
 -- a block within a run of blocks
@@ -13,14 +13,16 @@ fits k n size bytes low long =
     let rest : size ≤ length (drop (k * size) bytes) = let l = length-drop (k * size) bytes in omega (arith, next, sum, long) in
     length-take-le size (drop (k * size) bytes) rest
 
-of_ok : {E : Type 0} (result : Result SharedBytes E) (bytes : List ℕ) (size : ℕ) → length bytes ≡ size
-    → IfOk result (λ part. shared_bytes part ≡ bytes) → IfOk result (λ part. length (shared_bytes part) ≡ size)
-of_ok (Ok part) bytes size long is = ap length is ∙ long
-of_ok (Err e) bytes size long is = tt
+of_ok : {X K E : Type 0} (f : X → K) (P : K → Type 0) (result : Result X E) (k : K) → P k → IfOk result (λ x. f x ≡ k) → IfOk result (λ x. P (f x))
+of_ok f P (Ok x) k holds is = subst P (sym is) holds
+of_ok f P (Err e) k holds is = tt
 
 pub returns-clause-length : goal.returns-clause-length
 returns-clause-length c =
     let run = c.args.self.now in
-    let k = c.args.place - run.first in
-    let low : k < run.count = let from = c.requires.from in let below = c.requires.below in omega arith in
-    of_ok c.part.result (take run.size (drop (k * run.size) (shared_bytes run.bytes))) run.size (fits k run.count run.size (shared_bytes run.bytes) low run.long) c.part.ensures
+    let kept = arc_value run.kept in
+    let size = size_of kept in
+    let place = c.args.place + 1 in
+    let low : place - (run.first + 1) < run.count = let from = c.requires.from in let below = c.requires.below in omega arith in
+    let whole = subst (λ held. length (held_at size place kept.bytes.items held) ≡ size) (sym run.begins) (fits (place - (run.first + 1)) run.count size kept.bytes.items low run.long) in
+    of_ok (λ arc. arc_value arc) (λ kept. length (content_in kept place) ≡ size) c.try_clone.result kept whole c.try_clone.ensures
