@@ -39,6 +39,8 @@ fn new_image<R: AllocGlobal + Wait>(rt: &R, segments: u32) -> Result<Vec<u8>, Fa
     let Ok(geometry) = Geometry::new(Shape::TINY, segments, 1, FILES, NODES) else {
         return Err(Fault::Wrong(format!(in alloc; "no volume has {segments} segments")?));
     };
+    // As the tool makes it.
+    let geometry = geometry.with_packing(Packing::Pages);
     let Ok(device) = MemDevice::new(alloc, &geometry) else {
         return Err(Fault::from(AllocError));
     };
