@@ -4,7 +4,7 @@ use crate::client::{Case, Client};
 use device::MemDevice;
 use disk_service::DiskSettings;
 use file_device::read_device;
-use flash_volume::{Geometry, Leave, Shape, work_on_new};
+use flash_volume::{Geometry, Leave, Packing, Shape, work_on_new};
 use program_trials::{Around, Fault, bytes_of, inside};
 use std::alloc::{AllocError, Global};
 use std::io::Write;
