@@ -4,7 +4,7 @@ use crate::client::{Case, Client};
 use device::MemDevice;
 use disk_service::DiskSettings;
 use file_device::read_device;
-use flash_volume::{Geometry, Leave, Shape, work_on_new};
+use flash_volume::{Geometry, Leave, Packing, Shape, work_on_new};
 use program_trials::{Around, Fault, bytes_of, inside};
 use std::alloc::{AllocError, Global};
 use std::io::Write;
@@ -39,6 +39,8 @@ fn new_image<R: AllocGlobal + Wait>(rt: &R, segments: u32) -> Result<Vec<u8>, Fa
     let Ok(geometry) = Geometry::new(Shape::TINY, segments, 1, FILES, NODES) else {
         return Err(Fault::Wrong(format!(in alloc; "no volume has {segments} segments")?));
     };
+    // As the tool makes it.
+    let geometry = geometry.with_packing(Packing::Pages);
     let Ok(device) = MemDevice::new(alloc, &geometry) else {
         return Err(Fault::from(AllocError));
     };
