@@ -4,7 +4,9 @@ use mathlib.Core.List.{map-append}
 use Rattle.std.specs.declared.fs.File.{File}
 use Rattle.device.specs.Parts.{IsBlockRun}
 use Rattle.device.proofs.BlockRuns.{run_push}
+use Rattle.geometry.specs.Area.{block_count}
 use Rattle.geometry.specs.Shape.{block_bytes}
+use Rattle.file_device.specs.declared.kept.Site.{Site}
 use Rattle.file_device.specs.declared.block.FileBlock.{FileBlock}
 use Rattle.std.specs.Arc.{arc_value}
 use Rattle.file_device.specs.Blocks.{content_of, is_kept}
@@ -21,7 +23,7 @@ loop-place-preserved c =
     let opened = c.in_ok-open_block.ensures in
     let pushed = c.in_ok-push.ensures in
     let is = λ (b : FileBlock File). is_kept b in
-    let low : place < length named = let test = c.loop-place-test.true in let all = c.requires.named in let count = c.blocks-count.ensures in omega arith in
+    let low : place < length named = let test = c.loop-place-test.true in let all = c.requires.named in let count = c.blocks-count.ensures ∙ ap block_count (ap (λ (s : Site File). s.geometry) c.deref.ensures) in omega (arith, test, all, count) in
     let next : suc place ≡ place + 1 = omega arith in
     record {
       run = subst (IsBlockRun _ _ size 1) (sym pushed.items)
