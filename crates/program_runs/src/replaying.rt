@@ -152,11 +152,7 @@ fn work<R: Wait>(
     };
     let around = Around::new(alloc)?;
     let parts = around.put_around(alloc, device)?;
-    let leave = if chance.below(2) == 0 {
-        Leave::Close
-    } else {
-        Leave::Discard
-    };
+    let leave = pick_leave(chance);
     let crowded = chance.below(2) == 0;
     let acts = Acts {
         machine,
@@ -168,12 +164,7 @@ fn work<R: Wait>(
         near: kind.near,
         crowded,
     };
-    // A crowded volume threads whenever it can, so that many holes are filled.
-    let threading = if crowded {
-        Threading::Whenever
-    } else {
-        Threading::WhileReserveIsFull
-    };
+    let threading = threading_of(crowded);
     let visited = match visit_volume(rt, alloc, parts, threading, leave, acts) {
         Ok(visited) => visited,
         Err(_refused) => return Err(Fault::Wrong(String::from_str(alloc, "a mount is refused")?)),
@@ -192,4 +183,21 @@ fn work<R: Wait>(
     };
     machine.hear(around.recorder.take().as_slice())?;
     Ok(bytes_of(alloc, inside(alloc, parts)?)?)
+}
+
+fn pick_leave(chance: &mut Chance) -> Leave {
+    if chance.below(2) == 0 {
+        Leave::Close
+    } else {
+        Leave::Discard
+    }
+}
+
+// A crowded volume threads whenever it can, so that many holes are filled.
+fn threading_of(crowded: bool) -> Threading {
+    if crowded {
+        Threading::Whenever
+    } else {
+        Threading::WhileReserveIsFull
+    }
 }

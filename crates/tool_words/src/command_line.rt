@@ -188,10 +188,7 @@ fn task_of<'a>(command: &str, found: &ArgMatches<'a>) -> Option<Task<'a>> {
         "cp" => copy_of(found, name),
         "cat" => Task::Concatenate,
         "rm" => Task::Remove,
-        "mv" => Task::Rename {
-            name,
-            to: text_of(found, "to"),
-        },
+        "mv" => rename_of(found, name),
         "ls" => Task::List { json },
         "clean" => Task::Clean {
             background: found.get_flag("background"),
@@ -205,9 +202,7 @@ fn task_of<'a>(command: &str, found: &ArgMatches<'a>) -> Option<Task<'a>> {
         "dump" => Task::Dump {
             folder: text_of(found, "folder"),
         },
-        "upgrade" => Task::Upgrade {
-            to: text_of(found, "to"),
-        },
+        "upgrade" => upgrade_of(found),
         "import" => Task::Import {
             folder: text_of(found, "folder"),
         },
@@ -233,6 +228,19 @@ fn copy_of<'a>(found: &ArgMatches<'a>, name: &'a str) -> Task<'a> {
         name,
         to: text_of(found, "to"),
         replaces: !found.get_flag("no-clobber"),
+    }
+}
+
+fn rename_of<'a>(found: &ArgMatches<'a>, name: &'a str) -> Task<'a> {
+    Task::Rename {
+        name,
+        to: text_of(found, "to"),
+    }
+}
+
+fn upgrade_of<'a>(found: &ArgMatches<'a>) -> Task<'a> {
+    Task::Upgrade {
+        to: text_of(found, "to"),
     }
 }
 
