@@ -39,8 +39,8 @@ pub fn lawful_images<R: Threads + Wait + Sync>(
     alloc: Global,
 ) -> Result<[Lawful; 3], Fault> {
     Ok([
-        lawful(alloc, base_file(alloc)?)?,
-        lawful(alloc, file_of_format_one(alloc)?)?,
+        read_lawful(alloc, base_file(alloc)?)?,
+        read_lawful(alloc, file_of_format_one(alloc)?)?,
         deep(rt, alloc, Packing::Slots)?,
     ])
 }
@@ -55,7 +55,7 @@ pub fn lawful_in_pages<R: Threads + Wait + Sync>(
         return Err(Fault::Wrong(String::from_str(alloc, "no image in pages")?));
     };
     Ok([
-        lawful(alloc, paged_file(alloc)?)?,
+        read_lawful(alloc, paged_file(alloc)?)?,
         anew,
         deep(rt, alloc, Packing::Pages)?,
     ])
@@ -68,7 +68,7 @@ fn deep<R: Threads + Wait + Sync>(
 ) -> Result<Lawful, Fault> {
     let mut saved = Vec::new(alloc);
     let _told = play(rt, alloc, packing, DEEP, Some(&mut saved), &OpenGate);
-    lawful(alloc, saved)
+    read_lawful(alloc, saved)
 }
 
 /// The volume of an image file, written anew in format 3. It is refused as by `read_image`.
@@ -80,7 +80,7 @@ pub fn in_pages(alloc: Global, bytes: &[u8]) -> Result<Lawful, ReadFault> {
     Ok(Lawful { geometry, bytes })
 }
 
-fn lawful(alloc: Global, bytes: Vec<u8>) -> Result<Lawful, Fault> {
+fn read_lawful(alloc: Global, bytes: Vec<u8>) -> Result<Lawful, Fault> {
     match read_image(alloc, &mut bytes.as_slice()) {
         Ok((geometry, _)) => Ok(Lawful { geometry, bytes }),
         Err(_) => Err(Fault::Wrong(String::from_str(alloc, "an image is not lawful")?)),
