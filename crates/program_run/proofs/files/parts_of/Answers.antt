@@ -1,6 +1,7 @@
-use Rattle.std.proofs.Common.{◌≡◌, ◌∙◌, ℕ, List, ◌++◌, ap, ap₂, arith, drop, length, subst, sym, take}
+use Rattle.std.proofs.Common.{◌≡◌, ◌≤◌, ◌∙◌, ℕ, List, ◌++◌, ap, ap₂, arith, drop, length, subst, sym, take}
 use Rattle.std.proofs.lemmas.List.{length-take-le, take-append-drop, take-append-le}
-use Rattle.geometry.specs.Area.{meta_bytes}
+use Rattle.geometry.specs.Area.{meta_bytes, pack_bytes}
+use Rattle.geometry.proofs.Areas.{holds_front}
 use Rattle.device.specs.Parts.{IsBlockRun}
 use Rattle.program_run.proofs.Memory.{address, content}
 use Rattle.program_run.proofs.files.parts_of.Goals as goal
@@ -16,13 +17,14 @@ returns-clause-device c =
     let size = c.in_ok-geometry.ensures.held.size in
     let front = take (meta_bytes geometry) file in
     let long : length front ≡ meta_bytes geometry = length-take-le (meta_bytes geometry) file (omega (arith, size)) in
+    let whole : 64 ≤ meta_bytes geometry = holds_front geometry.packing (pack_bytes geometry) in
     let as_long : length c.new-meta.result.bytes.items ≡ length front = ap length area in
     record {
       geometry = geometry;
       front = (
-        omega (arith, as_long, long),
+        omega (arith, as_long, long, whole),
         ap (take 32) area
-            ∙ sym (take-append-le 32 front (drop (meta_bytes geometry) file) (omega (arith, long))) ∙ ap (take 32) (take-append-drop (meta_bytes geometry) file)
+            ∙ sym (take-append-le 32 front (drop (meta_bytes geometry) file) (omega (arith, long, whole))) ∙ ap (take 32) (take-append-drop (meta_bytes geometry) file)
             ∙ c.in_ok-geometry.ensures.geometry.1,
       );
       size = record {
