@@ -1,6 +1,6 @@
 //! Whether an image is sound.
 use crate::fault::Fault;
-use crate::image_run::{ImageFile, read_image};
+use crate::image_run::read_image;
 use crate::json_text::json_of;
 use crate::screen::Screen;
 use flash_volume::{Error, Geometry};
@@ -10,6 +10,7 @@ use std::alloc::Global;
 use std::fs::{File, Files};
 use std::io::Write;
 use std::time::Clock;
+use tool_syntax::ImageFile;
 
 /// What is wrong where an image has one of these faults, from 1 on: they are numbered as the rules of a lawful image.
 const FAULTS: [&str; 10] = [

@@ -1,16 +1,13 @@
 //! What each command does.
 use crate::asking::{ask_to_remove, ask_to_rename};
 use crate::check::check;
-use crate::command_line::{Task, Words};
-use crate::completing::write_completions;
 use crate::fault::Fault;
 use crate::folders::dump;
 use crate::getting::{Wanted, concatenate, get};
-use crate::image_run::{ImageFile, now, open_parts, run};
+use crate::image_run::{now, open_parts, run};
 use crate::importing::import;
 use crate::making::make;
 use crate::making_room::{remove_making_room, rename_making_room};
-use crate::manual::write_manual;
 use crate::map::map;
 use crate::opener::Opener;
 use crate::putting::{PutFile, append, copy, put};
@@ -27,6 +24,7 @@ use std::rt::Runtime;
 use std::sync::Wait;
 use std::thread::Threads;
 use tool_files::{Clean, Remove, Rename};
+use tool_syntax::{ImageFile, Task, Words, write_completions, write_manual};
 
 /// Does what the words ask for, and answers the exit status.
 pub fn obey<

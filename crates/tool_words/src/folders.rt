@@ -1,7 +1,7 @@
 //! Many files at once, into a folder of the system.
 use crate::asking::has_file;
 use crate::fault::Fault;
-use crate::image_run::{ImageFile, open_volume};
+use crate::image_run::open_volume;
 use crate::new_file::{keep_whole, make_new};
 use crate::screen::Screen;
 use crate::shown::Shown;
@@ -12,6 +12,7 @@ use std::io::Write;
 use std::rt::Runtime;
 use tool_folder::{Entry, FOLDER, is_name};
 use tool_reading::{Listing, OpenVolume};
+use tool_syntax::ImageFile;
 
 /// Writes each file of a volume into a folder, which is made where there is none: under its name, or as `file-N` where the folder
 /// of the volume has no name for it that a system takes. Where a file of such a name is there nothing is written. Where one can't be

@@ -1,7 +1,6 @@
 //! The bytes of files, to standard output or to a new file.
-use crate::command_line::Part;
 use crate::fault::Fault;
-use crate::image_run::{ImageFile, open_volume};
+use crate::image_run::open_volume;
 use crate::new_file::{keep_whole, make_new};
 use crate::window::Window;
 use image_reading::{FileSource, ReadFault};
@@ -10,6 +9,7 @@ use std::fs::{File, Files};
 use std::io::Write;
 use std::time::Clock;
 use tool_reading::{OpenVolume, Refusal};
+use tool_syntax::{ImageFile, Part};
 
 /// Which file is got: by name, or where there is none by number.
 #[derive(Clone, Copy)]

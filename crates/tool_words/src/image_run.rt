@@ -13,23 +13,14 @@ use std::sync::Wait;
 use std::time::{Clock, Duration, SystemTime};
 use std::{fs, thread};
 use tool_reading::OpenVolume;
+use tool_syntax::ImageFile;
 
 // How often a second an image file is asked for that another program has open.
 const TRIES: u32 = 20;
 
-/// An image file, and how long it is waited for where another program has it open.
-#[derive(Clone, Copy)]
-pub struct ImageFile<'a> {
-    pub path: &'a str,
-    /// In seconds.
-    pub wait: u32,
-}
-
-impl<'a> ImageFile<'a> {
-    // How often it is asked for before the last time.
-    fn tries(self) -> u32 {
-        self.wait.saturating_mul(TRIES)
-    }
+// How often an image file is asked for before the last time.
+fn tries(image: ImageFile<'_>) -> u32 {
+    image.wait.saturating_mul(TRIES)
 }
 
 /// The parts of the device over an image file, which is locked as long as they are there. Answers Busy where another program had it
@@ -41,7 +32,7 @@ pub fn open_parts<P: Opener, R: AllocGlobal + Clock + Files<File = File>>(
 ) -> Result<Parts<P::Area, P::Part>, Fault>
     ensures run { IfOk result (λ parts. (bytes : ℕ) × IsBlockRun P.Part.address_of P.Part.content_of bytes 1 parts.blocks.items) }
 {
-    for _ in 0..image.tries() {
+    for _ in 0..tries(image) {
         match opener.open(rt, rt.alloc(), image.path) {
             Ok(parts) => return Ok(parts),
             Err(FileFault::Busy) => thread::sleep(rt, pause()),
@@ -103,7 +94,7 @@ fn open_to_read<R: Clock + Files<File = File>>(
     image: ImageFile<'_>,
 ) -> Result<File, Fault> {
     let file = File::open(rt, image.path).map_err(Fault::Image)?;
-    for _ in 0..image.tries() {
+    for _ in 0..tries(image) {
         if file.try_lock_shared().is_ok() {
             return Ok(file);
         }

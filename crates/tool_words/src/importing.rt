@@ -4,7 +4,7 @@ ghost use Rattle.device.specs.Parts.{IsBlockRun};
 
 use crate::asking::ask_to_put;
 use crate::fault::Fault;
-use crate::image_run::{ImageFile, image_length, now, open_parts};
+use crate::image_run::{image_length, now, open_parts};
 use crate::making_room::put_making_room;
 use crate::opener::Opener;
 use crate::putting::read_file;
@@ -22,6 +22,7 @@ use std::{fs, io};
 use tool_files::{NewFile, Put, PutAll};
 use tool_folder::is_name;
 use tool_reading::Refusal;
+use tool_syntax::ImageFile;
 
 /// Puts each ordinary file of a folder of the system under its name, in the order of the names, and tells on `out` which were put.
 /// Each is put whole or not at all. Where one is refused it stops, names it on `errors`, and those before it are there.

@@ -1,7 +1,7 @@
 //! The limits of a volume's numbers.
-use crate::command_line::Numbers;
 use crate::fault::Fault;
 use std::fmt;
+use tool_syntax::Numbers;
 
 /// A number of a volume that is beyond its limits.
 #[derive(Clone, Copy, Debug)]

@@ -1,5 +1,4 @@
 //! A new volume is made.
-use crate::command_line::Numbers;
 use crate::fault::Fault;
 use crate::limits::ask_numbers;
 use crate::opener::Opener;
@@ -9,6 +8,7 @@ use std::fs;
 use std::fs::{File, Files};
 use std::sync::Wait;
 use tool_files::MakeFolder;
+use tool_syntax::Numbers;
 
 /// Makes an image file with a volume without files. Where that fails, no file is left.
 pub fn make<P: Opener, R: AllocGlobal + Wait + Files<File = File>>(

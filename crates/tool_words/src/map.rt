@@ -1,12 +1,9 @@
 //! A picture of the segments: as text, as SVG, or as JSON.
-use crate::draw::{LOGS, Look, draw, look_of};
 use crate::fault::Fault;
-use crate::image_run::{ImageFile, read_image};
+use crate::image_run::read_image;
 use crate::json_text::write_json;
-use crate::moment::written_at;
 use crate::new_file::{keep_whole, make_new};
 use crate::screen::Screen;
-use crate::svg::draw_svg;
 use flash_volume::Geometry;
 use image::Image;
 use serde::Serialize;
@@ -14,6 +11,8 @@ use std::alloc::{AllocError, Global};
 use std::fs::{File, Files};
 use std::io::{BufWriter, Write};
 use std::time::Clock;
+use tool_pictures::{LOGS, Look, draw_svg, draw_text, look_of, written_at};
+use tool_syntax::ImageFile;
 
 /// A segment: what it is at a mount, which log appends to it, how many of its blocks are valid, and when one was last written, in seconds
 /// since 1970, where that is kept.
@@ -48,7 +47,10 @@ pub fn map<R: AllocGlobal + Clock + Files<File = File>, O: Write>(
             let written = write_svg(rt.alloc(), &geometry, &image, file);
             keep_whole(rt, path, written)
         }
-        None => draw(&geometry, &image, screen, out),
+        None => {
+            draw_text(&geometry, &image, screen.colours, out)?;
+            Ok(())
+        }
     }
 }
 

@@ -1,7 +1,7 @@
 //! A file is put, copied, or made longer.
 use crate::asking::{ask_for_room, ask_to_append, ask_to_put};
 use crate::fault::Fault;
-use crate::image_run::{ImageFile, image_length, now, open_parts, open_volume};
+use crate::image_run::{image_length, now, open_parts, open_volume};
 use crate::making_room::{append_making_room, put_making_room};
 use crate::opener::Opener;
 use flash_volume::Error;
@@ -14,6 +14,7 @@ use std::time::Clock;
 use tool_files::{Append, Put};
 use tool_folder::is_name;
 use tool_reading::Refusal;
+use tool_syntax::ImageFile;
 
 /// A file that was put: its number, and how many bytes it has.
 #[derive(Clone, Copy)]

@@ -1,6 +1,6 @@
 //! The room of a volume, as `df` tells that of a disk.
 use crate::fault::Fault;
-use crate::image_run::{ImageFile, read_image};
+use crate::image_run::read_image;
 use crate::json_text::write_json;
 use crate::shown::Shown;
 use flash_volume::{Geometry, usable_blocks};
@@ -12,6 +12,7 @@ use std::io::Write;
 use std::time::Clock;
 use tool_files::kept_for_folder;
 use tool_folder::FOLDER;
+use tool_syntax::ImageFile;
 
 /// The room of a volume in bytes.
 #[derive(Clone, Copy, Drop, Serialize)]

@@ -1,5 +1,4 @@
 //! The words are read and obeyed.
-use crate::command_line::{Words, read_words};
 use crate::commands::obey;
 use crate::fault::Fault;
 use crate::opener::Opener;
@@ -11,6 +10,7 @@ use std::rt::Runtime;
 use std::sync::Wait;
 use std::thread::Threads;
 use std::{env, io};
+use tool_syntax::{Words, read_words};
 
 // The exit status where the words are refused.
 const MISUSED: u8 = 2;

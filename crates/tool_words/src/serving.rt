@@ -1,7 +1,6 @@
 //! A disk of the volume is served to a client, over the standard streams.
-use crate::command_line::ServeWords;
 use crate::fault::Fault;
-use crate::image_run::{ImageFile, now, open_parts};
+use crate::image_run::{now, open_parts};
 use crate::json_text::write_json;
 use crate::new_file::{keep_whole, make_new};
 use crate::opener::Opener;
@@ -15,6 +14,7 @@ use std::rt::Runtime;
 use std::sync::Wait;
 use std::thread::Threads;
 use tool_disk::{DiskOptions, Served, serve_disk};
+use tool_syntax::{ImageFile, ServeWords};
 
 /// What a served disk has done.
 #[derive(Clone, Copy, Drop, Serialize)]

@@ -1,7 +1,7 @@
 //! What a volume has, in numbers.
 use crate::asking::has_file;
 use crate::fault::Fault;
-use crate::image_run::{ImageFile, open_volume, read_image};
+use crate::image_run::{open_volume, read_image};
 use crate::json_text::write_json;
 use crate::room::{bytes_of, room_of};
 use crate::shown::Shown;
@@ -14,6 +14,7 @@ use std::io::Write;
 use std::time::Clock;
 use tool_folder::{Entry, FOLDER};
 use tool_reading::Listing;
+use tool_syntax::ImageFile;
 use unicode_width::UnicodeWidthStr;
 
 /// The numbers of a volume.

@@ -1,12 +1,13 @@
 //! A volume of any format is written anew in format 3.
 use crate::fault::Fault;
-use crate::image_run::{ImageFile, open_volume};
+use crate::image_run::open_volume;
 use crate::new_file::NewFile;
 use flash_volume::Geometry;
 use image_upgrade::upgrade;
 use std::fs::{File, Files};
 use std::time::Clock;
 use tool_reading::OpenVolume;
+use tool_syntax::ImageFile;
 
 /// Writes the volume of an image file, which is not changed, into a new image file of format 3, and answers the new volume's numbers.
 /// That file gets its name once all of it is settled: where anything fails, or the program ends before, no file has the name.

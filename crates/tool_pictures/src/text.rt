@@ -1,9 +1,8 @@
 //! A picture of the segments, in text.
-use crate::fault::Fault;
 use crate::moment::Ages;
-use crate::screen::Screen;
-use flash_volume::Geometry;
+use geometry::Geometry;
 use image::{Image, SegmentInfo};
+use std::io;
 use std::io::Write;
 
 /// The names of the logs, in their order.
@@ -50,12 +49,12 @@ pub fn look_of(image: &Image, segment: u32) -> Look {
 
 /// Draws a sign for each segment: how full it is, in the colour of its log where one is open; then a legend, and when the oldest and the
 /// youngest segment with valid blocks were written, where a time is kept.
-pub fn draw<O: Write>(
+pub fn draw_text<O: Write>(
     geometry: &Geometry,
     image: &Image,
-    screen: Screen,
+    colours: bool,
     out: &mut O,
-) -> Result<(), Fault> {
+) -> io::Result<()> {
     let blocks = geometry.shape.segment_blocks();
     let mut segment = 0u32;
     for info in &image.sit {
@@ -65,26 +64,26 @@ pub fn draw<O: Write>(
             }
             write!(out, "{segment:>6}  ")?;
         }
-        draw_segment(look_of(image, segment), info, blocks, screen, out)?;
+        draw_segment(look_of(image, segment), info, blocks, colours, out)?;
         segment = segment.saturating_add(1);
     }
     writeln!(out)?;
-    draw_legend(geometry, image, screen, out)
+    draw_legend(geometry, image, colours, out)
 }
 
 fn draw_segment<O: Write>(
     look: Look,
     info: &SegmentInfo,
     blocks: u32,
-    screen: Screen,
+    colours: bool,
     out: &mut O,
-) -> Result<(), Fault> {
+) -> io::Result<()> {
     let bar = match look {
         Look::Free => "·",
         _ => bar_of(info.count, blocks),
     };
     match look {
-        Look::Open(log) if screen.colours => {
+        Look::Open(log) if colours => {
             let colour = COLOURS[log.min(5)];
             write!(out, "\u{1b}[38;5;{colour}m{bar}\u{1b}[0m")?;
         }
@@ -103,9 +102,9 @@ fn bar_of(count: u32, blocks: u32) -> &'static str {
 fn draw_legend<O: Write>(
     geometry: &Geometry,
     image: &Image,
-    screen: Screen,
+    colours: bool,
     out: &mut O,
-) -> Result<(), Fault> {
+) -> io::Result<()> {
     let blocks = geometry.shape.segment_blocks();
     writeln!(
         out,
@@ -114,7 +113,7 @@ fn draw_legend<O: Write>(
     let mut number = 0usize;
     for log in &image.logs {
         let name = LOGS[number.min(5)];
-        if screen.colours {
+        if colours {
             write!(out, "  \u{1b}[38;5;{}m█\u{1b}[0m  ", COLOURS[number.min(5)])?;
         } else {
             write!(out, "  {number}  ")?;

@@ -1,10 +1,10 @@
 //! What explains a picture of the segments: a scale, and the colours.
-use crate::draw::LOGS;
-use crate::fault::Fault;
 use crate::moment::Ages;
 use crate::svg::{AGES, draw_box};
-use flash_volume::Geometry;
+use crate::text::LOGS;
+use geometry::Geometry;
 use image::Image;
+use std::io;
 use std::io::Write;
 
 /// The height of the legend, in pixels.
@@ -25,7 +25,7 @@ pub fn draw_scale<O: Write>(
     height: u32,
     geometry: &Geometry,
     out: &mut O,
-) -> Result<(), Fault> {
+) -> io::Result<()> {
     let blocks = geometry.shape.segment_blocks();
     for (down, count) in [(0, blocks), (height / 2, blocks / 2), (height, 0)] {
         let at = y.saturating_add(down);
@@ -48,7 +48,7 @@ pub fn draw_legend<O: Write>(
     image: &Image,
     ages: Option<Ages>,
     out: &mut O,
-) -> Result<(), Fault> {
+) -> io::Result<()> {
     let mut y = y.saturating_add(LINE);
     draw_logs(x, y, image, out)?;
     y = y.saturating_add(2 * LINE);
@@ -74,7 +74,7 @@ pub fn draw_legend<O: Write>(
 }
 
 // The logs, each with the segment to which it appends.
-fn draw_logs<O: Write>(x: u32, y: u32, image: &Image, out: &mut O) -> Result<(), Fault> {
+fn draw_logs<O: Write>(x: u32, y: u32, image: &Image, out: &mut O) -> io::Result<()> {
     let mut number = 0u32;
     for (log, name) in image.logs.iter().zip(LOGS) {
         let x = x.saturating_add(number % 3 * COLUMN);
@@ -100,7 +100,7 @@ fn draw_logs<O: Write>(x: u32, y: u32, image: &Image, out: &mut O) -> Result<(),
 }
 
 // The colours of sealed segments, from the oldest to the youngest.
-fn draw_ages<O: Write>(x: u32, y: u32, ages: Option<Ages>, out: &mut O) -> Result<(), Fault> {
+fn draw_ages<O: Write>(x: u32, y: u32, ages: Option<Ages>, out: &mut O) -> io::Result<()> {
     let mut at = x;
     for age in 0..AGES {
         write!(out, "<g class=\"age{age}\">")?;
@@ -127,7 +127,7 @@ fn draw_key<O: Write>(
     full: u32,
     name: &str,
     out: &mut O,
-) -> Result<(), Fault> {
+) -> io::Result<()> {
     write!(out, "<g class=\"{class}\">")?;
     draw_box(x, y.saturating_sub(KEY - 1), KEY, KEY, full, out)?;
     writeln!(

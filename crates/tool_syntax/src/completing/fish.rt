@@ -2,13 +2,13 @@
 use super::{
     HELP, VERSION, has_choices, quoted, takes_path, word_of, write_choices, write_commands,
 };
-use crate::fault::Fault;
+use crate::fault::Unwritten;
 use clap::{Arg, Command};
 use std::alloc::Global;
 use std::io::Write;
 
 /// Writes a line for each command, option and named value.
-pub fn write<O: Write>(alloc: Global, program: &Command<'_>, out: &mut O) -> Result<(), Fault> {
+pub fn write<O: Write>(alloc: Global, program: &Command<'_>, out: &mut O) -> Result<(), Unwritten> {
     writeln!(
         out,
         "# Completions of rusziveg for fish: rusziveg completions fish"
@@ -45,7 +45,7 @@ pub fn write<O: Write>(alloc: Global, program: &Command<'_>, out: &mut O) -> Res
 }
 
 // Writes the words of a command that are no options where they are named, or that it has none.
-fn write_words<O: Write>(command: &Command<'_>, out: &mut O) -> Result<(), Fault> {
+fn write_words<O: Write>(command: &Command<'_>, out: &mut O) -> Result<(), Unwritten> {
     let word = word_of(command);
     if word.is_some_and(|argument| !has_choices(argument)) {
         return Ok(());
@@ -70,7 +70,7 @@ fn write_options<O: Write>(
     command: &str,
     arguments: &[Arg<'_>],
     out: &mut O,
-) -> Result<(), Fault> {
+) -> Result<(), Unwritten> {
     for argument in arguments {
         let Some(long) = argument.get_long() else {
             continue;

@@ -1,11 +1,18 @@
 //! The words that the program is called with.
 mod syntax;
 
-use crate::image_run::ImageFile;
 use clap::{ArgMatches, Error};
 use std::alloc::Global;
 use std::convert::AsStr;
 pub use syntax::program;
+
+/// An image file, and how long it is waited for where another program has it open.
+#[derive(Clone, Copy)]
+pub struct ImageFile<'a> {
+    pub path: &'a str,
+    /// In seconds.
+    pub wait: u32,
+}
 
 /// What the program is to do with an image file.
 #[derive(Drop)]

@@ -1,10 +1,10 @@
 //! A picture of the segments, as SVG.
-use crate::draw::{LOGS, Look, look_of};
-use crate::fault::Fault;
 use crate::moment::{Ages, written_at};
 use crate::svg_legend::{LEGEND, draw_legend, draw_scale};
-use flash_volume::Geometry;
+use crate::text::{LOGS, Look, look_of};
+use geometry::Geometry;
 use image::{Image, SegmentInfo};
+use std::io;
 use std::io::Write;
 
 // So many segments stand side by side.
@@ -47,7 +47,7 @@ const STYLE: &str = "<style>
 
 /// Draws a box for each segment, filled as far as its blocks are valid: in the colour of its log where one appends to it, and by its age
 /// where it is sealed. The numbers of the segments stand at the lines and columns; a box tells its own where the pointer rests on it.
-pub fn draw_svg<O: Write>(geometry: &Geometry, image: &Image, out: &mut O) -> Result<(), Fault> {
+pub fn draw_svg<O: Write>(geometry: &Geometry, image: &Image, out: &mut O) -> io::Result<()> {
     let lines = geometry.segments.div_ceil(COLUMNS);
     let bottom = lines.saturating_mul(HEIGHT).saturating_add(TOP);
     writeln!(
@@ -74,7 +74,7 @@ pub fn draw_svg<O: Write>(geometry: &Geometry, image: &Image, out: &mut O) -> Re
 }
 
 // Writes the number of the first segment of each line in front of it, and above the columns how many come before.
-fn draw_numbers<O: Write>(lines: u32, out: &mut O) -> Result<(), Fault> {
+fn draw_numbers<O: Write>(lines: u32, out: &mut O) -> io::Result<()> {
     for line in 0..lines {
         let y = line
             .saturating_mul(HEIGHT)
@@ -105,7 +105,7 @@ fn draw_segment<O: Write>(
     blocks: u32,
     ages: Option<Ages>,
     out: &mut O,
-) -> Result<(), Fault> {
+) -> io::Result<()> {
     let x = LEFT + segment % COLUMNS * WIDTH;
     let y = (segment / COLUMNS)
         .saturating_mul(HEIGHT)
@@ -137,7 +137,7 @@ pub fn draw_box<O: Write>(
     height: u32,
     full: u32,
     out: &mut O,
-) -> Result<(), Fault> {
+) -> io::Result<()> {
     write!(
         out,
         "<rect class=\"box\" x=\"{x}\" y=\"{y}\" width=\"{width}\" height=\"{height}\"/>"
@@ -158,7 +158,7 @@ fn write_class<O: Write>(
     info: &SegmentInfo,
     ages: Option<Ages>,
     out: &mut O,
-) -> Result<(), Fault> {
+) -> io::Result<()> {
     match (look, ages) {
         (Look::Free, _) => write!(out, "free")?,
         (Look::Open(log), _) => write!(out, "open log{}", log.min(5))?,

@@ -1,11 +1,11 @@
 //! What bash reads.
 use super::{has_choices, write_choices, write_commands};
-use crate::fault::Fault;
+use crate::fault::Unwritten;
 use clap::{Arg, Command};
 use std::io::Write;
 
 /// Writes a function, and that bash calls it.
-pub fn write<O: Write>(program: &Command<'_>, out: &mut O) -> Result<(), Fault> {
+pub fn write<O: Write>(program: &Command<'_>, out: &mut O) -> Result<(), Unwritten> {
     writeln!(
         out,
         "# Completions of rusziveg for bash: rusziveg completions bash"
@@ -41,7 +41,7 @@ pub fn write<O: Write>(program: &Command<'_>, out: &mut O) -> Result<(), Fault> 
 }
 
 // Writes the words that may follow an option of a command, or the command.
-fn write_word_choices<O: Write>(command: &Command<'_>, out: &mut O) -> Result<(), Fault> {
+fn write_word_choices<O: Write>(command: &Command<'_>, out: &mut O) -> Result<(), Unwritten> {
     for argument in command.get_arguments() {
         if has_choices(argument) {
             match argument.get_long() {
@@ -57,7 +57,7 @@ fn write_word_choices<O: Write>(command: &Command<'_>, out: &mut O) -> Result<()
 }
 
 // What follows the words of the commands.
-fn write_end<O: Write>(out: &mut O) -> Result<(), Fault> {
+fn write_end<O: Write>(out: &mut O) -> Result<(), Unwritten> {
     for line in [
         "    if [[ $word == -* ]]; then",
         "        COMPREPLY=($(compgen -W \"$options\" -- \"$word\"))",
@@ -75,7 +75,7 @@ fn write_end<O: Write>(out: &mut O) -> Result<(), Fault> {
 }
 
 // Writes the long words of options, each with a blank behind it.
-fn write_options<O: Write>(arguments: &[Arg<'_>], out: &mut O) -> Result<(), Fault> {
+fn write_options<O: Write>(arguments: &[Arg<'_>], out: &mut O) -> Result<(), Unwritten> {
     for argument in arguments {
         if let Some(long) = argument.get_long() {
             write!(out, "--{long} ")?;

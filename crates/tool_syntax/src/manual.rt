@@ -1,11 +1,11 @@
 //! The manual page, made from the program's own words.
 use crate::command_line::program;
-use crate::fault::Fault;
+use crate::fault::Unwritten;
 use std::alloc::Global;
 use std::io::Write;
 
 /// Writes the manual page: the help of the program and of each of its commands, as `man` reads it.
-pub fn write_manual<O: Write>(alloc: Global, out: &mut O) -> Result<(), Fault> {
+pub fn write_manual<O: Write>(alloc: Global, out: &mut O) -> Result<(), Unwritten> {
     let program = program(alloc)?;
     let version = program.get_version().unwrap_or("");
     let about = program.get_about().unwrap_or("");
@@ -27,7 +27,7 @@ pub fn write_manual<O: Write>(alloc: Global, out: &mut O) -> Result<(), Fault> {
 }
 
 // Writes the help that these words ask for, line by line.
-fn write_help<O: Write>(alloc: Global, words: &[&str], out: &mut O) -> Result<(), Fault> {
+fn write_help<O: Write>(alloc: Global, words: &[&str], out: &mut O) -> Result<(), Unwritten> {
     let help = match program(alloc)?.try_get_matches_from(words) {
         Ok(_) => return Ok(()),
         Err(error) => format!(in alloc; "{error}")?,

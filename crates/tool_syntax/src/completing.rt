@@ -4,7 +4,7 @@ mod fish;
 mod zsh;
 
 use crate::command_line::program;
-use crate::fault::Fault;
+use crate::fault::Unwritten;
 use clap::builder::ValueParser;
 use clap::{Arg, Command};
 use std::alloc::{AllocError, Global};
@@ -16,7 +16,11 @@ const HELP: &str = "Prints help";
 const VERSION: &str = "Prints the version";
 
 /// Writes what a shell reads to complete the program's words: for `bash`, `zsh` or `fish`.
-pub fn write_completions<O: Write>(alloc: Global, shell: &str, out: &mut O) -> Result<(), Fault> {
+pub fn write_completions<O: Write>(
+    alloc: Global,
+    shell: &str,
+    out: &mut O,
+) -> Result<(), Unwritten> {
     let program = program(alloc)?;
     match shell {
         "bash" => bash::write(&program, out),
@@ -34,7 +38,7 @@ fn word_of<'c, 'a>(command: &'c Command<'a>) -> Option<&'c Arg<'a>> {
 }
 
 // Writes the names of the commands, with blanks between them.
-fn write_commands<O: Write>(program: &Command<'_>, out: &mut O) -> Result<(), Fault> {
+fn write_commands<O: Write>(program: &Command<'_>, out: &mut O) -> Result<(), Unwritten> {
     let mut blank = "";
     for command in program.get_subcommands() {
         write!(out, "{blank}{}", command.get_name())?;
@@ -55,7 +59,7 @@ fn takes_path(argument: &Arg<'_>) -> bool {
 }
 
 // Writes the words that an option may have as its value, where they are named.
-fn write_choices<O: Write>(argument: &Arg<'_>, out: &mut O) -> Result<(), Fault> {
+fn write_choices<O: Write>(argument: &Arg<'_>, out: &mut O) -> Result<(), Unwritten> {
     if let ValueParser::Names(names) = argument.get_value_parser() {
         let mut blank = "";
         for name in names {

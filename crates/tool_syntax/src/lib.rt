@@ -1,0 +1,13 @@
+//! The words of the tool `rusziveg`: which commands and options there are, what they ask for, and what is told of them: help,
+//! completions for shells, and the manual page.
+#![tactic(auto)]
+
+mod command_line;
+mod completing;
+mod fault;
+mod manual;
+
+pub use command_line::{ImageFile, Numbers, Part, ServeWords, Task, Words, read_words};
+pub use completing::write_completions;
+pub use fault::Unwritten;
+pub use manual::write_manual;
