@@ -37,82 +37,62 @@ pub fn program<'a>(alloc: Global) -> Result<Command<'a>, AllocError> {
         )
         .subcommand_required(true)
         .arg(quiet)?
-        .arg(wait)?
-        .subcommand(format_command(alloc)?)?;
-    let program = with_file_commands(alloc, program)?;
-    let program = with_volume_commands(alloc, program)?;
-    let program = with_folder_commands(alloc, program)?;
-    with_own_commands(alloc, program)
+        .arg(wait)?;
+    let program = with(Ok(program), format_command(alloc));
+    let program = with_file_commands(alloc, program);
+    let program = with_volume_commands(alloc, program);
+    let program = with_folder_commands(alloc, program);
+    with_own_commands(alloc, program?)
+}
+
+// A program, or why there is none for want of memory.
+type Made<'a> = Result<Command<'a>, AllocError>;
+
+// Adds a command.
+fn with<'a>(program: Made<'a>, command: Made<'a>) -> Made<'a> {
+    program?.subcommand(command?)
 }
 
 // The commands on files of the volume, and on their list.
-fn with_file_commands<'a>(alloc: Global, program: Command<'a>) -> Result<Command<'a>, AllocError> {
-    program
-        .subcommand(put_command(alloc)?)?
-        .subcommand(append_command(alloc)?)?
-        .subcommand(get_command(alloc)?)?
-        .subcommand(on_names(
-            alloc,
-            "cat",
-            "Writes the bytes of files to standard output, one after the other",
-        )?)?
-        .subcommand(on_names(alloc, "rm", "Removes files")?)?
-        .subcommand(rename_command(alloc)?)?
-        .subcommand(copy_command(alloc)?)?
-        .subcommand(on_image(alloc, "ls", "Lists the files, by name and by number")?.arg(json(
-            alloc,
-        ))?)
+fn with_file_commands<'a>(alloc: Global, program: Made<'a>) -> Made<'a> {
+    let cat = "Writes the bytes of files to standard output, one after the other";
+    let program = with(program, put_command(alloc));
+    let program = with(program, append_command(alloc));
+    let program = with(program, get_command(alloc));
+    let program = with(program, on_names(alloc, "cat", cat));
+    let program = with(program, on_names(alloc, "rm", "Removes files"));
+    let program = with(program, rename_command(alloc));
+    let program = with(program, copy_command(alloc));
+    let list = "Lists the files, by name and by number";
+    with(program, told(alloc, "ls", list))
 }
 
 // The commands on the whole volume.
-fn with_volume_commands<'a>(
-    alloc: Global,
-    program: Command<'a>,
-) -> Result<Command<'a>, AllocError> {
-    let background = flag(
-        alloc,
-        "background",
-        "Chooses by cost and benefit, for one section that is not urgent",
-    );
+fn with_volume_commands<'a>(alloc: Global, program: Made<'a>) -> Made<'a> {
     let check = "Tells whether the image is sound, or its exact fault";
     let stat = "Tells the numbers of the volume";
     let room =
         "Tells how many bytes can be used, are used and are free, and how many are kept for cleaning";
-    let clean = on_image(
-        alloc,
-        "clean",
-        "Cleans sections, so that their segments come free",
-    )?;
-    program
-        .subcommand(clean.arg(background)?)?
-        .subcommand(on_image(alloc, "check", check)?.arg(json(alloc))?)?
-        .subcommand(on_image(alloc, "stat", stat)?.arg(json(alloc))?)?
-        .subcommand(on_image(alloc, "df", room)?.arg(json(alloc))?)?
-        .subcommand(map_command(alloc)?)?
-        .subcommand(upgrade_command(alloc)?)?
-        .subcommand(serve_command(alloc)?)
+    let program = with(program, clean_command(alloc));
+    let program = with(program, told(alloc, "check", check));
+    let program = with(program, told(alloc, "stat", stat));
+    let program = with(program, told(alloc, "df", room));
+    let program = with(program, map_command(alloc));
+    let program = with(program, upgrade_command(alloc));
+    with(program, serve_command(alloc))
 }
 
 // The commands that copy a folder of the system.
-fn with_folder_commands<'a>(
-    alloc: Global,
-    program: Command<'a>,
-) -> Result<Command<'a>, AllocError> {
-    program
-        .subcommand(foldered(
-            alloc,
-            "dump",
-            "Writes each file into FOLDER, under its name or number",
-        )?)?
-        .subcommand(foldered(
-            alloc,
-            "import",
-            "Puts each ordinary file of FOLDER under its name; folders in it, links and pipes are left out, with status 1",
-        )?)
+fn with_folder_commands<'a>(alloc: Global, program: Made<'a>) -> Made<'a> {
+    let dump = "Writes each file into FOLDER, under its name or number";
+    let import =
+        "Puts each ordinary file of FOLDER under its name; folders in it, links and pipes are left out, with status 1";
+    let program = with(program, foldered(alloc, "dump", dump));
+    with(program, foldered(alloc, "import", import))
 }
 
 // The commands that tell of the program itself.
-fn with_own_commands<'a>(alloc: Global, program: Command<'a>) -> Result<Command<'a>, AllocError> {
+fn with_own_commands<'a>(alloc: Global, program: Command<'a>) -> Made<'a> {
     let shell = Arg::new(alloc, "shell")
         .value_name("SHELL")
         .help("The shell that is to complete the program's words")
@@ -125,7 +105,7 @@ fn with_own_commands<'a>(alloc: Global, program: Command<'a>) -> Result<Command<
     program.subcommand(completions)?.subcommand(manual)
 }
 
-fn on_image<'a>(alloc: Global, name: &'a str, about: &'a str) -> Result<Command<'a>, AllocError> {
+fn on_image<'a>(alloc: Global, name: &'a str, about: &'a str) -> Made<'a> {
     let image = Arg::new(alloc, "image")
         .value_name("IMAGE")
         .help("The image file")
@@ -133,7 +113,22 @@ fn on_image<'a>(alloc: Global, name: &'a str, about: &'a str) -> Result<Command<
     Command::new(alloc, name).about(about).arg(image)
 }
 
-fn on_names<'a>(alloc: Global, name: &'a str, about: &'a str) -> Result<Command<'a>, AllocError> {
+// A command that tells of the volume, in JSON where that is asked for.
+fn told<'a>(alloc: Global, name: &'a str, about: &'a str) -> Made<'a> {
+    on_image(alloc, name, about)?.arg(json(alloc))
+}
+
+fn clean_command<'a>(alloc: Global) -> Made<'a> {
+    let background = flag(
+        alloc,
+        "background",
+        "Chooses by cost and benefit, for one section that is not urgent",
+    );
+    let about = "Cleans sections, so that their segments come free";
+    on_image(alloc, "clean", about)?.arg(background)
+}
+
+fn on_names<'a>(alloc: Global, name: &'a str, about: &'a str) -> Made<'a> {
     let names = Arg::new(alloc, "names")
         .value_name("NAME")
         .help("The files' names on the volume")
@@ -142,7 +137,7 @@ fn on_names<'a>(alloc: Global, name: &'a str, about: &'a str) -> Result<Command<
     on_image(alloc, name, about)?.arg(names)
 }
 
-fn foldered<'a>(alloc: Global, name: &'a str, about: &'a str) -> Result<Command<'a>, AllocError> {
+fn foldered<'a>(alloc: Global, name: &'a str, about: &'a str) -> Made<'a> {
     let folder = Arg::new(alloc, "folder")
         .value_name("FOLDER")
         .help("A folder of the system")
@@ -175,7 +170,7 @@ fn no_clobber<'a>(alloc: Global) -> Arg<'a> {
     )
 }
 
-fn put_command<'a>(alloc: Global) -> Result<Command<'a>, AllocError> {
+fn put_command<'a>(alloc: Global) -> Made<'a> {
     on_image(
         alloc,
         "put",
@@ -186,7 +181,7 @@ fn put_command<'a>(alloc: Global) -> Result<Command<'a>, AllocError> {
     .arg(no_clobber(alloc))
 }
 
-fn append_command<'a>(alloc: Global) -> Result<Command<'a>, AllocError> {
+fn append_command<'a>(alloc: Global) -> Made<'a> {
     on_image(
         alloc,
         "append",
@@ -202,7 +197,7 @@ fn read_file<'a>(alloc: Global) -> Arg<'a> {
         .help("A file of the system, read in place of standard input")
 }
 
-fn get_command<'a>(alloc: Global) -> Result<Command<'a>, AllocError> {
+fn get_command<'a>(alloc: Global) -> Made<'a> {
     let file = Arg::new(alloc, "file").value_name("FILE").help(
         "A new file of the system, written in place of standard output",
     );
@@ -240,7 +235,7 @@ fn number_option<'a>(alloc: Global, name: &'a str, value: &'a str, help: &'a str
         .value_parser(value_parser!(u64))
 }
 
-fn rename_command<'a>(alloc: Global) -> Result<Command<'a>, AllocError> {
+fn rename_command<'a>(alloc: Global) -> Made<'a> {
     let to = Arg::new(alloc, "to")
         .value_name("NEW")
         .help("Its new name, which no file has")
@@ -250,7 +245,7 @@ fn rename_command<'a>(alloc: Global) -> Result<Command<'a>, AllocError> {
         .arg(to)
 }
 
-fn copy_command<'a>(alloc: Global) -> Result<Command<'a>, AllocError> {
+fn copy_command<'a>(alloc: Global) -> Made<'a> {
     let to = Arg::new(alloc, "to")
         .value_name("NEW")
         .help("The copy's name")
@@ -265,7 +260,7 @@ fn copy_command<'a>(alloc: Global) -> Result<Command<'a>, AllocError> {
     .arg(no_clobber(alloc))
 }
 
-fn map_command<'a>(alloc: Global) -> Result<Command<'a>, AllocError> {
+fn map_command<'a>(alloc: Global) -> Made<'a> {
     let svg = Arg::new(alloc, "svg")
         .long("svg")
         .value_name("FILE")
@@ -279,7 +274,7 @@ fn map_command<'a>(alloc: Global) -> Result<Command<'a>, AllocError> {
     .arg(json(alloc))
 }
 
-fn upgrade_command<'a>(alloc: Global) -> Result<Command<'a>, AllocError> {
+fn upgrade_command<'a>(alloc: Global) -> Made<'a> {
     let to = Arg::new(alloc, "to")
         .value_name("NEW")
         .help("The new image file, which is not there")
@@ -289,7 +284,7 @@ fn upgrade_command<'a>(alloc: Global) -> Result<Command<'a>, AllocError> {
     on_image(alloc, "upgrade", about)?.arg(to)
 }
 
-fn serve_command<'a>(alloc: Global) -> Result<Command<'a>, AllocError> {
+fn serve_command<'a>(alloc: Global) -> Made<'a> {
     let disk = Arg::new(alloc, "disk")
         .long("disk")
         .value_name("NAME")
@@ -340,7 +335,7 @@ fn flush_option<'a>(alloc: Global) -> Arg<'a> {
         .default_value("5")
 }
 
-fn format_command<'a>(alloc: Global) -> Result<Command<'a>, AllocError> {
+fn format_command<'a>(alloc: Global) -> Made<'a> {
     let shape = Arg::new(alloc, "shape")
         .long("shape")
         .value_name("SHAPE")

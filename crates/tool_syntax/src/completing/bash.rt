@@ -6,6 +6,18 @@ use std::io::Write;
 
 /// Writes a function, and that bash calls it.
 pub fn write<O: Write>(program: &Command<'_>, out: &mut O) -> Result<(), Unwritten> {
+    write_start(program, out)?;
+    write_command_options(program, out)?;
+    writeln!(out, "    case ${{COMP_WORDS[COMP_CWORD-1]}} in")?;
+    for command in program.get_subcommands() {
+        write_word_choices(command, out)?;
+    }
+    writeln!(out, "    esac")?;
+    write_end(out)
+}
+
+// Writes what comes in front of a command: the commands, and the options of the program.
+fn write_start<O: Write>(program: &Command<'_>, out: &mut O) -> Result<(), Unwritten> {
     writeln!(
         out,
         "# Completions of rusziveg for bash: rusziveg completions bash"
@@ -18,6 +30,11 @@ pub fn write<O: Write>(program: &Command<'_>, out: &mut O) -> Result<(), Unwritt
     write!(out, "    options='")?;
     write_options(program.get_arguments(), out)?;
     writeln!(out, "--help --version'")?;
+    Ok(())
+}
+
+// Writes which options there are behind each command.
+fn write_command_options<O: Write>(program: &Command<'_>, out: &mut O) -> Result<(), Unwritten> {
     writeln!(out, "    for ((i = 1; i < COMP_CWORD; i++)); do")?;
     writeln!(out, "        case ${{COMP_WORDS[i]}} in")?;
     for command in program.get_subcommands() {
@@ -32,12 +49,7 @@ pub fn write<O: Write>(program: &Command<'_>, out: &mut O) -> Result<(), Unwritt
     }
     writeln!(out, "        esac")?;
     writeln!(out, "    done")?;
-    writeln!(out, "    case ${{COMP_WORDS[COMP_CWORD-1]}} in")?;
-    for command in program.get_subcommands() {
-        write_word_choices(command, out)?;
-    }
-    writeln!(out, "    esac")?;
-    write_end(out)
+    Ok(())
 }
 
 // Writes the words that may follow an option of a command, or the command.
