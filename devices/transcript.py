@@ -24,14 +24,14 @@ def words_of(line):
 
 
 def blocks_of(steps, told):
-    """What is wanted of each step: the lines below it, up to the next step."""
+    """What is wanted of each step: the lines below it, up to the next step. Behind the last stand crashes, which are not played here."""
     place, blocks = 0, []
     for number, step in enumerate(steps):
         if told[place] != step:
             raise AssertionError(f"tool_runs/stdout has no line for the step: {step}")
         place += 1
         begin, after = place, steps[number + 1] if number + 1 < len(steps) else None
-        while place < len(told) and told[place] != after and not (after is None and told[place].startswith("one put makes")):
+        while place < len(told) and told[place] != after and not (after is None and told[place].startswith("with packs in ")):
             place += 1
         blocks.append(told[begin:place])
     return blocks
