@@ -14,7 +14,7 @@ use device::Block;
 use geometry::{Error, Geometry, Owner};
 use pool::Pool;
 use rights_books::Permit;
-use rights_names::VolumeName;
+use rights_permits::VolumeName;
 use std::sync::Wait;
 use tickets::Ticket;
 use words::FreeSlip;

@@ -1,5 +1,5 @@
 //! What lies under the locks of a main area.
-ghost use Rattle.std.specs.Prelude.{◌≡◌, ◌<◌, ◌≤◌, ◌%◌, ◌∷◌, Some, None, false, length, MatchOption, OnOk, OnErr, IfOk, IfErr, IfSome};
+ghost use Rattle.std.specs.Prelude.{◌≡◌, ◌+◌, ◌<◌, ◌≤◌, ◌%◌, ◌∷◌, Some, None, false, length, MatchOption, OnOk, OnErr, IfOk, IfErr, IfSome};
 ghost use Rattle.geometry.specs.declared.error.Error.TheVariants.{Device};
 ghost use Rattle.geometry.specs.Address.{address_of, segment_of, offset_of};
 ghost use Rattle.geometry.specs.Mark.{same_mark};
@@ -9,9 +9,10 @@ ghost use Rattle.geometry.specs.declared.owner.Owner.TheVariants as owner;
 ghost use Rattle.rights_books.specs.Lists.{times, without};
 ghost use Rattle.rights_books.specs.Sameness.{same_entry};
 ghost use Rattle.rights_books.specs.Rules.{bare_entry, moved_to};
-ghost use Rattle.rights_names.specs.Names.{layout_of};
+ghost use Rattle.rights_permits.specs.Names.{layout_of};
 ghost use Rattle.nat.specs.Table.{IsShardAt};
 ghost use Rattle.nat.specs.Taken.{IsFree, IsTaken, IsLocated, placed_of};
+ghost use Rattle.rights_books.specs.PartRow.{name_of};
 ghost use Rattle.sit.specs.Row.{row_of};
 ghost use Rattle.sit.specs.Segment.{placed, cleared, HasPlaced};
 ghost use Rattle.sit.specs.Released.{HasReleased};
@@ -26,8 +27,8 @@ use device::{Block, DeviceError};
 use geometry::{Error, Owner};
 use nat::Shard;
 use pool::PoolPass;
-use rights_books::{Audit, Books, Permit};
-use rights_names::VolumeName;
+use rights_books::{Audit, Books, PartAccount, Permit};
+use rights_permits::VolumeName;
 use sit::{SegmentRow, SegmentState};
 use std::marker::PhantomData;
 use tickets::{NidToken, Ticket};
@@ -42,6 +43,7 @@ pub struct SegmentCell<V: VolumeName, B: Block + Drop> {
     pub state: SegmentState<B>,
     pub(crate) volume: PhantomData<V>,
     pub ghost law: { IsSegmentOf V.Numbers.geometry V.Books.books.book V.Words.words number state },
+    pub ghost part: { state.part ≡ Some (record { book = V.Books.rows; number = number }) },
 }
 
 /// A shard of the node numbers in its lock.
@@ -54,6 +56,7 @@ pub struct ShardCell<V: VolumeName, B: Block + Drop> {
     pub(crate) volume: PhantomData<V>,
     pub ghost few: { number < 16 },
     pub ghost law: { IsShardAt V.Books.books.book V.Numbers.geometry.nodes number shard },
+    pub ghost part: { shard.part ≡ Some (record { book = V.Books.rows; number = V.Numbers.geometry.segments + number }) },
 }
 
 /// A log in its lock.
@@ -72,12 +75,14 @@ pub struct LogCell<V: VolumeName> {
 }
 
 impl<V: VolumeName, B: Block + Drop> SegmentCell<V, B> {
-    /// The segment of this number.
-    pub fn new(number: u32, state: SegmentState<B>) -> SegmentCell<V, B>
-        requires { IsSegmentOf V.Numbers.geometry V.Books.books.book V.Words.words number state }
+    /// The segment of this number, with the account of its row.
+    pub fn new(number: u32, mut state: SegmentState<B>, row: PartAccount) -> SegmentCell<V, B>
+        requires segment { IsSegmentOf V.Numbers.geometry V.Books.books.book V.Words.words number state }
+        requires row { name_of row ≡ record { book = V.Books.rows; number = number } }
         ensures number { result.number ≡ number }
-        ensures state { result.state ≡ state }
+        ensures state { result.state ≡ record state { part = Some (name_of row) } }
     {
+        state.attach(row);
         SegmentCell {
             number,
             state,
@@ -142,11 +147,8 @@ impl<V: VolumeName, B: Block + Drop> SegmentCell<V, B> {
         ensures err { OnErr result (hand.new ≡ hand.old) }
         ensures error { IfErr result (λ error. error ≡ Device) }
     {
-        let offset = self.state.next();
-        let ticket = self
-            .state
-            .place(books, words, hand, slip, offset, owner, now, bytes)?;
-        Ok(ticket)
+        self.state
+            .place(books, words, hand, slip, owner, now, bytes)
     }
 
     /// A log begins to fill the segment's holes, and writes the block in the first, in one hold of the lock, as
@@ -278,13 +280,15 @@ impl<V: VolumeName> LogCell<V> {
 }
 
 impl<V: VolumeName, B: Block + Drop> ShardCell<V, B> {
-    /// The shard of this number.
-    pub fn new(number: u32, shard: Shard<B>) -> ShardCell<V, B>
+    /// The shard of this number, with the account of its row. The parts before it are the segments and the shards before it.
+    pub fn new(number: u32, mut shard: Shard<B>, row: PartAccount) -> ShardCell<V, B>
         requires few { number < 16 }
         requires shard { IsShardAt V.Books.books.book V.Numbers.geometry.nodes number shard }
+        requires row { name_of row ≡ record { book = V.Books.rows; number = V.Numbers.geometry.segments + number } }
         ensures number { result.number ≡ number }
-        ensures shard { result.shard ≡ shard }
+        ensures shard { result.shard ≡ record shard { part = Some (name_of row) } }
     {
+        shard.attach(row);
         ShardCell {
             number,
             shard,

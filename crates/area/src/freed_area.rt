@@ -8,7 +8,7 @@ use crate::slips::{put_kept, put_or_keep};
 use crate::unsettled::Unsettled;
 use device::Block;
 use pool::PoolPass;
-use rights_names::VolumeName;
+use rights_permits::VolumeName;
 use std::sync::Wait;
 use words::FreeSlip;
 

@@ -31,7 +31,7 @@ pub use log::{Log, log_for};
 pub use main_area::MainArea;
 pub use node_room::{CheckpointRoom, MarkedNodes};
 pub use numbered::{Numbered, lock_numbered};
-pub use opening::{lock_segments, put_slips};
+pub use opening::{lock_segments, put_slips, take_row};
 pub use rooms::{new_rooms, store_slips};
 pub use rows::SectionRow;
 pub use segment::free_segment;

@@ -1,7 +1,7 @@
 //! The main area, and its locks.
 ghost use Rattle.std.specs.Prelude.{◌≡◌, ◌<◌, ◌≤◌, vec_len, vec_capacity};
 ghost use Rattle.std.specs.Sync.Mutex.{mutex_guard_value};
-ghost use Rattle.rights_names.specs.Names.{layout_of};
+ghost use Rattle.rights_permits.specs.Names.{layout_of};
 
 use crate::cells::{LogCell, SegmentCell, ShardCell};
 use crate::node_room::{MarkedNodes, NodeRoom};
@@ -11,8 +11,7 @@ use device::Block;
 use geometry::{Geometry, Kind};
 use pool::Pool;
 use rights_books::Books;
-use rights_names::VolumeName;
-use rights_permits::Turnstile;
+use rights_permits::{Turnstile, VolumeName};
 use std::sync::atomic::AtomicU32;
 use std::sync::{Mutex, MutexGuard, Wait};
 use words::Words;

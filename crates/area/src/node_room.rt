@@ -9,7 +9,7 @@ use crate::threading::Threading;
 use device::Block;
 use geometry::Kind;
 use pool::SlipCounts;
-use rights_names::VolumeName;
+use rights_permits::VolumeName;
 use std::sync::Wait;
 use std::sync::atomic::{AtomicU32, Ordering};
 

@@ -4,7 +4,7 @@ ghost use Rattle.std.specs.Sync.Mutex.{mutex_guard_value};
 
 use crate::cells::{LogCell, SegmentCell, ShardCell};
 use device::Block;
-use rights_names::VolumeName;
+use rights_permits::VolumeName;
 use std::sync::{Mutex, MutexGuard, Wait};
 
 /// What has a number of its own: a segment, a shard, a log, a file.

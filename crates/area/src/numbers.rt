@@ -13,7 +13,7 @@ use crate::main_area::MainArea;
 use device::{Block, DeviceError};
 use geometry::Error;
 use rights_books::Permit;
-use rights_names::VolumeName;
+use rights_permits::VolumeName;
 use std::sync::Wait;
 use std::sync::atomic::Ordering;
 use tickets::{NidToken, Ticket};

@@ -8,7 +8,7 @@ use crate::main_area::MainArea;
 use device::Block;
 use geometry::Mark;
 use rights_books::Permit;
-use rights_names::VolumeName;
+use rights_permits::VolumeName;
 use std::sync::Wait;
 use tickets::Ticket;
 

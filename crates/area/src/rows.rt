@@ -6,7 +6,7 @@ ghost use Rattle.area.specs.Rows.{IsRowOf};
 use crate::main_area::MainArea;
 use device::Block;
 use geometry::State;
-use rights_names::VolumeName;
+use rights_permits::VolumeName;
 use sit::SegmentRow;
 use std::sync::Wait;
 

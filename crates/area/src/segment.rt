@@ -5,7 +5,7 @@ ghost use Rattle.area.specs.Freed.{HasFreed, HasStayed};
 use crate::SegmentCell;
 use device::Block;
 use geometry::State;
-use rights_names::VolumeName;
+use rights_permits::VolumeName;
 use words::{FreeSlip, Words};
 
 /// Frees a segment that is retired, in its lock, and answers its one free slip. It answers `None`, and the segment stays in

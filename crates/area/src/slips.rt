@@ -3,7 +3,7 @@ ghost use Rattle.std.specs.Prelude.{◌≡◌, ◌<◌, ◌⊎◌, ◌++◌, [],
 ghost use Rattle.area.specs.Slips.{AreSlipsOf, HavePut};
 
 use pool::{Pool, PoolPass};
-use rights_names::{PoolName, WordsName};
+use rights_permits::{PoolName, WordsName};
 use std::sync::Wait;
 use words::FreeSlip;
 

@@ -8,7 +8,7 @@ ghost use Rattle.pool.specs.Law.{WasFull};
 use crate::append::Who;
 use crate::log::Log;
 use pool::{Pool, PoolPass};
-use rights_names::{PoolName, WordsName};
+use rights_permits::{PoolName, WordsName};
 
 /// When an append that has no place and finds no free segment may thread a used one (threaded logging: Linux `filesystems/f2fs`;
 /// Lee and others, FAST 2015), and what is kept for the next checkpoint.

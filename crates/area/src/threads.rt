@@ -4,8 +4,7 @@ ghost use Rattle.std.specs.Prelude.{◌≡◌, ◌<◌};
 use crate::main_area::MainArea;
 use crate::unsettled::Unsettled;
 use device::Block;
-use rights_names::VolumeName;
-use rights_permits::{AllPermits, Auditing};
+use rights_permits::{AllPermits, Auditing, VolumeName};
 use std::sync::Wait;
 use words::CheckpointSeat;
 

@@ -3,42 +3,19 @@ ghost use Rattle.std.specs.Prelude.{◌≡◌, ◌≤◌, [], vec_len, vec_capac
 ghost use Rattle.device.specs.Parts.{IsBlockRun};
 ghost use Rattle.geometry.specs.Area.{block_count};
 ghost use Rattle.geometry.specs.Shape.{block_bytes};
-ghost use Rattle.rights_names.specs.Names.{layout_of};
+ghost use Rattle.rights_permits.specs.Names.{layout_of};
 ghost use Rattle.image_codec.specs.Blocks.{bytes_at};
 ghost use Rattle.area_emptying.specs.Rows.{AreSegments, AreShards, HaveNothing, AreEmpty, AreEmptyFalling};
 ghost use Rattle.area_emptying.specs.Home.{AreAtHome};
 
 use crate::owned_area::OwnedArea;
-use crate::spare::Spare;
-use area::MainArea;
 use checkpoint_image::{learn_segments, learn_shards};
 use device::Block;
 use geometry::Geometry;
 use nat::Shard;
 use rights_books::{Audit, Books, FileAccount};
-use rights_names::VolumeName;
-use rights_permits::AllPermits;
+use rights_permits::{AllPermits, VolumeName};
 use sit::SegmentState;
-use std::sync::Wait;
-
-/// All blocks of a main area in the order of their addresses, where no file has lodged anything: an audit of the books shows
-/// that no block is valid then. It takes no memory.
-pub fn empty_area<V: VolumeName, B: Block + Drop, R: Wait>(
-    rt: &R,
-    area: MainArea<V, B>,
-    spare: Spare<V, B>,
-    all: AllPermits<V::Books, V::Turns>,
-    files: Vec<FileAccount>,
-) -> Vec<B>
-    requires tickets { all.hand.tickets ≡ [] }
-    requires tokens { all.hand.tokens ≡ [] }
-    requires files { HaveNothing V.Books.books.book files.items }
-    requires every_file { vec_len files ≡ V.Numbers.geometry.files }
-    ensures run { IsBlockRun B.address_of B.content_of (block_bytes V.Numbers.geometry.shape) 1 result.items }
-    ensures count { vec_len result ≡ block_count V.Numbers.geometry }
-{
-    OwnedArea::own(rt, area, spare).empty(all, files)
-}
 
 impl<V: VolumeName, B: Block + Drop> OwnedArea<V, B> {
     /// All blocks in the order of their addresses, with the bytes that they have at home, where no file has lodged anything: an

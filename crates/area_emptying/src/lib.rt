@@ -6,6 +6,5 @@ mod owned;
 mod owned_area;
 mod spare;
 
-pub use emptied_area::empty_area;
 pub use owned_area::OwnedArea;
 pub use spare::{Spare, SpareRows};

@@ -7,7 +7,7 @@ ghost use Rattle.area_emptying.specs.Rows.{AreSegments, AreShards};
 use area::{SegmentCell, ShardCell};
 use device::Block;
 use nat::Shard;
-use rights_names::VolumeName;
+use rights_permits::VolumeName;
 use sit::SegmentState;
 use std::sync::{Mutex, Wait};
 

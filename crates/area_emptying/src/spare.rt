@@ -6,7 +6,7 @@ ghost use Rattle.geometry.specs.declared.error.Error.TheVariants.{NoMemory};
 use device::Block;
 use geometry::{Error, Geometry};
 use nat::Shard;
-use rights_names::VolumeName;
+use rights_permits::VolumeName;
 use sit::SegmentState;
 use std::alloc::Global;
 use std::marker::PhantomData;

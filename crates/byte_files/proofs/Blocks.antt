@@ -1,9 +1,9 @@
 -- What stands in the blocks of a file, and what a write and a cut make of their bytes.
-use Rattle.std.proofs.Common.{◌≡◌, ◌≢◌, ◌∙◌, ◌+◌, ◌-◌, ◌*◌, ◌++◌, ◌<◌, ◌≤◌, ℕ, zero, suc, List, [], Option, Some, None, max, min, cond, nat_lt, unwrap_or, replicate, length, take, drop, ap, ap₂, sym, refl, subst, eq-eqb, ne_eqb, add-one, lit<, inl, inr, arith}
+use Rattle.std.proofs.Common.{◌≡◌, ◌≢◌, ◌∙◌, ◌+◌, ◌-◌, ◌*◌, ◌++◌, ◌<◌, ◌≤◌, ℕ, zero, suc, List, [], Some, None, max, min, cond, nat_lt, unwrap_or, replicate, length, take, drop, ap, ap₂, sym, refl, subst, eq-eqb, ne_eqb, add-one, lit<, inl, inr, arith}
 use borrow.Author.Tests.{lt-ltb, le-ltb}
 use Rattle.std.proofs.lemmas.Bool.{cases_lt}
 use Rattle.std.proofs.lemmas.Cmp.{nat_cmp_total}
-use Rattle.std.proofs.lemmas.List.{append_assoc, append-nil, length-append, length-drop, length-replicate, replicate-append-replicate, take-append-le, drop-append-le}
+use Rattle.std.proofs.lemmas.List.{append_assoc, append-nil, length-append, length-drop, replicate-append-replicate, take-append-le, drop-append-le}
 use Rattle.std.specs.Cmp.{unsigned_tied}
 use Rattle.std.specs.FinMap.{FinMap, get, insert, get-insert, get-retain_keys, nat_cmp-IsAntisymmetric}
 use Rattle.std.specs.Ordering.{nat_cmp}
@@ -12,10 +12,11 @@ use Rattle.geometry.specs.Shape.{block_bytes}
 use Rattle.geometry.specs.declared.shape.Shape.{Shape}
 use Rattle.geometry.specs.declared.shape.Shape.TheVariants.{Tiny, Kernel}
 use Rattle.file_cells.specs.Pass.{AreWhole, AreWithin}
+use Rattle.flash_volume.proofs.Laid.{whole_or_hole}
 use Rattle.flash_volume.specs.Answers.{block_of, laid_over}
 use Rattle.image_reading.specs.Content.{all_bytes, front_bytes}
 use Rattle.byte_files.specs.Bytes.{extended}
-use Rattle.byte_files.proofs.Lists.{extended_enough, laid_in_middle, take_past, drop_past}
+use Rattle.byte_files.proofs.Lists.{extended_enough, laid_in_middle, drop_past}
 
 pub block_some : (shape : Shape) → 0 < block_bytes shape
 block_some Tiny = lit< tt
@@ -34,10 +35,6 @@ at_others : (size : ℕ) (file : File) (index : ℕ) (block : Block) (q : ℕ) �
 at_others size file index block q other = ap (λ o. unwrap_or o (replicate size 0)) (kept file.blocks index block q other)
 
 -- ---- what stands at an index
-
-whole_or_hole : (size : ℕ) (o : Option Block) → ((b : Block) → o ≡ Some b → length b ≡ size) → length (unwrap_or o (replicate size 0)) ≡ size
-whole_or_hole size None whole = length-replicate size 0
-whole_or_hole size (Some b) whole = whole b refl
 
 module _ (size : ℕ) (file : File) where
   pub at_long : AreWhole size file → (index : ℕ) → length (bytes_at size file index) ≡ size
@@ -208,7 +205,7 @@ module _ (size : ℕ) (file : File) (index from : ℕ) (laid : List ℕ) (whole 
 
 -- ---- what a cut leaves of them
 
-front_cut : (size : ℕ) (file : File) (m n : ℕ) → n ≤ m → front_bytes size (cut_to file m) n ≡ front_bytes size file n
+pub front_cut : (size : ℕ) (file : File) (m n : ℕ) → n ≤ m → front_bytes size (cut_to file m) n ≡ front_bytes size file n
 front_cut size file m zero few = refl
 front_cut size file m (suc n) few =
     let fewer : n ≤ m = omega (arith, few) in

@@ -1,14 +1,14 @@
 -- What a written block makes of the bytes that a file has, where its last block goes on with zeros.
 use Rattle.std.proofs.Common.{◌≡◌, ◌∙◌, ◌+◌, ◌-◌, ◌*◌, ◌++◌, ◌<◌, ◌≤◌, ℕ, List, replicate, length, take, drop, ap, ap₂, sym, subst, arith}
 use Rattle.std.proofs.lemmas.List.{append_assoc, length-append, length-replicate, replicate-append-replicate, take-append-le}
-use Rattle.geometry.specs.File.{File, Block, bytes_at, written}
+use Rattle.geometry.specs.File.{File, bytes_at, written}
 use Rattle.file_cells.specs.Pass.{AreWhole, AreWithin}
 use Rattle.flash_volume.specs.Answers.{laid_over}
 use Rattle.image_reading.specs.Content.{all_bytes}
 use Rattle.byte_files.specs.Bytes.{HasBytes, extended, written_at}
 use Rattle.byte_files.specs.Calls.{IsWrittenAt}
-use Rattle.byte_files.proofs.Lists.{length_extended, drop_in_zeros, laid_on_all, written_some, written_twice, take_split}
-use Rattle.byte_files.proofs.Blocks.{at_long, block_written}
+use Rattle.byte_files.proofs.Lists.{length_extended, drop_in_zeros, written_some, written_twice, take_split}
+use Rattle.byte_files.proofs.Blocks.{block_written}
 
 -- bytes were laid over those of the blocks, with zeros up to a room that ends with the block of the last
 has_written : (size at room : ℕ) (bytes laid : List ℕ) (old new : File) → HasBytes size bytes old → at + length laid ≤ room → room < at + length laid + size
@@ -71,14 +71,3 @@ more_written size at n m place xs old now new before long here step bytes has =
     subst (λ ys. HasBytes size ys new)
     (ap (λ k. written_at (written_at bytes at one) k other) (here ∙ ap (λ k. at + k) (sym long)) ∙ written_twice bytes one other at ∙ ap (written_at bytes at) (sym (take_split n m xs)))
     (step (written_at bytes at one) (before bytes has))
-
--- a whole block was written
-pub whole_written : (size : ℕ) (old : File) (index from : ℕ) (laid : List ℕ) → AreWhole size old → AreWithin old → from + length laid ≤ size → 0 < length laid → length laid ≡ size
-    → IsWrittenAt size (index * size + from) laid old (written old index laid)
-whole_written size old index from laid whole inside fits some all =
-    let here : Block = bytes_at size old index in
-    let long : length here ≡ size = at_long size old whole index in
-    let front : from ≡ 0 = omega (arith, fits, all) in
-    subst (λ block. IsWrittenAt size (index * size + from) laid old (written old index block))
-    (laid_on_all here laid from (omega (arith, front, all, long)) ∙ ap (λ n. take n here ++ laid) front)
-    (part_written size old index from laid whole inside fits some)

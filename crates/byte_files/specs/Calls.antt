@@ -22,6 +22,10 @@ IsTruncated size count before after = (bytes : List ℕ) → HasBytes size bytes
 abbrev pub IsWiped : ℕ → ℕ → Pass → Pass → Type 0
 IsWiped size at before after = (after ≡ before) ⊎ ((zeros : ℕ) × (zeros < size) × IsWrittenAt size at (replicate zeros 0) before.file after.file)
 
+-- a file keeps its number and its kind
+abbrev pub IsSameFile : Pass → Pass → Type 0
+IsSameFile before after = (after.number ≡ before.number) × (after.file.kind ≡ before.file.kind)
+
 -- why bytes are not all written
 abbrev pub IsOfWrite : Error → Type 0
 IsOfWrite error = (error ≡ TooFar) ⊎ ((error ≡ Wounded) ⊎ ((error ≡ NoMemory) ⊎ ((error ≡ NoNode) ⊎ ((error ≡ NoSpace) ⊎ (error ≡ Device)))))

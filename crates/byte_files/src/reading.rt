@@ -10,7 +10,7 @@ use device::{Block, Meta};
 use file_cells::FilePass;
 use flash_volume::read_part;
 use geometry::Error;
-use rights_names::VolumeName;
+use rights_permits::VolumeName;
 use std::alloc::Global;
 use std::sync::Wait;
 use volume::Volume;

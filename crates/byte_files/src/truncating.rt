@@ -1,6 +1,6 @@
 //! Gives a file another length in bytes.
 ghost use Rattle.std.specs.Prelude.{◌≡◌, ◌≢◌, ◌<◌, ◌≤◌, ◌+◌, ◌*◌, ◌-◌, ◌⊎◌, ℕ, List, length, replicate, OnOk, IfErr, OnErr};
-ghost use Rattle.byte_files.specs.Calls.{IsTruncated, IsWiped, IsOfWrite};
+ghost use Rattle.byte_files.specs.Calls.{IsTruncated, IsWiped, IsOfWrite, IsSameFile};
 ghost use Rattle.flash_volume.specs.Answers.{laid_over};
 ghost use Rattle.geometry.specs.File.{bytes_at, written};
 ghost use Rattle.geometry.specs.Shape.{block_bytes};
@@ -11,7 +11,7 @@ use device::{Block, Meta};
 use file_cells::FilePass;
 use flash_volume::read_block;
 use geometry::Error;
-use rights_names::VolumeName;
+use rights_permits::VolumeName;
 use std::alloc::Global;
 use std::sync::Wait;
 use volume::Volume;
@@ -71,8 +71,7 @@ fn lengthen<V: VolumeName, M: Meta, B: Block + Drop, R: Wait>(
     requires ends { count ≤ (index + 1) * block_bytes V.Numbers.geometry.shape }
     ensures truncated { OnOk result (IsTruncated (block_bytes V.Numbers.geometry.shape) count pass.old.file pass.new.file) }
     ensures err { OnErr result (pass.new ≡ pass.old) }
-    ensures number { pass.new.number ≡ pass.old.number }
-    ensures kind { pass.new.file.kind ≡ pass.old.file.kind }
+    ensures same { IsSameFile pass.old pass.new }
     ensures error { IfErr result IsOfWrite }
 {
     pass.blocks_law();
@@ -98,8 +97,7 @@ fn shorten<V: VolumeName, M: Meta, B: Block + Drop, R: Wait>(
     ensures truncated { OnOk result (IsTruncated (block_bytes V.Numbers.geometry.shape) count pass.old.file pass.new.file) }
     ensures err { IfErr result (λ error. error ≢ Wounded → pass.new ≡ pass.old) }
     ensures wiped { OnErr result (IsWiped (block_bytes V.Numbers.geometry.shape) count pass.old pass.new) }
-    ensures number { pass.new.number ≡ pass.old.number }
-    ensures kind { pass.new.file.kind ≡ pass.old.file.kind }
+    ensures same { IsSameFile pass.old pass.new }
     ensures error { IfErr result IsOfWrite }
 {
     pass.blocks_law();
@@ -121,8 +119,7 @@ fn cut_even<V: VolumeName, M: Meta, B: Block + Drop, R: Wait>(
     requires even { blocks * block_bytes V.Numbers.geometry.shape ≡ count }
     ensures truncated { OnOk result (IsTruncated (block_bytes V.Numbers.geometry.shape) count pass.old.file pass.new.file) }
     ensures err { OnErr result (pass.new ≡ pass.old) }
-    ensures number { pass.new.number ≡ pass.old.number }
-    ensures kind { pass.new.file.kind ≡ pass.old.file.kind }
+    ensures same { IsSameFile pass.old pass.new }
     ensures error { IfErr result IsOfWrite }
 {
     pass.blocks_law();

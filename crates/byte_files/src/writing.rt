@@ -1,8 +1,6 @@
 //! Writes bytes of a file.
-ghost use Rattle.std.specs.Prelude.{◌≡◌, ◌<◌, ◌≤◌, ◌+◌, ◌*◌, ℕ, List, length, take, OnOk, IfErr, OnErr};
-ghost use Rattle.byte_files.specs.Calls.{IsWrittenAt, IsAppended, IsOfWrite};
-ghost use Rattle.flash_volume.specs.Answers.{laid_over};
-ghost use Rattle.geometry.specs.File.{bytes_at, written};
+ghost use Rattle.std.specs.Prelude.{◌≡◌, ◌<◌, ◌≤◌, ◌+◌, ◌*◌, length, take, OnOk, IfErr, OnErr};
+ghost use Rattle.byte_files.specs.Calls.{IsWrittenAt, IsAppended, IsOfWrite, IsSameFile};
 ghost use Rattle.geometry.specs.Path.{largest_length};
 ghost use Rattle.geometry.specs.Shape.{block_bytes};
 
@@ -12,7 +10,7 @@ use device::{Block, Meta};
 use file_cells::FilePass;
 use flash_volume::write_part;
 use geometry::Error;
-use rights_names::VolumeName;
+use rights_permits::VolumeName;
 use std::alloc::Global;
 use std::sync::Wait;
 use volume::Volume;
@@ -63,8 +61,7 @@ fn write_parts<V: VolumeName, M: Meta, B: Block + Drop, R: Wait>(
     requires fits { 0 < length bytes.now → at + length bytes.now ≤ largest_length V.Numbers.geometry.shape * block_bytes V.Numbers.geometry.shape }
     ensures written { OnOk result (IsWrittenAt (block_bytes V.Numbers.geometry.shape) at bytes.now pass.old.file pass.new.file) }
     ensures part { IfErr result (λ fault. IsWrittenAt (block_bytes V.Numbers.geometry.shape) at (take fault.0 bytes.now) pass.old.file pass.new.file) }
-    ensures number { pass.new.number ≡ pass.old.number }
-    ensures kind { pass.new.file.kind ≡ pass.old.file.kind }
+    ensures same { IsSameFile pass.old pass.new }
     ensures error { IfErr result (λ fault. IsOfWrite fault.1) }
 {
     let size = block.len();
@@ -82,8 +79,7 @@ fn write_parts<V: VolumeName, M: Meta, B: Block + Drop, R: Wait>(
     Ok(())
 }
 
-// Lays bytes over the block of a file at an index, from a byte of it on. A whole block is written as it is, and what stood there is not
-// read. `block` has room for a block.
+// Lays bytes over the block of a file at an index, from a byte of it on. `block` has room for a block.
 fn lay_part<V: VolumeName, M: Meta, B: Block + Drop, R: Wait>(
     rt: &R,
     volume: &Volume<V, M, B>,
@@ -99,16 +95,11 @@ fn lay_part<V: VolumeName, M: Meta, B: Block + Drop, R: Wait>(
     requires within { from + length bytes.now ≤ block_bytes V.Numbers.geometry.shape }
     ensures written { OnOk result (IsWrittenAt (block_bytes V.Numbers.geometry.shape) (index * block_bytes V.Numbers.geometry.shape + from) bytes.now pass.old.file pass.new.file) }
     ensures err { OnErr result (pass.new ≡ pass.old) }
-    ensures number { pass.new.number ≡ pass.old.number }
-    ensures kind { pass.new.file.kind ≡ pass.old.file.kind }
+    ensures same { IsSameFile pass.old pass.new }
     ensures error { IfErr result IsOfWrite }
 {
     pass.blocks_law();
-    if bytes.len() == block.len() {
-        volume.write(rt, pass, index, bytes, now)
-    } else {
-        write_part(rt, volume, pass, index, from, block, bytes, now)
-    }
+    write_part(rt, volume, pass, index, from, block, bytes, now)
 }
 
 /// Puts bytes behind the `count` bytes that a file has: `count` is its length in bytes, which the caller keeps.

@@ -7,9 +7,9 @@ use Rattle.packs.specs.Pack.{IsSettled}
 use Rattle.packs.specs.Area.{reading_of}
 use Rattle.packs.specs.Device.{AreSettled}
 use Rattle.packs.specs.declared.packs.Packs.{Packs}
-use Rattle.packs_format.proofs.Bodies.{settled_area_holds}
-use Rattle.packs_format.specs.Grammar.{SpellsTables}
-use Rattle.packs_format.specs.Holding.{HoldsTables}
+use Rattle.pack_tables.proofs.Bodies.{settled_area_holds}
+use Rattle.pack_tables.specs.Grammar.{SpellsTables}
+use Rattle.pack_tables.specs.Holding.{HoldsTables}
 
 -- whatever a crash leaves of packs that are settled with an image's body, they hold its tables
 pub settled_holds : {D : Type 0} (seen : D → List ℕ) (may_leave : D → List ℕ → Type 0) (geometry : Geometry) (image : Image) (packs : Packs D) (body : List ℕ)

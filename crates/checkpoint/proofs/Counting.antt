@@ -11,12 +11,12 @@ use Rattle.image.proofs.Picking.{settled_picks, between_picks}
 use Rattle.packs.specs.Pack.{slots_in, picked, Between}
 use Rattle.packs.specs.Area.{reading_of}
 use Rattle.packs.specs.Device.{KeepsArea}
-use Rattle.packs_format.specs.Grammar.{HasSuper, SpellsTables}
-use Rattle.packs_format.specs.Holding.{HoldsTables}
+use Rattle.pack_tables.specs.Grammar.{HasSuper, SpellsTables}
+use Rattle.pack_tables.specs.Holding.{HoldsTables}
 use Rattle.checkpoint.specs.Holding.{AreWhole, counting_body}
 use Rattle.checkpoint.specs.declared.image_packs.ImagePacks.{ImagePacks}
 use Rattle.checkpoint.specs.Standing.{HasVolume, HoldsLawful}
-use Rattle.packs_format.proofs.SuperLemmas.{super_stays}
+use Rattle.pack_tables.proofs.SuperLemmas.{super_stays}
 
 module _ {D : Type 0} (seen : D → List ℕ) (may_leave : D → List ℕ → Type 0) (geometry : Geometry) where
   -- of packs that are whole, where each crash leaves the tables of a lawful image

@@ -8,7 +8,7 @@ use Rattle.image.specs.Slots.{version_of}
 use Rattle.packs.specs.Area.{reading_of}
 use Rattle.packs.specs.Device.{body_of}
 use Rattle.packs.specs.declared.packs.Packs.{Packs}
-use Rattle.packs_format.proofs.Bodies.{body_version}
+use Rattle.pack_tables.proofs.Bodies.{body_version}
 
 -- packs whose body that counts is shown to spell an image have its version
 pub version_is : {D : Type 0} (seen : D → List ℕ) (shape : Shape) (image : Image) (packs : Packs D) (shown : List (Packs D × ℕ)) → image.version < 2 ^ 32

@@ -11,7 +11,7 @@ use Rattle.packs.specs.Area.{reading_of}
 use Rattle.packs.specs.Device.{AreSettled, KeepsArea, body_of}
 use Rattle.packs.specs.Pack.{Between}
 use Rattle.packs.specs.declared.packs.Packs.{Packs}
-use Rattle.packs_format.specs.Holding.{HoldsTables}
+use Rattle.pack_tables.specs.Holding.{HoldsTables}
 use Rattle.checkpoint.specs.declared.image_packs.ImagePacks.{ImagePacks}
 
 -- the body of the pack that counts

@@ -3,8 +3,8 @@ use Rattle.std.specs.Prelude.{◌≡◌, ℕ, List}
 use Rattle.geometry.specs.declared.geometry.Geometry.{Geometry}
 use Rattle.image.specs.Image.{Image}
 use Rattle.image.specs.Rules.{IsLawful}
-use Rattle.packs_format.specs.Grammar.{HasSuper}
-use Rattle.packs_format.specs.Holding.{HoldsTables}
+use Rattle.pack_tables.specs.Grammar.{HasSuper}
+use Rattle.pack_tables.specs.Holding.{HoldsTables}
 
 -- a pack counts, and spells the tables of a lawful image
 pub record HoldsLawful (geometry : Geometry) (area : List ℕ) : Type 0 where

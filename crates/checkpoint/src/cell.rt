@@ -1,23 +1,26 @@
 //! What a checkpoint needs, in its lock.
-ghost use Rattle.std.specs.Prelude.{◌≡◌, ◌≤◌, ◌+◌, ◌^◌, ◌-◌, ◌<◌, ◌⊎◌, ◌∷◌, [], true, false, All, length, vec_capacity, OnOk, IfOk, IfErr};
+ghost use Rattle.std.specs.Prelude.{◌≡◌, ◌≤◌, ◌+◌, ◌^◌, ◌-◌, ◌<◌, ◌⊎◌, ◌∷◌, ℕ, [], true, false, All, length, vec_capacity, OnOk, IfOk, IfErr};
 ghost use Rattle.geometry.specs.Area.{meta_bytes};
 ghost use Rattle.geometry.specs.declared.error.Error.TheVariants.{BadGeometry, Device, Wounded, Exhausted};
 ghost use Rattle.image.specs.Image.{Image};
 ghost use Rattle.image.specs.Rules.{IsLawful};
 ghost use Rattle.checkpoint_image.specs.View.{taken_view};
-ghost use Rattle.checkpoint.specs.Holding.{AreWhole, IsInPack, IsShownOver, IsWrittenOver};
-ghost use Rattle.packs_format.specs.Holding.{HoldsTables};
+ghost use Rattle.checkpoint.specs.Holding.{AreWhole, IsInPack, IsShownOver, IsWrittenOver, counting_body};
+ghost use Rattle.pack_tables.specs.Holding.{HoldsTables};
 ghost use Rattle.device.specs.Disk.{Leaves};
-ghost use Rattle.packs_format.specs.Grammar.{HasSuper};
+ghost use Rattle.pack_tables.specs.Grammar.{HasSuper};
 ghost use Rattle.checkpoint.specs.Standing.{HasVolume};
+ghost use Rattle.image.specs.Pack.{body_bytes, pack_body};
+ghost use Rattle.packs_journal.specs.Pages.{has_page, ChangesIn};
 
 use crate::slips::end_slips;
 use crate::{ImagePacks, Stored, Taken};
+use checkpoint_image::KeptBody;
 use device::{Block, Meta};
 use geometry::Error;
 use packs::Packs;
 use pool::PoolPass;
-use rights_names::VolumeName;
+use rights_permits::VolumeName;
 use words::{CheckpointSeat, FreeSlip, Words};
 
 /// What a checkpoint needs: the two packs of the meta area, the right to advance the version, and with what it gives free
@@ -37,6 +40,8 @@ pub struct PacksCell<V: VolumeName, M: Meta> {
     pub pass: PoolPass<V::Words, V::Pool>,
     /// The slips that the pool did not take.
     pub kept: Vec<FreeSlip>,
+    /// The body of the pack that was written last, with the rows that it spells.
+    pub body: KeptBody,
     pub ghost size: { length (M.seen packs.area.meta) ≡ meta_bytes V.Numbers.geometry },
     pub ghost numbers: { packs.geometry ≡ V.Numbers.geometry },
     pub ghost of_words: { checkpoint.table ≡ V.Words.words },
@@ -46,6 +51,9 @@ pub struct PacksCell<V: VolumeName, M: Meta> {
     pub ghost complete: { wounded ≡ false → checkpoint.version ≡ packs.area.version },
     pub ghost slips: { All (λ slip. (slip.table ≡ V.Words.words) × (slip.segment < V.Numbers.geometry.segments)) kept.items },
     pub ghost room: { V.Numbers.geometry.segments ≤ vec_capacity kept },
+    pub ghost of_rows: { body.rows ≡ V.Books.rows },
+    pub ghost of_numbers: { body.geometry ≡ V.Numbers.geometry },
+    pub ghost touched: { wounded ≡ false → ChangesIn body.body.touched (body_bytes V.Numbers.geometry) (counting_body M.seen packs) body.body.bytes.items },
 }
 
 impl<V: VolumeName, M: Meta> PacksCell<V, M> {
@@ -55,6 +63,7 @@ impl<V: VolumeName, M: Meta> PacksCell<V, M> {
         checkpoint: CheckpointSeat,
         pass: PoolPass<V::Words, V::Pool>,
         kept: Vec<FreeSlip>,
+        body: KeptBody,
     ) -> PacksCell<V, M>
         requires size { length (M.seen packs.area.meta) ≡ meta_bytes V.Numbers.geometry }
         requires numbers { packs.geometry ≡ V.Numbers.geometry }
@@ -65,6 +74,9 @@ impl<V: VolumeName, M: Meta> PacksCell<V, M> {
         requires complete { checkpoint.version ≡ packs.area.version }
         requires slips { All (λ slip. (slip.table ≡ V.Words.words) × (slip.segment < V.Numbers.geometry.segments)) kept.items }
         requires room { V.Numbers.geometry.segments ≤ vec_capacity kept }
+        requires rows { body.rows ≡ V.Books.rows }
+        requires body_numbers { body.geometry ≡ V.Numbers.geometry }
+        requires touched { (k : ℕ) → k < 4352 → has_page body.body.touched k ≡ true }
         ensures packs { result.packs ≡ packs }
         ensures sound { result.wounded ≡ false }
     {
@@ -74,6 +86,7 @@ impl<V: VolumeName, M: Meta> PacksCell<V, M> {
             checkpoint,
             pass,
             kept,
+            body,
         }
     }
 
@@ -109,7 +122,7 @@ impl<V: VolumeName, M: Meta> PacksCell<V, M> {
         &self.checkpoint
     }
 
-    /// Writes an image as the next pack, and advances the version once it is the one that counts. The image borrows all permits of
+    /// Writes an image, which the kept body spells, as the next pack, and advances the version once it is the one that counts. The image borrows all permits of
     /// the volume until then.
     ///
     /// Answers BadGeometry where the image is of a volume of another shape, and then nothing has changed; and Device where the
@@ -124,6 +137,7 @@ impl<V: VolumeName, M: Meta> PacksCell<V, M> {
         requires sound { self.old.wounded ≡ false }
         requires lawful { IsLawful V.Numbers.geometry (taken_view taken.recorded.image) }
         requires next { taken.recorded.image.tables.version ≡ self.old.packs.area.version + 1 }
+        requires spelled { self.old.body.body.bytes.items ≡ pack_body V.Numbers.geometry.shape (taken_view taken.recorded.image) }
         ensures taken { IfOk result (λ stored. stored.taken ≡ taken.entry.recorded) }
         ensures sound { OnOk result (self.new.wounded ≡ false) }
         ensures written { IfOk result (λ stored. IsInPack M.may_leave V.Numbers.geometry (taken_view taken.entry.recorded.image) stored.pack.shown.items) }
@@ -143,8 +157,9 @@ impl<V: VolumeName, M: Meta> PacksCell<V, M> {
         let Taken { recorded, audit: _ } = taken;
         // A version fits its field.
         let _version = recorded.tables().version;
-        match self.packs.write(recorded) {
+        match self.packs.write(recorded, &self.body.body) {
             Ok(stored) => {
+                self.body.settle();
                 words.advance(&mut self.checkpoint);
                 Ok(stored)
             }
@@ -168,6 +183,7 @@ impl<V: VolumeName, M: Meta> PacksCell<V, M> {
             checkpoint: _,
             pass: _,
             kept,
+            body: _,
         } = self;
         end_slips(kept);
         let ImagePacks { area, geometry: _ } = packs;

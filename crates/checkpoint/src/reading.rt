@@ -4,14 +4,14 @@ ghost use Rattle.geometry.specs.declared.error.Error.TheVariants.{NoMemory, Devi
 ghost use Rattle.device.specs.Disk.{IsQuiet};
 ghost use Rattle.image.specs.View.{image_view};
 ghost use Rattle.packs.specs.Parts.{format_of};
-ghost use Rattle.packs_format.specs.Grammar.{SpellsTables, SpellsNoTables};
+ghost use Rattle.pack_tables.specs.Grammar.{SpellsTables, SpellsNoTables};
 ghost use Rattle.checkpoint.specs.Holding.{AreWhole, counting_body};
 
 use crate::ImagePacks;
 use device::Meta;
 use geometry::Error;
 use image::Image;
-use packs_format::decode;
+use pack_tables::decode;
 use std::alloc::Global;
 
 // The bytes of a footer.

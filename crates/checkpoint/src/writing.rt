@@ -3,35 +3,43 @@ ghost use Rattle.std.specs.Prelude.{◌≡◌, ◌⊎◌, ◌<◌, ◌+◌, ℕ,
 ghost use Rattle.geometry.specs.declared.error.Error.TheVariants.{BadGeometry, Device};
 ghost use Rattle.geometry.specs.File.{Block};
 ghost use Rattle.device.specs.Disk.{Leaves, LeavesOnly};
-ghost use Rattle.image.specs.Pack.{pack_body};
+ghost use Rattle.image.specs.Pack.{body_bytes, pack_body};
+ghost use Rattle.packs_journal.specs.Pages.{ChangesIn};
 ghost use Rattle.image.specs.Reading.{image_in};
 ghost use Rattle.image.specs.Rules.{IsInRange};
 ghost use Rattle.checkpoint_image.specs.View.{taken_view};
 ghost use Rattle.packs.specs.Pack.{Between};
 ghost use Rattle.packs.specs.Area.{reading_of};
 ghost use Rattle.packs.specs.Device.{IsSameArea, KeepsArea};
-ghost use Rattle.packs_format.specs.Grammar.{SpellsTables};
+ghost use Rattle.pack_tables.specs.Grammar.{SpellsTables};
 ghost use Rattle.checkpoint.specs.Holding.{AreWhole, counting_body, read_with};
-ghost use Rattle.packs_format.specs.Holding.{HoldsTables};
+ghost use Rattle.pack_tables.specs.Holding.{HoldsTables};
 
 use crate::{ImagePacks, Recorded, Stored};
-use checkpoint_image::TakenImage;
+use checkpoint_image::{TakenImage, TouchedBody};
 use device::{Block, Meta};
 use geometry::Error;
 
 impl<M: Meta> ImagePacks<M> {
-    /// Writes an image as the next pack: of its two tables only the parts that changed. After an Ok it is the one that counts whatever crash
+    /// Writes an image, which a body spells, as the next pack: of its tables only what changed. After an Ok it is the one that counts whatever crash
     /// comes.
     ///
     /// Answers BadGeometry where the image was spelled for another shape than that of these packs, and then nothing has changed; and
     /// Device where the device failed: then it is not known which of the two packs counts, and the area has to be opened again.
     /// It takes no memory.
-    pub fn write<B: Block>(&mut self, taken: Recorded<B>) -> Result<Stored<M, B>, Error>
+    pub fn write<B: Block>(
+        &mut self,
+        taken: Recorded<B>,
+        body: &TouchedBody,
+    ) -> Result<Stored<M, B>, Error>
         requires whole { AreWhole M.seen M.may_leave self.old }
         requires range { IsInRange self.old.geometry (taken_view taken.image) }
         requires next { taken.image.tables.version ≡ self.old.area.version + 1 }
+        requires spelled { body.now.bytes.items ≡ pack_body self.old.geometry.shape (taken_view taken.image) }
+        requires touched { ChangesIn body.now.touched (body_bytes self.old.geometry) (counting_body M.seen self.old) body.now.bytes.items }
 
         ensures whole { OnOk result (AreWhole M.seen M.may_leave self.new) }
+        ensures body { OnOk result (counting_body M.seen self.new ≡ body.now.bytes.items) }
         ensures held { OnOk result (Leaves M.may_leave self.new.area.meta (HoldsTables self.old.geometry (taken_view taken.image))) }
         ensures read_back { OnOk result ((blocks : ℕ → Block) → image_in self.old.geometry (counting_body M.seen self.new) blocks
             ≡ read_with self.old.geometry.shape blocks (taken_view taken.image)) }
@@ -51,7 +59,7 @@ impl<M: Meta> ImagePacks<M> {
         ensures geometry { self.new.geometry ≡ self.old.geometry }
         ensures numbers { self.new.area.geometry ≡ self.old.area.geometry }
     {
-        let pack = self.store(&taken.image)?;
+        let pack = self.store(&taken.image, body)?;
         let geometry = self.geometry;
         Ok(Stored {
             taken,
@@ -60,13 +68,16 @@ impl<M: Meta> ImagePacks<M> {
         })
     }
 
-    // The image brings its body.
-    fn store(&mut self, image: &TakenImage) -> Result<packs::Stored<M>, Error>
+    // The body spells the image.
+    fn store(&mut self, image: &TakenImage, body: &TouchedBody) -> Result<packs::Stored<M>, Error>
         requires whole { AreWhole M.seen M.may_leave self.old }
         requires range { IsInRange self.old.geometry (taken_view image.now) }
         requires next { image.now.tables.version ≡ self.old.area.version + 1 }
+        requires spelled { body.now.bytes.items ≡ pack_body self.old.geometry.shape (taken_view image.now) }
+        requires touched { ChangesIn body.now.touched (body_bytes self.old.geometry) (counting_body M.seen self.old) body.now.bytes.items }
 
         ensures whole { OnOk result (AreWhole M.seen M.may_leave self.new) }
+        ensures body { OnOk result (counting_body M.seen self.new ≡ body.now.bytes.items) }
         ensures spelled { OnOk result (SpellsTables self.old.geometry (counting_body M.seen self.new) (taken_view image.now)) }
         ensures stored { IfOk result (λ stored. stored.shown.items ≡ (self.new.area, self.new.area.version) ∷ []) }
         ensures any_moment { LeavesOnly M.moment M.left_since self.old.area.meta self.new.area.meta
@@ -86,7 +97,7 @@ impl<M: Meta> ImagePacks<M> {
         if image.geometry.shape != self.geometry.shape {
             return Err(Error::BadGeometry);
         }
-        match self.area.write(image.body.as_slice()) {
+        match self.area.write(body.bytes.as_slice(), &body.touched) {
             Ok(stored) => Ok(stored),
             Err(_) => Err(Error::Device),
         }

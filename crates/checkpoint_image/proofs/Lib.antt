@@ -9,8 +9,14 @@ pub mod Imaging
 pub mod ReadBack
 pub mod Found
 pub mod Laws
+pub mod Learned
 pub mod Rows
 pub mod Taking
 pub mod Turning
 pub mod Joining
 pub mod Spelled
+pub mod Touching
+pub mod RowPlaces
+pub mod KeptZeros
+pub mod KeptRows
+pub mod WholeBody

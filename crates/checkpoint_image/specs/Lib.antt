@@ -7,3 +7,6 @@ pub mod Held
 pub mod Rows
 pub mod Learning
 pub mod View
+pub mod Touched
+pub mod Kept
+pub mod Noting

@@ -1,15 +1,18 @@
 //! What holds an account of the books beside what it is of, as the guard of a lock does.
-ghost use Rattle.std.specs.Prelude.{◌≡◌, ◌∷◌, List};
+ghost use Rattle.std.specs.Prelude.{◌≡◌, ◌∷◌, List, Some};
 ghost use Rattle.geometry.specs.Weights.{weigh};
 ghost use Rattle.rights_books.specs.declared.claim.Copied.TheVariants.{FileCopy, ShardCopy};
 ghost use Rattle.rights_books.specs.Accounts.{FileView};
 ghost use Rattle.rights_books.specs.Weights.{segment_copy, file_copy, shard_copy, past};
+ghost use Rattle.rights_books.specs.PartRow.{name_of};
+ghost use Rattle.nat.specs.Noted.{shard_row};
 ghost use Rattle.sit.specs.Learned.{HasLearned};
+ghost use Rattle.sit.specs.Noted.{segment_row};
 
 use crate::{HoldsFile, HoldsSegment, HoldsShard};
 use device::Block;
 use nat::Shard;
-use rights_books::{Audit, Books};
+use rights_books::{Audit, Books, KeptAccount, Rows};
 use sit::SegmentState;
 
 /// What holds a segment with its account.
@@ -21,11 +24,22 @@ pub trait AuditedSegment<B: Block + Drop>: HoldsSegment<B> {
         requires ascending { weigh (segment_copy (past (Self.shown self.old).segment.number)) audit.old.copies ≡ 0 }
         ensures same { Self.shown self.new ≡ Self.shown self.old }
         ensures audit { HasLearned (Self.shown self.old).segment audit.old audit.new };
+
+    /// Its row is noted as it is now, with it and in the twin of its account.
+    fn note(&mut self, rows: &Rows, kept: &mut KeptAccount)
+        requires rows { kept.old.book ≡ rows.now }
+        requires twin { (Self.shown self.old).part ≡ Some (name_of kept.old) }
+        ensures same { Self.shown self.new ≡ Self.shown self.old }
+        ensures kept { kept.new ≡ record kept.old { row = segment_row (Self.shown self.old).segment } };
 }
 
 impl<B: Block + Drop> AuditedSegment<B> for SegmentState<B> {
     fn learn(&mut self, books: &Books, audit: &mut Audit) {
         SegmentState::learn(self, books, audit);
+    }
+
+    fn note(&mut self, rows: &Rows, kept: &mut KeptAccount) {
+        SegmentState::note(self, rows, kept);
     }
 }
 
@@ -38,11 +52,22 @@ pub trait AuditedShard<B: Block + Drop>: HoldsShard<B> {
         requires ascending { weigh (shard_copy (past (Self.shown self.old).shard)) audit.old.copies ≡ 0 }
         ensures same { Self.shown self.new ≡ Self.shown self.old }
         ensures audit { audit.new ≡ record audit.old { copies = ShardCopy (Self.shown self.old).shard (Self.shown self.old).taken ∷ audit.old.copies } };
+
+    /// Its row is noted as it is now, with it and in the twin of its account.
+    fn note(&mut self, rows: &Rows, kept: &mut KeptAccount)
+        requires rows { kept.old.book ≡ rows.now }
+        requires twin { (Self.shown self.old).part ≡ Some (name_of kept.old) }
+        ensures same { Self.shown self.new ≡ Self.shown self.old }
+        ensures kept { kept.new ≡ record kept.old { row = shard_row (Self.shown self.old).taken } };
 }
 
 impl<B: Block + Drop> AuditedShard<B> for Shard<B> {
     fn learn(&mut self, books: &Books, audit: &mut Audit) {
         Shard::learn(self, books, audit);
+    }
+
+    fn note(&mut self, rows: &Rows, kept: &mut KeptAccount) {
+        Shard::note(self, rows, kept);
     }
 }
 

@@ -9,7 +9,7 @@ use Rattle.image.specs.Node.{Spells}
 use Rattle.image_law.specs.Items.{Among}
 use Rattle.image_law.specs.Parts.{Stored, FileLaw, stored_of, stored_below, subtrees, ticket_at as tree_ticket_at}
 use Rattle.image_law.proofs.Weighing.{of_among-map}
-use Rattle.tree.specs.Change.{TreeNode, each_marked}
+use Rattle.nodes.specs.Change.{TreeNode, each_marked}
 use Rattle.nodes.specs.declared.file.FileState.{FileState}
 use Rattle.nodes.specs.File.{IsFile, address_of, weight_of}
 use Rattle.nodes_law.specs.Nodes.{nodes_below, nodes_of, node_in}

@@ -14,7 +14,7 @@ use Rattle.rights_books.specs.Accounts.{FileView}
 use Rattle.rights_books.specs.Lists.{times}
 use Rattle.rights_books.specs.Sameness.{same_entry}
 use Rattle.rights_books.proofs.Sameness.{entry_self}
-use Rattle.tree.specs.Change.{TreeNode}
+use Rattle.nodes.specs.Change.{TreeNode}
 use Rattle.nodes.specs.declared.file.FileState.{FileState}
 use Rattle.nodes_law.specs.Nodes.{nodes_of}
 use Rattle.nodes_law.proofs.Listing.{nodes_weigh, unmarked_each, written_where_clean}

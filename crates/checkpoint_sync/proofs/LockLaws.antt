@@ -17,6 +17,7 @@ use Rattle.checkpoint_image.specs.PartsLaw.{ArePartsOf, IsFaithfulImage}
 use Rattle.checkpoint_image.proofs.Joining.{if_ok}
 use Rattle.checkpoint_image.proofs.Places.{at_some}
 use Rattle.checkpoint_image.specs.Learning.{AreSegmentsOf, AreShardsOf}
+use Rattle.checkpoint_image.specs.Kept.{AreSegmentParts, AreShardParts}
 use Rattle.checkpoint_sync.specs.LocksHeld.{AreaView, IsHeldArea, AreHeldSegments, AreHeldShards, AreHeldFiles, HasTrees, held_cells, open_in}
 
 -- what is shown at a place is shown by what stands there
@@ -43,8 +44,18 @@ pub shards_of : (book other : TableId) (nodes : ℕ) (shards : List ShardNodes) 
 shards_of book other nodes shards is held = λ k s got.
     let at = held k s (sym (ap (λ (l : List ShardNodes). slice_get l k) (same_shards shards)) ∙ got) in (at.number, at.book_is ∙ sym is)
 
-module _ {F : Type 0} (filed : F → Filed) (geometry : Geometry) (book table : TableId) (area : AreaView) (files : List F)
-    (held : IsHeldArea geometry book table area.segments area.shards area.logs) where
+-- and the parts that their rows are noted for
+pub segment_parts_of : (rows other : TableId) (now segments : List Registered) → now ≡ segments → other ≡ rows → AreSegmentParts rows segments → AreSegmentParts other (map (λ r. r) now)
+segment_parts_of rows other now segments same is parts = subst (λ (book : TableId). AreSegmentParts book (map (λ r. r) now)) (sym is) (subst (AreSegmentParts rows) (sym (same_segments now ∙ same)) parts)
+
+pub shard_parts_of : (rows other : TableId) (geometry number : Geometry) (shards : List ShardNodes) → other ≡ rows → number ≡ geometry → AreShardParts rows geometry.segments shards
+    → AreShardParts other number.segments (map (λ s. s) shards)
+shard_parts_of rows other geometry number shards is same parts =
+    subst (λ (book : TableId). AreShardParts book number.segments (map (λ s. s) shards)) (sym is)
+    (subst (λ (g : Geometry). AreShardParts rows g.segments (map (λ s. s) shards)) (sym same) (subst (AreShardParts rows geometry.segments) (sym (same_shards shards)) parts))
+
+module _ {F : Type 0} (filed : F → Filed) (geometry : Geometry) (book rows table : TableId) (area : AreaView) (files : List F)
+    (held : IsHeldArea geometry book rows table area.segments area.shards area.logs) where
   pub cells_law : All (λ log. IfSome log (IsOpenAt (map (λ (r : Registered). r.segment) area.segments))) (map open_in area.logs) → AllPairs OpenApart (map open_in area.logs)
       → length files ≡ geometry.files → AreHeldFiles geometry (map filed files) → CellsLaw geometry (held_cells filed area files)
   cells_law there apart every are = record {

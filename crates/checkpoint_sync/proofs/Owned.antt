@@ -12,9 +12,9 @@ use Rattle.geometry.specs.declared.path.Path.TheVariants.{Inode, Direct, Indirec
 use Rattle.geometry.specs.Path.{inode_entries, node_entries, largest_length, path}
 use Rattle.geometry.specs.Weights.{weigh}
 use Rattle.tickets.specs.Placed.{Placed}
-use Rattle.tree.specs.declared.branch.Branch.{Branch}
-use Rattle.tree.specs.Tree.{entry_at}
-use Rattle.tree.specs.Change.{Weighing, ticket_weight, of_tickets}
+use Rattle.nodes.specs.declared.branch.Branch.{Branch}
+use Rattle.nodes.specs.Tree.{entry_at}
+use Rattle.nodes.specs.Change.{Weighing, ticket_weight, of_tickets}
 use Rattle.nodes.specs.declared.file.FileState.{FileState}
 use Rattle.nodes.specs.File.{IsFile, below, at_path, ends_at, weight_direct, weight_indirect, weight_double, shaped_direct, shaped_indirect, shaped_double}
 use Rattle.nodes.specs.Owners.{owner_in, owner_at, AreNamed}

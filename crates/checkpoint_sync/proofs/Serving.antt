@@ -3,9 +3,9 @@ use Rattle.std.proofs.Common.{◌≡◌, ℕ, ◌≤◌, sym, ap, ◌∙◌, ari
 use Rattle.geometry.specs.Path.{largest_length}
 use Rattle.rights_books.specs.Accounts.{HandView}
 use Rattle.nodes.specs.declared.file.FileState.{FileState}
-use Rattle.file_calls.specs.Contents.{IsStored, Serves}
-use Rattle.file_calls.proofs.Names.{named_still}
-use Rattle.file_calls.proofs.Serving.{stored_same}
+use Rattle.nodes_law.specs.Contents.{IsStored, Serves}
+use Rattle.nodes_law.proofs.Names.{named_still}
+use Rattle.nodes_law.proofs.Serving.{stored_same}
 use Rattle.file_flush.specs.Flushed.{HasFlushed}
 use Rattle.file_flush.proofs.Steps.{still_held}
 

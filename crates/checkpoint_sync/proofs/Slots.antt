@@ -10,8 +10,8 @@ use Rattle.image.proofs.Frame.{IsOfTable, path_of_table}
 use Rattle.image.proofs.Testing.{path_past}
 use Rattle.image_law.specs.Parts.{data_in, slot_of, ticket_on, ticket_at as tree_ticket_at}
 use Rattle.tickets.specs.Placed.{Placed}
-use Rattle.tree.specs.declared.branch.Branch.{Branch}
-use Rattle.tree.specs.Tree.{entry_at}
+use Rattle.nodes.specs.declared.branch.Branch.{Branch}
+use Rattle.nodes.specs.Tree.{entry_at}
 use Rattle.nodes.specs.declared.file.FileState.{FileState}
 use Rattle.nodes.specs.File.{IsFile, below, address_of, ends_at, ticket_at}
 use Rattle.nodes.proofs.Paths.{path_is}

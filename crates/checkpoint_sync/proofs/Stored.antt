@@ -6,9 +6,9 @@ use Rattle.std.specs.List.{flat_map}
 use Rattle.image_law.specs.Parts.{Tree, Stored, each, nid_of as tree_nid, stored_in, inode_node, stored_of}
 use Rattle.geometry.specs.declared.kind.Kind.TheVariants.{File}
 use Rattle.tickets.specs.Placed.{Placed}
-use Rattle.tree.specs.declared.branch.Branch.{Branch}
-use Rattle.tree.specs.Tree.{entry_at}
-use Rattle.tree.specs.Change.{TreeNode}
+use Rattle.nodes.specs.declared.branch.Branch.{Branch}
+use Rattle.nodes.specs.Tree.{entry_at}
+use Rattle.nodes.specs.Change.{TreeNode}
 use Rattle.nodes.specs.declared.file.FileState.{FileState}
 use Rattle.nodes.specs.File.{IsFile, inode_of, nid_of}
 use Rattle.nodes_law.specs.Nodes.{direct_nodes, indirect_nodes, double_nodes, nodes_of, node_in}

@@ -10,9 +10,9 @@ use Rattle.image.specs.Walk.{data_names}
 use Rattle.image_law.specs.Parts.{Token, Stored, token_at, tickets_at, tokens_of, tickets_of, stored_of}
 use Rattle.image_law.proofs.Weighing.{weigh-map, weigh-flat_map, weigh_same_among}
 use Rattle.tickets.specs.Placed.{Placed}
-use Rattle.tree.specs.declared.branch.Branch.{Branch}
-use Rattle.tree.specs.Tree.{entry_at}
-use Rattle.tree.specs.Change.{TreeNode, Weighing, ticket_weight, of_tickets, of_tokens}
+use Rattle.nodes.specs.declared.branch.Branch.{Branch}
+use Rattle.nodes.specs.Tree.{entry_at}
+use Rattle.nodes.specs.Change.{TreeNode, Weighing, ticket_weight, of_tickets, of_tokens}
 use Rattle.nodes.specs.declared.file.FileState.{FileState}
 use Rattle.nodes.specs.File.{IsFile, address_of, weight_direct, weight_indirect, weight_double, weight_of}
 use Rattle.nodes_law.specs.Nodes.{direct_nodes, indirect_nodes, double_nodes, nodes_of}

@@ -3,7 +3,7 @@ use Rattle.std.specs.Prelude.{◌≡◌, ◌≤◌, ℕ, [], Option, Some, None}
 use Rattle.geometry.specs.declared.geometry.Geometry.{Geometry}
 use Rattle.geometry.specs.Path.{largest_length}
 use Rattle.rights_books.specs.Accounts.{FileView}
-use Rattle.tree.specs.Change.{each_marked}
+use Rattle.nodes.specs.Change.{each_marked}
 use Rattle.nodes.specs.declared.file.FileState.{FileState}
 use Rattle.nodes.specs.File.{IsFile, weight_of}
 use Rattle.nodes.specs.Held.{AreHeld}

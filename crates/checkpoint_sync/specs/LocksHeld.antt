@@ -12,6 +12,7 @@ use Rattle.nat.specs.Table.{IsShardAt}
 use Rattle.area.specs.Cells.{LogStands}
 use Rattle.checkpoint_image.specs.Cells.{Cells, Filed, IsSegmentAt, IsFiledAt}
 use Rattle.checkpoint_image.specs.Held.{cells_in}
+use Rattle.checkpoint_image.specs.Kept.{AreSegmentParts, AreShardParts}
 
 -- the segment of this number under its law, of these books and words
 pub record IsHeldSegment (geometry : Geometry) (book table : TableId) (number : ℕ) (r : Registered) : Type 0 where
@@ -45,12 +46,14 @@ pub record AreaView : Type 0 where
   pub shards : List ShardNodes
   pub logs : List LogView
 
--- all of them, from 0 on, each under its law
-pub record IsHeldArea (geometry : Geometry) (book table : TableId) (segments : List Registered) (shards : List ShardNodes) (logs : List LogView) : Type 0 where
+-- all of them, from 0 on, each under its law and with the part that its row is noted for
+pub record IsHeldArea (geometry : Geometry) (book rows table : TableId) (segments : List Registered) (shards : List ShardNodes) (logs : List LogView) : Type 0 where
   pub every_segment : length segments ≡ geometry.segments
   pub segments_are : AreHeldSegments geometry book table segments
+  pub segment_parts : AreSegmentParts rows segments
   pub every_shard : length shards ≡ 16
   pub shards_are : AreHeldShards book geometry.nodes shards
+  pub shard_parts : AreShardParts rows geometry.segments shards
   pub every_log : length logs ≡ 6
   pub logs_are : AreHeldLogs table geometry.segments logs
 

@@ -5,9 +5,9 @@ use Rattle.image_law.specs.Items.{Among}
 use Rattle.image_law.specs.Parts.{Token, Tree, Stored, FileTree, stored_of}
 use Rattle.rights_books.specs.declared.claim.Entry.{Entry}
 use Rattle.tickets.specs.Placed.{Placed}
-use Rattle.tree.specs.declared.branch.Branch.{Branch}
-use Rattle.tree.specs.Tree.{entry_at}
-use Rattle.tree.specs.Change.{TreeNode}
+use Rattle.nodes.specs.declared.branch.Branch.{Branch}
+use Rattle.nodes.specs.Tree.{entry_at}
+use Rattle.nodes.specs.Change.{TreeNode}
 use Rattle.nodes.specs.declared.file.FileState.{FileState}
 use Rattle.nodes.specs.File.{address_of}
 use Rattle.nodes_law.specs.Nodes.{node_in}

@@ -4,7 +4,7 @@ ghost use Rattle.checkpoint_image.specs.Cells.{OpenApart};
 ghost use Rattle.checkpoint_sync.specs.LocksHeld.{open_in};
 
 use crate::log::HeldLog;
-use rights_names::VolumeName;
+use rights_permits::VolumeName;
 use words::Words;
 
 /// Shows it of all logs, the last one first. Nothing changes, and it takes no memory.

@@ -1,7 +1,7 @@
 //! The marked nodes of the file in a lock are written.
 ghost use Rattle.std.specs.Prelude.{◌≡◌, ◌⊎◌, OnOk, IfErr};
 ghost use Rattle.geometry.specs.declared.error.Error.TheVariants.{NoSpace, Device};
-ghost use Rattle.tree.specs.Change.{each_marked};
+ghost use Rattle.nodes.specs.Change.{each_marked};
 ghost use Rattle.nodes.specs.File.{weight_of, file_of};
 ghost use Rattle.rights_permits.specs.Turns.{at_home};
 ghost use Rattle.file_cells.specs.Cell.{IsLodged};
@@ -14,7 +14,7 @@ use file_flush::{FlushBuffer, flush_file};
 use geometry::Error;
 use nodes::FileState;
 use rights_books::{FileAccount, Permit};
-use rights_names::VolumeName;
+use rights_permits::VolumeName;
 use std::sync::Wait;
 
 /// Writes each marked node of the file, as `flush_file` does. What the file is stays, whatever is answered.

@@ -15,7 +15,7 @@ use file_flush::FlushBuffer;
 use geometry::Error;
 use nodes::FileState;
 use rights_books::{Audit, Books, Permit};
-use rights_names::VolumeName;
+use rights_permits::VolumeName;
 use std::marker::Model;
 use std::sync::{MutexGuard, Wait};
 

@@ -13,7 +13,7 @@ use checkpoint_image::TakenImage;
 use device::Block;
 use file_cells::FilePass;
 use rights_books::{Audit, Books};
-use rights_names::VolumeName;
+use rights_permits::VolumeName;
 
 // An image, which has the trees of all files, and with it the file of each pass, the last one first.
 pub(crate) fn add_files<'a, 'g, V: VolumeName + 'a, B: Block + Drop + 'a>(

@@ -7,7 +7,7 @@ use crate::segment::HeldSegment;
 use crate::shard::HeldShard;
 use area::Unsettled;
 use device::Block;
-use rights_names::VolumeName;
+use rights_permits::VolumeName;
 use std::marker::Model;
 
 /// All that lies under the locks of a main area: its segments, the shards of the node numbers, and its logs, each in the
@@ -25,7 +25,7 @@ impl<'a, V: VolumeName, B: Block + Drop + 'a> Model for HeldArea<'a, V, B> {
 
     ghost view = { λ a. record { segments = a.segments.items; shards = a.shards.items; logs = a.logs.items } };
 
-    ghost invariant = { λ a. IsHeldArea V.Numbers.geometry V.Books.books.book V.Words.words a.segments.items a.shards.items a.logs.items };
+    ghost invariant = { λ a. IsHeldArea V.Numbers.geometry V.Books.books.book V.Books.rows V.Words.words a.segments.items a.shards.items a.logs.items };
 }
 
 impl<'a, V: VolumeName, B: Block + Drop + 'a> HeldArea<'a, V, B> {

@@ -1,6 +1,7 @@
 //! All locks of a main area are taken.
 ghost use Rattle.std.specs.Prelude.{◌≡◌, ◌≤◌, length, vec_len, vec_capacity, IfErr};
 ghost use Rattle.geometry.specs.declared.error.Error.TheVariants.{NoMemory};
+ghost use Rattle.checkpoint_image.specs.Kept.{AreSegmentParts, AreShardParts};
 ghost use Rattle.checkpoint_sync.specs.LocksHeld.{AreHeldSegments, AreHeldShards, AreHeldLogs};
 
 use crate::locked_area::HeldArea;
@@ -10,7 +11,7 @@ use crate::shard::HeldShard;
 use area::MainArea;
 use device::Block;
 use geometry::Error;
-use rights_names::VolumeName;
+use rights_permits::VolumeName;
 use std::alloc::Global;
 use std::sync::Wait;
 
@@ -45,6 +46,7 @@ fn lock_shards<'a, V: VolumeName, B: Block + Drop + 'a, R: Wait>(
     requires room { 16 ≤ vec_capacity shards }
     ensures every { length result.items ≡ 16 }
     ensures shards { AreHeldShards V.Books.books.book V.Numbers.geometry.nodes result.items }
+    ensures parts { AreShardParts V.Books.rows V.Numbers.geometry.segments result.items }
 {
     for number in 0..16u32 {
         shards.push_reserved(HeldShard::lock(rt, area, number));
@@ -77,6 +79,7 @@ fn lock_segments<'a, V: VolumeName, B: Block + Drop + 'a, R: Wait>(
     requires room { V.Numbers.geometry.segments ≤ vec_capacity segments }
     ensures every { length result.items ≡ V.Numbers.geometry.segments }
     ensures segments { AreHeldSegments V.Numbers.geometry V.Books.books.book V.Words.words result.items }
+    ensures parts { AreSegmentParts V.Books.rows result.items }
 {
     for number in 0..area.geometry().segments {
         segments.push_reserved(HeldSegment::lock(rt, area, number));

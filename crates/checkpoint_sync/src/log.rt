@@ -7,7 +7,7 @@ ghost use Rattle.checkpoint_sync.specs.LocksHeld.{IsHeldLog, open_in, opened_by}
 use area::{LogCell, MainArea};
 use checkpoint_image::HoldsLog;
 use device::Block;
-use rights_names::VolumeName;
+use rights_permits::VolumeName;
 use std::marker::Model;
 use std::sync::{MutexGuard, Wait};
 use words::{StoredOpenSlip, Words};

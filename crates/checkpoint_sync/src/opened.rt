@@ -7,7 +7,7 @@ use crate::log::HeldLog;
 use crate::segment::HeldSegment;
 use checkpoint_image::HoldsLog;
 use device::Block;
-use rights_names::VolumeName;
+use rights_permits::VolumeName;
 use words::Words;
 
 /// Shows it of all logs. Nothing changes, and it takes no memory.

@@ -11,7 +11,7 @@ use file_cells::FileCell;
 use file_flush::FlushBuffer;
 use geometry::Error;
 use rights_books::Permit;
-use rights_names::VolumeName;
+use rights_permits::VolumeName;
 use std::alloc::Global;
 use std::sync::{Mutex, Wait};
 

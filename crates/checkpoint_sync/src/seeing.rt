@@ -11,7 +11,7 @@ ghost use Rattle.image_law.specs.Items.{Among};
 ghost use Rattle.image_law.specs.Parts.{Token, Stored, FileLaw, stored_of, tickets_of, tokens_of, ticket_at as tree_ticket_at};
 ghost use Rattle.image_law.specs.Contents.{content_of};
 ghost use Rattle.checkpoint.specs.Files.{IsStateOf, HoldContents};
-ghost use Rattle.tree.specs.Change.{TreeNode, of_tickets, of_tokens, each_marked};
+ghost use Rattle.nodes.specs.Change.{TreeNode, of_tickets, of_tokens, each_marked};
 ghost use Rattle.nodes.specs.File.{IsFile, address_of, ticket_at, weight_of, file_of};
 ghost use Rattle.nodes.specs.Owners.{AreNamed};
 ghost use Rattle.nodes_law.specs.Nodes.{nodes_of};

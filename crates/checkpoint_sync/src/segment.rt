@@ -10,8 +10,8 @@ use area::{MainArea, SegmentCell, Turn};
 use checkpoint_image::{AuditedSegment, HoldsSegment};
 use device::Block;
 use geometry::State;
-use rights_books::{Audit, Books};
-use rights_names::VolumeName;
+use rights_books::{Audit, Books, KeptAccount, Rows};
+use rights_permits::VolumeName;
 use sit::SegmentState;
 use std::marker::Model;
 use std::sync::{MutexGuard, Wait};
@@ -42,7 +42,8 @@ impl<'a, V: VolumeName, B: Block + Drop + 'a> HeldSegment<'a, V, B> {
     /// Locks the segment of this number.
     pub fn lock<R: Wait>(rt: &R, area: &'a MainArea<V, B>, number: u32) -> HeldSegment<'a, V, B>
         requires { number < V.Numbers.geometry.segments }
-        ensures { IsHeldSegment V.Numbers.geometry V.Books.books.book V.Words.words number result }
+        ensures held { IsHeldSegment V.Numbers.geometry V.Books.books.book V.Words.words number result }
+        ensures part { result.part ≡ Some (record { book = V.Books.rows; number = number }) }
     {
         let cell = area.lock_segment(rt, number);
         cell.state.law();
@@ -84,5 +85,9 @@ impl<'a, V: VolumeName, B: Block + Drop + 'a> HoldsSegment<B> for HeldSegment<'a
 impl<'a, V: VolumeName, B: Block + Drop + 'a> AuditedSegment<B> for HeldSegment<'a, V, B> {
     fn learn(&mut self, books: &Books, audit: &mut Audit) {
         self.cell.state.learn(books, audit);
+    }
+
+    fn note(&mut self, rows: &Rows, kept: &mut KeptAccount) {
+        self.cell.state.note(rows, kept);
     }
 }

@@ -1,13 +1,13 @@
 //! A shard of the node numbers whose lock is held.
-ghost use Rattle.std.specs.Prelude.{◌≡◌, ◌<◌};
+ghost use Rattle.std.specs.Prelude.{◌≡◌, ◌<◌, ◌+◌, Some};
 ghost use Rattle.nat.specs.Table.{IsShardAt};
 
 use area::{MainArea, ShardCell};
 use checkpoint_image::{AuditedShard, HoldsShard};
 use device::Block;
 use nat::Shard;
-use rights_books::{Audit, Books};
-use rights_names::VolumeName;
+use rights_books::{Audit, Books, KeptAccount, Rows};
+use rights_permits::VolumeName;
 use std::marker::Model;
 use std::sync::{MutexGuard, Wait};
 
@@ -36,7 +36,8 @@ impl<'a, V: VolumeName, B: Block + Drop + 'a> HeldShard<'a, V, B> {
     /// Locks the shard of this number.
     pub fn lock<R: Wait>(rt: &R, area: &'a MainArea<V, B>, number: u32) -> HeldShard<'a, V, B>
         requires { number < 16 }
-        ensures { IsShardAt V.Books.books.book V.Numbers.geometry.nodes number result }
+        ensures held { IsShardAt V.Books.books.book V.Numbers.geometry.nodes number result }
+        ensures part { result.part ≡ Some (record { book = V.Books.rows; number = V.Numbers.geometry.segments + number }) }
     {
         HeldShard {
             cell: area.lock_shard(rt, number),
@@ -55,5 +56,9 @@ impl<'a, V: VolumeName, B: Block + Drop + 'a> HoldsShard<B> for HeldShard<'a, V,
 impl<'a, V: VolumeName, B: Block + Drop + 'a> AuditedShard<B> for HeldShard<'a, V, B> {
     fn learn(&mut self, books: &Books, audit: &mut Audit) {
         self.cell.shard.learn(books, audit);
+    }
+
+    fn note(&mut self, rows: &Rows, kept: &mut KeptAccount) {
+        self.cell.shard.note(rows, kept);
     }
 }

@@ -6,8 +6,8 @@ use Rattle.geometry.specs.declared.shape.Shape.{Shape}
 use Rattle.geometry.specs.Shape.{block_bytes}
 use Rattle.rights_books.specs.declared.claim.Entry.{Entry}
 use Rattle.rights_books.specs.Rules.{moved_to}
-use Rattle.tree.specs.Change.{TreeNode, of_tickets, of_tokens}
-use Rattle.tree_walks.specs.Moving.{MovesOne, moved_node}
+use Rattle.nodes.specs.Change.{TreeNode, of_tickets, of_tokens}
+use Rattle.nodes_walks.specs.Moving.{MovesOne, moved_node}
 use Rattle.nodes.specs.declared.file.FileState.{FileState}
 use Rattle.nodes.specs.File.{inode_of, below_weight, weight_of}
 use Rattle.image_law.specs.Items.{Among}

@@ -4,7 +4,7 @@ use Rattle.std.proofs.Common.{◌≡◌, ℕ, ◌+◌, ◌-◌, ◌*◌, ◌/◌
 use Rattle.std.specs.Prelude.{◌⊎◌, ◌≢◌, ◌≤◌, MatchOption, replicate}
 use Rattle.geometry.specs.declared.owner.Owner.{Owner}
 use Rattle.geometry.specs.Path.{inode_entries, node_entries, largest_length, path}
-use Rattle.tree.specs.declared.branch.Branch.{Branch}
+use Rattle.nodes.specs.declared.branch.Branch.{Branch}
 use Rattle.std.proofs.lemmas.Bool.{cases_eq}
 use Rattle.geometry.specs.Weights.{weigh}
 use Rattle.geometry.specs.Shape.{block_bytes}
@@ -19,13 +19,13 @@ use Rattle.rights_books.specs.Sameness.{same_entry}
 use Rattle.rights_books.proofs.Sameness.{entry_self}
 use Rattle.rights_books.proofs.Steps.{without_entry, without_mark_first}
 use Rattle.tickets.specs.Placed.{Placed}
-use Rattle.tree.specs.Tree.{SetsAt, Same, only_at_zero, entry_at, find_below, missing_below, missing_in}
+use Rattle.nodes.specs.Tree.{SetsAt, Same, only_at_zero, entry_at, find_below, missing_below, missing_in}
 use Rattle.nodes.specs.Marks.{MarksNode, lengthened}
 use Rattle.geometry.specs.Mark.{same_mark}
 use Rattle.geometry.specs.File.{written}
-use Rattle.tree.specs.Change.{TreeNode, ticket_weight, of_tickets, of_tokens, unnumbered}
-use Rattle.tree_walks.specs.Writing.{IsAmong}
-use Rattle.tree_walks.specs.Moving.{MovesOne}
+use Rattle.nodes.specs.Change.{TreeNode, ticket_weight, of_tickets, of_tokens, unnumbered}
+use Rattle.nodes_walks.specs.Writing.{IsAmong}
+use Rattle.nodes_walks.specs.Moving.{MovesOne}
 use Rattle.nodes.specs.declared.file.FileState.{FileState}
 use Rattle.nodes.specs.File.{IsFile, Shows, ticket_at, address_of, missing_to, content_of, weight_of, file_of, joined, find_direct, find_indirect, find_double, missing_direct, missing_indirect, missing_double, in_tickets, in_direct, in_indirect, in_double}
 use Rattle.nodes.specs.Held.{Others}
@@ -36,9 +36,9 @@ use Rattle.geometry.specs.Owner.{IsOwner}
 use Rattle.nodes.specs.Owners.{owner_at, namer_at, HasNumbers}
 use Rattle.nodes.proofs.Numbered.{owner_valid}
 use Rattle.nodes_law.specs.Law.{ragged, FileStateLaw}
-use Rattle.file_calls.specs.Contents.{IsStored, InHand, Serves}
-use Rattle.file_calls.proofs.Names.{named_still}
-use Rattle.file_calls.proofs.Serving.{stored_same, serves_not, first_ticket, with_ticket, less_ticket, serves_over, over_there}
+use Rattle.nodes_law.specs.Contents.{IsStored, InHand, Serves}
+use Rattle.nodes_law.proofs.Names.{named_still}
+use Rattle.nodes_law.proofs.Serving.{stored_same, serves_not, first_ticket, with_ticket, less_ticket, serves_over, over_there}
 use Rattle.cleaning.specs.declared.fate.Fate.{Fate}
 use Rattle.cleaning.specs.declared.fate.Fate.TheVariants.{Moved, Gone}
 use Rattle.cleaning.specs.Moves.{IsMovable, MovesToken, MovesAt, KeepsWeights}

@@ -4,7 +4,7 @@ use Rattle.nodes.specs.declared.file.FileState.{FileState}
 use Rattle.nodes.specs.File.{file_of}
 use Rattle.nodes.specs.Useful.{IsUseful, each_node}
 use Rattle.nodes_law.specs.Law.{FileStateLaw}
-use Rattle.file_calls.specs.Contents.{IsStored}
+use Rattle.nodes_law.specs.Contents.{IsStored}
 use Rattle.cleaning.specs.Served.{HasServed}
 use Rattle.cleaning.proofs.Moving.{serves_stays}
 

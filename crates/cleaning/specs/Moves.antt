@@ -10,10 +10,10 @@ use Rattle.rights_books.specs.Lists.{times, without}
 use Rattle.rights_books.specs.Sameness.{same_entry}
 use Rattle.rights_books.specs.Rules.{moved_to}
 use Rattle.tickets.specs.Placed.{Placed}
-use Rattle.tree.specs.Tree.{SetsAt}
-use Rattle.tree.specs.Change.{TreeNode, Weighing, of_tickets, each_naming}
-use Rattle.tree_walks.specs.Writing.{IsAmong}
-use Rattle.tree_walks.specs.Moving.{MovesOne, each_numbered}
+use Rattle.nodes.specs.Tree.{SetsAt}
+use Rattle.nodes.specs.Change.{TreeNode, Weighing, of_tickets, each_naming}
+use Rattle.nodes_walks.specs.Writing.{IsAmong}
+use Rattle.nodes_walks.specs.Moving.{MovesOne, each_numbered}
 use Rattle.nodes.specs.declared.file.FileState.{FileState}
 use Rattle.nodes.specs.File.{ticket_at, weight_of}
 use Rattle.nodes_law.specs.Law.{ragged}

@@ -9,7 +9,7 @@ use Rattle.nodes.specs.File.{file_of}
 use Rattle.nodes.specs.Held.{Others}
 use Rattle.nodes.specs.Useful.{IsUseful, each_node}
 use Rattle.nodes_law.specs.Law.{FileStateLaw}
-use Rattle.file_calls.specs.Contents.{IsStored, InHand, Serves}
+use Rattle.nodes_law.specs.Contents.{IsStored, InHand, Serves}
 
 module _ {B L : Type 0} where
   -- a lawful file of the volume, with what is lodged in it in hand; an address, and room for a block

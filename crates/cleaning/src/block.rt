@@ -18,10 +18,18 @@ use geometry::{Error, Mark, Owner};
 use nodes::FileState;
 use nodes_walks::index_of;
 use rights_books::Permit;
-use rights_names::VolumeName;
+use rights_permits::VolumeName;
 use std::sync::Wait;
 
-/// Moves a data block of a file, where the node `nid` still names this address at this slot: its bytes are read and appended to
+/// A data block as its summary tells of it: where it stands, and the node and the slot there that named it.
+#[derive(Clone, Copy)]
+pub struct DataBlock {
+    pub address: u32,
+    pub nid: u32,
+    pub slot: u32,
+}
+
+/// Moves a data block of a file, where its node still names its address at its slot: its bytes are read and appended to
 /// the log of data that cleaning has moved, and the slot gets the new block; the old one is given back. The file stays as
 /// it was, whatever the call answers. `bytes` has room for one block.
 ///
@@ -32,19 +40,18 @@ pub fn migrate_block<V: VolumeName, B: Block + Drop, R: Wait>(
     area: &MainArea<V, B>,
     hand: &mut Permit,
     file: &mut FileState<B>,
-    address: u32,
-    nid: u32,
-    slot: u32,
+    block: DataBlock,
     now: u64,
     bytes: &mut [u8],
 ) -> Result<Fate, Error>
-    requires file { CanMove V.Numbers.geometry V.Books.books.book address file.old hand.old bytes.old }
+    requires file { CanMove V.Numbers.geometry V.Books.books.book block.address file.old hand.old bytes.old }
     ensures served { HasServed V.Numbers.geometry.files file.old file.new hand.old hand.new }
-    ensures moved { IfOk result (λ fate. fate ≡ Moved → HasMoved address (Data nid slot) file.old file.new) }
-    ensures gone { IfOk result (λ fate. fate ≡ Gone → IsGone address (Data nid slot) file.old × (file.new ≡ file.old) × (hand.new ≡ hand.old)) }
+    ensures moved { IfOk result (λ fate. fate ≡ Moved → HasMoved block.address (Data block.nid block.slot) file.old file.new) }
+    ensures gone { IfOk result (λ fate. fate ≡ Gone → IsGone block.address (Data block.nid block.slot) file.old × (file.new ≡ file.old) × (hand.new ≡ hand.old)) }
     ensures err { OnErr result ((file.new ≡ file.old) × (hand.new ≡ hand.old)) }
     ensures error { IfErr result (λ error. (error ≡ Device) ⊎ (error ≡ NoSpace)) }
 {
+    let DataBlock { address, nid, slot } = block;
     match index_of(file, nid, slot, address) {
         Some(index) => {
             let owner = Owner::Data(nid, slot);

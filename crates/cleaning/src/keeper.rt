@@ -6,12 +6,12 @@ ghost use Rattle.nodes.specs.File.{file_of};
 ghost use Rattle.nodes.specs.Held.{Others};
 ghost use Rattle.nodes.specs.Useful.{IsUseful, each_node};
 ghost use Rattle.nodes_law.specs.Law.{FileStateLaw};
-ghost use Rattle.file_calls.specs.Contents.{IsStored, InHand, Serves};
+ghost use Rattle.nodes_law.specs.Contents.{IsStored, InHand, Serves};
 ghost use Rattle.rights_permits.specs.Turns.{at_home};
 ghost use Rattle.cleaning.specs.Moves.{HasMoved, IsGone, KeepsWeights};
 ghost use Rattle.cleaning.specs.declared.fate.Fate.TheVariants.{Moved, Gone};
 
-use crate::block::migrate_block;
+use crate::block::{DataBlock, migrate_block};
 use crate::fate::Fate;
 use crate::node::migrate_node;
 use area::MainArea;
@@ -19,7 +19,7 @@ use device::Block;
 use geometry::{Error, Owner};
 use nodes::FileState;
 use rights_books::Permit;
-use rights_names::VolumeName;
+use rights_permits::VolumeName;
 use std::sync::Wait;
 
 /// The files of a volume, each under a lock of its own.
@@ -73,7 +73,8 @@ pub fn migrate<V: VolumeName, B: Block + Drop, R: Wait>(
 {
     match owner {
         Owner::Data(nid, slot) => {
-            migrate_block(rt, area, hand, file, address, nid, slot, now, bytes)
+            let block = DataBlock { address, nid, slot };
+            migrate_block(rt, area, hand, file, block, now, bytes)
         }
         Owner::Node(nid) => migrate_node(rt, area, hand, file, address, nid, now, bytes),
     }

@@ -13,7 +13,7 @@ mod policy;
 mod section;
 mod survey;
 
-pub use block::migrate_block;
+pub use block::{DataBlock, migrate_block};
 pub use fate::{Counts, Fate};
 pub use keeper::{Files, migrate};
 pub use node::migrate_node;

@@ -15,12 +15,11 @@ use area::{Log, MainArea, log_for};
 use device::Block;
 use geometry::{Class, Error, Kind, Mark, Owner};
 use nodes::FileState;
-use nodes_walks::visit_node;
+use nodes_walks::{NodeVisitor, visit_node};
 use rights_books::Permit;
-use rights_names::VolumeName;
+use rights_permits::VolumeName;
 use std::sync::Wait;
 use tickets::NidToken;
-use tree_walks::NodeVisitor;
 
 /// Moves the block of a node of a file, where the file still has a node of this number and its block is at this address:
 /// the bytes are read and appended to the log of the node's class, and the node's entry and token get the new block; the

@@ -9,7 +9,7 @@ use area::{Log, MainArea, Who};
 use device::Block;
 use geometry::{Error, Mark};
 use rights_books::Permit;
-use rights_names::VolumeName;
+use rights_permits::VolumeName;
 use std::sync::Wait;
 use tickets::Ticket;
 

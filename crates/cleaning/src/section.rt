@@ -12,9 +12,9 @@ use crate::policy::{Policy, choose};
 use crate::survey::Survey;
 use area::{MainArea, Threading};
 use device::Block;
-use geometry::{Error, Owner};
+use geometry::{Error, Mark, Owner};
 use rights_books::Permit;
-use rights_names::VolumeName;
+use rights_permits::VolumeName;
 use std::alloc::Global;
 use std::sync::Wait;
 use victim::Row;
@@ -136,8 +136,11 @@ fn clean_segment<V: VolumeName, B: Block + Drop, F: Files<V>, R: Wait>(
     let mut counts = Counts::NONE;
     let mut from = 0;
     'offsets: while let Some((offset, owner)) = next_block(rt, area, number, from) {
-        let address = geometry.address_of(number, offset);
-        match move_named(rt, area, files, hand, address, owner, now, bytes) {
+        let mark = Mark {
+            address: geometry.address_of(number, offset),
+            owner,
+        };
+        match move_named(rt, area, files, hand, mark, now, bytes) {
             Ok(fate) => counts = counts.with(fate),
             Err(Error::NoSpace) if area.threading() == Threading::WhileReserveIsFull => break,
             Err(error) => return Err(error),
@@ -163,29 +166,28 @@ fn next_block<V: VolumeName, B: Block + Drop, R: Wait>(
     Some((offset, owner))
 }
 
-// Moves a block of the file that its owner is of, if there is one.
+// Moves the block of this mark, of the file that its owner is of, if there is one.
 fn move_named<V: VolumeName, B: Block + Drop, F: Files<V>, R: Wait>(
     rt: &R,
     area: &MainArea<V, B>,
     files: &F,
     hand: &mut Permit,
-    address: u32,
-    owner: Owner,
+    mark: Mark,
     now: u64,
     bytes: &mut [u8],
 ) -> Result<Fate, Error>
     requires home { hand.old ≡ at_home V.Books.books.book }
-    requires address { 0 < address }
+    requires address { 0 < mark.address }
     requires bytes { length bytes.old ≡ block_bytes V.Numbers.geometry.shape }
     ensures hand { hand.new ≡ hand.old }
     ensures error { IfErr result (λ error. (error ≡ Device) ⊎ (error ≡ NoSpace)) }
 {
-    let nid = match owner {
+    let nid = match mark.owner {
         Owner::Node(nid) => nid,
         Owner::Data(nid, _) => nid,
     };
     match area.locate(rt, nid) {
-        Some((inode, _)) => files.migrate(rt, hand, inode, address, owner, now, bytes),
+        Some((inode, _)) => files.migrate(rt, hand, inode, mark.address, mark.owner, now, bytes),
         None => Ok(Fate::Gone),
     }
 }

@@ -7,7 +7,7 @@ ghost use Rattle.cleaning.specs.Cleaning.{AreRows, IsRowOf, section_count};
 use area::MainArea;
 use device::Block;
 use geometry::{Error, State};
-use rights_names::VolumeName;
+use rights_permits::VolumeName;
 use sit::SegmentRow;
 use std::alloc::Global;
 use std::sync::Wait;

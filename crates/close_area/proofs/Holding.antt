@@ -14,13 +14,13 @@ use Rattle.rights_books.proofs.Steps.{without_entry}
 use Rattle.checkpoint.specs.Files.{HoldContents}
 use Rattle.nat.specs.Taken.{placed_of}
 use Rattle.tickets.specs.Placed.{Placed}
-use Rattle.tree.specs.Tree.{SetsAt, Same, EmptyFrom}
-use Rattle.tree.specs.Change.{of_tickets, of_tokens}
+use Rattle.nodes.specs.Tree.{SetsAt, Same, EmptyFrom}
+use Rattle.nodes.specs.Change.{of_tickets, of_tokens}
 use Rattle.nodes.specs.declared.file.FileState.{FileState}
 use Rattle.nodes.specs.File.{IsBare, ticket_at}
 use Rattle.nodes.specs.Held.{AreHeldBeside, no_others}
 use Rattle.nodes.proofs.Held.{bare_weighs, root_there}
-use Rattle.file_calls.specs.Contents.{InHand}
+use Rattle.nodes_law.specs.Contents.{InHand}
 use Rattle.rights_permits.specs.Turns.{at_home}
 use Rattle.close_area.specs.HeldTokens.{HoldTokens}
 

@@ -22,8 +22,7 @@ use checkpoint_image::TakenImage;
 use device::Block;
 use file_cells::FilePass;
 use rights_books::FileAccount;
-use rights_names::VolumeName;
-use rights_permits::AllPermits;
+use rights_permits::{AllPermits, VolumeName};
 use std::sync::Wait;
 
 /// All blocks of a main area in the order of their addresses, where each file that lives has its pass here. An image that was

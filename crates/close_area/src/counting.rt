@@ -4,7 +4,7 @@ ghost use Rattle.close_area.specs.Returned.{living};
 
 use crate::written::WrittenFile;
 use device::Block;
-use rights_names::VolumeName;
+use rights_permits::VolumeName;
 
 /// How many of the files live.
 pub fn count_living<V: VolumeName, B: Block + Drop>(files: &Vec<WrittenFile<V, B>>) -> usize

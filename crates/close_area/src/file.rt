@@ -5,7 +5,7 @@ ghost use Rattle.checkpoint.specs.Files.{HoldContents};
 ghost use Rattle.nodes.specs.File.{IsBare};
 ghost use Rattle.nodes.specs.Held.{no_others};
 ghost use Rattle.nodes_law.specs.Law.{FileStateLaw};
-ghost use Rattle.file_calls.specs.Contents.{IsStored, InHand, Serves};
+ghost use Rattle.nodes_law.specs.Contents.{IsStored, InHand, Serves};
 ghost use Rattle.rights_permits.specs.Turns.{at_home};
 ghost use Rattle.area_emptying.specs.Home.{AreAtHome};
 ghost use Rattle.close_area.specs.HeldTokens.{HoldTokens};
@@ -13,10 +13,9 @@ ghost use Rattle.close_area.specs.HeldTokens.{HoldTokens};
 use crate::node::return_node;
 use area_emptying::OwnedArea;
 use device::Block;
-use nodes::FileState;
+use nodes::{FileState, Spare};
 use rights_books::Permit;
-use rights_names::VolumeName;
-use tree::Spare;
+use rights_permits::VolumeName;
 
 /// Gives back a file with all that it has, its inode's number too: each of its blocks is at home then, with the bytes that the
 /// file's tickets and tokens show. It takes no memory, and is never refused.

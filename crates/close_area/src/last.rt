@@ -1,7 +1,7 @@
 //! The last checkpoint of a volume, which nobody shares any more.
 ghost use Rattle.std.specs.Prelude.{◌≡◌, ◌⊎◌, ◌+◌, ◌≤◌, true, false, [], map, vec_len, vec_capacity, OnOk, IfOk, IfErr};
 ghost use Rattle.geometry.specs.declared.error.Error.TheVariants.{Device};
-ghost use Rattle.packs_format.specs.Holding.{HoldsTables};
+ghost use Rattle.pack_tables.specs.Holding.{HoldsTables};
 ghost use Rattle.device.specs.Disk.{Leaves};
 ghost use Rattle.checkpoint.specs.Holding.{WasWrittenOver};
 ghost use Rattle.checkpoint_sync.specs.FileParts.{filed_of};
@@ -26,8 +26,7 @@ use device::{Block, Meta};
 use file_cells::FileCell;
 use file_flush::FlushBuffer;
 use geometry::{Error, Geometry};
-use rights_names::VolumeName;
-use rights_permits::{AllPermits, Auditing};
+use rights_permits::{AllPermits, Auditing, VolumeName};
 use std::alloc::Global;
 use std::sync::{Mutex, Wait};
 
@@ -163,7 +162,15 @@ fn store_image<V: VolumeName, M: Meta, B: Block + Drop, R: Wait>(
     let mut unsettled = Unsettled {
         turns: Vec::new(alloc),
     };
-    let image = take_image(rt, alloc, area, files, auditing, version, &mut unsettled);
+    let image = take_image(
+        rt,
+        area,
+        files,
+        auditing,
+        version,
+        &mut packs.body,
+        &mut unsettled,
+    );
     tell_written(files);
     let image = image?;
     // What was counted under the locks is not known of the files that came out of them, so they are counted again.

@@ -4,7 +4,7 @@ ghost use Rattle.std.specs.Prelude.{◌≡◌, ◌+◌, ◌≤◌, vec_len, vec_
 use crate::written::WrittenFile;
 use device::Block;
 use file_cells::FileCell;
-use rights_names::VolumeName;
+use rights_permits::VolumeName;
 use std::sync::{Mutex, Wait};
 
 /// What lay in the lock of this inode number.

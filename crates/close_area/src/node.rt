@@ -9,7 +9,7 @@ ghost use Rattle.area_emptying.specs.Home.{AreAtHome};
 use area_emptying::OwnedArea;
 use device::Block;
 use rights_books::Permit;
-use rights_names::VolumeName;
+use rights_permits::VolumeName;
 use tickets::NidToken;
 
 /// Gives back a node's number that is in hand, and the node's block where it has one, which is whole and is at home then with

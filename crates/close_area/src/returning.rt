@@ -15,7 +15,7 @@ use area_emptying::OwnedArea;
 use device::Block;
 use file_cells::FilePass;
 use rights_books::{FileAccount, Permit};
-use rights_names::VolumeName;
+use rights_permits::VolumeName;
 
 // Spends each pass, and gives back all that its file has. Where the files that live are no more than the passes, none lives
 // then.
@@ -58,7 +58,7 @@ pub(crate) fn into_accounts<V: VolumeName, B: Block + Drop>(
 {
     files.reverse();
     'files: while let Some(file) = files.pop() {
-        accounts.push_reserved(file.into_account());
+        accounts.push_reserved(file.into_cell().into_account());
     }
     files.destroy_empty();
     accounts

@@ -12,7 +12,7 @@ use file_cells::FileCell;
 use file_flush::FlushBuffer;
 use geometry::Error;
 use rights_books::Permit;
-use rights_names::VolumeName;
+use rights_permits::VolumeName;
 use std::sync::{Mutex, Wait};
 
 /// Takes each file out of its lock in the order of the inode numbers, and writes its marked nodes. What the files are stays,

@@ -5,7 +5,7 @@ ghost use Rattle.checkpoint_sync.specs.WrittenFiles.{AreWritten};
 
 use crate::written::WrittenFile;
 use device::Block;
-use rights_names::VolumeName;
+use rights_permits::VolumeName;
 
 /// Tells that each of the files is written, where their accounts are those of a volume's files. Nothing changes.
 pub(crate) fn tell_written<V: VolumeName, B: Block + Drop>(files: &Vec<WrittenFile<V, B>>)

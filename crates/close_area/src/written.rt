@@ -1,5 +1,5 @@
 //! A file whose nodes are all written.
-ghost use Rattle.std.specs.Prelude.{◌≡◌, ◌⊎◌, Some, None, is_some, [], IfOk, IfErr};
+ghost use Rattle.std.specs.Prelude.{◌≡◌, ◌⊎◌, Some, None, is_some, IfOk, IfErr};
 ghost use Rattle.geometry.specs.declared.error.Error.TheVariants.{NoSpace, Device};
 ghost use Rattle.nodes.specs.File.{file_of};
 ghost use Rattle.rights_permits.specs.Turns.{at_home};
@@ -14,8 +14,8 @@ use file_cells::{FileCell, FilePass};
 use file_flush::FlushBuffer;
 use geometry::Error;
 use nodes::FileState;
-use rights_books::{Audit, Books, FileAccount, Permit};
-use rights_names::VolumeName;
+use rights_books::{Audit, Books, Permit};
+use rights_permits::VolumeName;
 use std::marker::Model;
 use std::sync::Wait;
 
@@ -102,18 +102,6 @@ impl<V: VolumeName, B: Block + Drop> WrittenFile<V, B> {
     {
         let WrittenFile { cell } = self;
         cell
-    }
-
-    /// The account of a number that has no file.
-    pub fn into_account(self) -> FileAccount
-        requires none { self.state ≡ None }
-        ensures book { result.book ≡ V.Books.books.book }
-        ensures inode { result.inode ≡ self.number }
-        ensures tickets { result.tickets ≡ [] }
-        ensures tokens { result.tokens ≡ [] }
-    {
-        let WrittenFile { cell } = self;
-        cell.into_account()
     }
 }
 

@@ -1,10 +1,10 @@
 // Bytes that no clause names, and bytes that were spelled by hand.
 use device::{Block, Faulty, Fuse, MemBlock, MemDevice, MemMeta, Parts};
 use geometry::{Geometry, Shape};
+use named_folder::{Entry, decode, encode};
 use std::process::Abort;
 use std::sync::Arc;
 use std::test::Fail;
-use tool_folder::{Entry, decode, encode};
 use volume_format::format;
 
 // The area has the superblock, a pack in each slot behind it, and 0xee everywhere before, which makes the pack of slot 0 a sound one.

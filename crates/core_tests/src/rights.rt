@@ -5,10 +5,9 @@ use atomic_table::{Seat, Shared, Split, Table, TableRule};
 use device::MemBlock;
 use nat::NodeTable;
 use rights_books::{
-    Audit, Books, FileAccount, Layout, Opened, PassAccount, Permit, SegmentAccount, ShardAccount,
-    Token,
+    Audit, Books, Fact, FileAccount, KeptAccount, Layout, Opened, PartAccount, PassAccount, Permit,
+    SegmentAccount, ShardAccount, Shown, Token, agree_apart,
 };
-use rights_claims::{Fact, Shown, agree_apart};
 use std::alloc::Global;
 use std::mem::size_of;
 use std::process::Abort;
@@ -23,6 +22,8 @@ fn accounts_take_one_word(rt: HostRuntime) {
     assert!(rt; size_of::<PassAccount>() == 8);
     assert!(rt; size_of::<Permit>() == 8);
     assert!(rt; size_of::<Audit>() == 8);
+    assert!(rt; size_of::<PartAccount>() == 8);
+    assert!(rt; size_of::<KeptAccount>() == 8);
     assert!(rt; size_of::<Token>() == 12);
 }
 

@@ -5,8 +5,7 @@ ghost use Rattle.rights_permits.specs.Turns.{all_permits};
 
 use geometry::{Error, Mark, Owner};
 use rights_books::{Books, Layout, Permit, Permits, SegmentAccount};
-use rights_names::{BooksName, Named, TurnName, VolumeName};
-use rights_permits::{OpenedTurnstile, Turnstile};
+use rights_permits::{BooksName, Named, OpenedTurnstile, TurnName, Turnstile, VolumeName};
 use std::alloc::Global;
 use std::marker::{Brand, PhantomData};
 use std::sync::atomic::{AtomicU32, Ordering};

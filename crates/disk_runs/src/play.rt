@@ -5,6 +5,7 @@ use device::MemDevice;
 use disk_service::DiskSettings;
 use file_device::read_device;
 use flash_volume::{Geometry, Leave, Packing, Shape, work_on_new};
+use named_files::MakeFolder;
 use program_trials::{Around, Fault, bytes_of, inside};
 use std::alloc::{AllocError, Global};
 use std::io::Write;
@@ -12,7 +13,6 @@ use std::rt::Runtime;
 use std::sync::Wait;
 use std::thread::Threads;
 use tool_disk::{DiskFault, DiskOptions, Served, serve_disk};
-use tool_files::MakeFolder;
 
 // The files and the nodes of a volume at most.
 const FILES: u32 = 40;

@@ -13,7 +13,7 @@ use device::{Block, Meta};
 use flash_volume::{Service, Shelf, flush};
 use geometry::Error;
 use nbd_words::Disk;
-use rights_names::VolumeName;
+use rights_permits::VolumeName;
 use std::alloc::Global;
 use std::io::{Read, Write};
 use std::sync::{Mutex, Wait};

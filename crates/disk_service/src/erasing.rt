@@ -9,7 +9,7 @@ use device::{Block, Meta};
 use file_cells::FilePass;
 use flash_volume::{Shelf, erase_in_room};
 use geometry::Error;
-use rights_names::VolumeName;
+use rights_permits::VolumeName;
 use std::alloc::Global;
 use std::sync::Wait;
 use volume::Volume;

@@ -3,7 +3,7 @@ use crate::disk::DiskService;
 use crate::room::Thresholds;
 use device::{Block, Meta};
 use flash_volume::{Ending, Shelf};
-use rights_names::VolumeName;
+use rights_permits::VolumeName;
 use std::io::{Read, Write};
 use std::sync::Wait;
 use std::time::{Clock, Duration};

@@ -9,7 +9,7 @@ use device::{Block, Meta};
 use file_cells::FilePass;
 use flash_volume::{Shelf, read_block, read_part};
 use geometry::Error;
-use rights_names::VolumeName;
+use rights_permits::VolumeName;
 use std::alloc::Global;
 use std::sync::Wait;
 use volume::Volume;
@@ -35,36 +35,19 @@ pub(crate) fn read_bytes<V: VolumeName, M: Meta, B: Block + Drop, R: Wait>(
     let mut at = 0;
     'parts: while at < out.len() {
         let part = part_at(offset, out.len(), at, layout.block_bytes());
-        read_in_place(rt, volume, shelf, layout, &part, block, out)?;
+        let Some(place) = layout.place(part.block) else {
+            return Err(Error::TooFar);
+        };
+        let Some(guard) = shelf.read(rt, place.number) else {
+            return Err(Error::NoFile);
+        };
+        let Some(pass) = &*guard else {
+            return Err(Error::NoFile);
+        };
+        show_part(rt, volume, pass, place.index, &part, block, out)?;
         at += part.size;
     }
     Ok(())
-}
-
-// Reads a part of the disk, under the lock of its file.
-fn read_in_place<V: VolumeName, M: Meta, B: Block + Drop, R: Wait>(
-    rt: &R,
-    volume: &Volume<V, M, B>,
-    shelf: &Shelf<V>,
-    layout: &DiskLayout,
-    part: &Part,
-    block: &mut [u8],
-    out: &mut [u8],
-) -> Result<(), Error>
-    requires block { length block.old ≡ block_bytes V.Numbers.geometry.shape }
-    requires in_block { part.now.from + part.now.size ≤ block_bytes V.Numbers.geometry.shape }
-    requires in_access { part.now.at + part.now.size ≤ length out.old }
-{
-    let Some(place) = layout.place(part.block) else {
-        return Err(Error::TooFar);
-    };
-    let Some(guard) = shelf.read(rt, place.number) else {
-        return Err(Error::NoFile);
-    };
-    let Some(pass) = &*guard else {
-        return Err(Error::NoFile);
-    };
-    show_part(rt, volume, pass, place.index, part, block, out)
 }
 
 // Reads a part of an access out of the block of a file at an index: what the pass shows there. The other bytes of the access stay. `block`

@@ -6,7 +6,7 @@ use cleaning::Policy;
 use device::{Block, Meta};
 use flash_volume::{Ending, make_room};
 use geometry::{Error, Geometry};
-use rights_names::VolumeName;
+use rights_permits::VolumeName;
 use std::sync::{RwLock, RwLockReadGuard, RwLockWriteGuard, Wait};
 use volume::Volume;
 

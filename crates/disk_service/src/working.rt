@@ -13,7 +13,7 @@ use device::{Block, Meta};
 use flash_volume::Shelf;
 use geometry::Error;
 use nbd_words::{Access, ErrorNumber, REPLY_BYTES, judge};
-use rights_names::VolumeName;
+use rights_permits::VolumeName;
 use std::io::{Read, Write};
 use std::sync::Wait;
 use std::time::Clock;

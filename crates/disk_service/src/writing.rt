@@ -1,7 +1,5 @@
 //! Writes bytes of a disk.
-ghost use Rattle.std.specs.Prelude.{◌≡◌, ◌≤◌, ◌<◌, ◌+◌, ◌^◌, ℕ, length, OnOk, OnErr};
-ghost use Rattle.flash_volume.specs.Answers.{block_of, laid_over};
-ghost use Rattle.geometry.specs.File.{written};
+ghost use Rattle.std.specs.Prelude.{◌≡◌, ◌≤◌, ◌<◌, ◌+◌, ◌^◌, length};
 ghost use Rattle.geometry.specs.Shape.{block_bytes};
 
 use crate::layout::DiskLayout;
@@ -9,10 +7,9 @@ use crate::parts::{Part, part_at};
 use crate::progress::Progress;
 use crate::room::Cleaner;
 use device::{Block, Meta};
-use file_cells::FilePass;
 use flash_volume::{Shelf, write_part};
 use geometry::Error;
-use rights_names::VolumeName;
+use rights_permits::VolumeName;
 use std::alloc::Global;
 use std::sync::Wait;
 use volume::Volume;
@@ -145,7 +142,7 @@ fn write_in_place<V: VolumeName, M: Meta, B: Block + Drop, R: Wait>(
     let Some(pass) = &mut *guard else {
         return Err(Error::NoFile);
     };
-    lay_part(
+    write_part(
         rt,
         volume,
         pass,
@@ -157,29 +154,4 @@ fn write_in_place<V: VolumeName, M: Meta, B: Block + Drop, R: Wait>(
     )?;
     writing.progress.note_part();
     Ok(())
-}
-
-// Writes bytes into the block of a file at an index, from a byte of it on. A whole block is written as it is, and what was there is not
-// read; fewer bytes are laid over what the pass shows there. `block` has room for a block.
-fn lay_part<V: VolumeName, M: Meta, B: Block + Drop, R: Wait>(
-    rt: &R,
-    volume: &Volume<V, M, B>,
-    pass: &mut FilePass<V>,
-    index: u32,
-    from: usize,
-    block: &mut [u8],
-    bytes: &[u8],
-    now: u64,
-) -> Result<(), Error>
-    requires block { length block.old ≡ block_bytes V.Numbers.geometry.shape }
-    requires within { from + length bytes.now ≤ block_bytes V.Numbers.geometry.shape }
-    ensures whole { OnOk result (length bytes.now ≡ block_bytes V.Numbers.geometry.shape → pass.new ≡ record pass.old { file = written pass.old.file index bytes.now }) }
-    ensures part { OnOk result (length bytes.now < block_bytes V.Numbers.geometry.shape → pass.new ≡ record pass.old { file = written pass.old.file index (laid_over (block_of (block_bytes V.Numbers.geometry.shape) pass.old.file index) from bytes.now) }) }
-    ensures err { OnErr result (pass.new ≡ pass.old) }
-{
-    if bytes.len() == block.len() {
-        volume.write(rt, pass, index, bytes, now)
-    } else {
-        write_part(rt, volume, pass, index, from, block, bytes, now)
-    }
 }

@@ -1,6 +1,7 @@
 //! First programs over the library: three files written on one thread, then the same by two threads side by side.
 #![tactic(auto)]
 
+mod fill;
 mod read_all;
 mod three_files;
 mod two_writers;

@@ -1,8 +1,8 @@
 //! Two threads write three files on a new volume in memory, which is closed and mounted again; then what it has is printed.
+use crate::fill::Fill;
 use crate::read_all::ReadAll;
 use flash_volume::{
-    Beside, Block, Error, Geometry, Kind, Leave, MemDevice, Meta, Rights, Shape, Volume,
-    VolumeName, Work, work_on, work_side_by_side_on_new,
+    Beside, Error, Geometry, Leave, MemDevice, Shape, work_on, work_side_by_side_on_new,
 };
 use std::alloc::Global;
 use std::rt::Runtime;
@@ -23,28 +23,4 @@ pub fn write_and_read<R: Runtime + Threads + Wait + Sync>(
     found.sort()?; // which thread makes its files first is open
     let _ = println!(rt; "the files begin with {found:?}");
     Ok(())
-}
-
-#[derive(Drop)]
-struct Fill(&'static [u8]); // makes a file for each letter
-
-impl<M: Meta, B: Block + Drop> Work<M, B> for Fill {
-    type Output = ();
-
-    fn run<V: VolumeName, R: Wait>(
-        self,
-        rt: &R,
-        alloc: Global,
-        volume: &Volume<V, M, B>,
-        rights: &mut Rights<V>,
-    ) -> Result<(), Error> {
-        for letter in self.0 {
-            let mut pass = volume.create(rt, Kind::File)?;
-            let block = vec![in alloc; *letter; volume.geometry().shape.block_bytes() as usize]?;
-            volume.write(rt, &mut pass, 0, block.as_slice(), 0)?; // the time of the write is 0
-            rights.passes.push(pass)?;
-        }
-        let _stored = volume.sync(rt, &[])?;
-        Ok(())
-    }
 }

@@ -22,10 +22,11 @@ use Rattle.nodes.specs.File.{IsFile, IsBare, inode_of, ticket_at, blocks_below, 
 use Rattle.nodes.specs.Held.{AreHeld, no_others}
 use Rattle.nodes_law.specs.Law.{FileStateLaw}
 use Rattle.nodes_law.proofs.Lasting.{law_new}
-use Rattle.file_calls.specs.Contents.{InHand, Serves, AreWhole as Whole}
-use Rattle.file_calls.proofs.Born.{stored_new, in_hand_new}
+use Rattle.nodes_law.specs.Contents.{InHand, Serves, AreWhole as Whole}
+use Rattle.file_cells.proofs.Born.{stored_new, in_hand_new}
 use Rattle.file_cells.specs.Cell.{IsLodged, IsCell, CellView}
 use Rattle.file_cells.specs.Pass.{Pass, IsPassOf, AreWhole, AreWithin}
+use Rattle.file_cells.specs.Serving.{CanServe}
 
 pub same_number : {B L : Type 0} {x y : CellView B L} → x ≡ y → x.number ≡ y.number
 same_number {B} {L} is = ap (λ (c : CellView B L). c.number) is
@@ -79,6 +80,10 @@ module _ (book : TableId) (a : FileView) (h h1 : HandView) (home : h ≡ at_home
 
   pub lent_all : {B L : Type 0} (f : FileState B L) → AreHeld f a.tickets a.tokens → InHand no_others f h1
   lent_all f held = in_hand book a a a h h1 h h home f is held
+
+  -- a file that is lodged in the account can be served with what was taken out of it
+  pub lent_file : {B L : Type 0} (geometry : Geometry) (f : FileState B L) → IsLodged geometry a f → CanServe geometry book f h1
+  lent_file geometry f lodged = record { book_is = lent_book; shape_is = lodged.shape_is; stored = lodged.stored; law = lodged.law; held = (no_others, lent_all f lodged.lodged) }
 
   -- what is lodged again is of the books that it was of
   pub books_again : (a1 : FileView) (h2 : HandView) (other : TableId) → a1 ≡ emptied a → a.book ≡ book → other ≡ book → h2.book ≡ h1.book → (a1.book ≡ other) × (h2.book ≡ other)

@@ -5,7 +5,7 @@ use Rattle.geometry.specs.declared.owner.Mark.{Mark}
 use Rattle.geometry.specs.declared.owner.Owner.{Owner}
 use Rattle.geometry.specs.declared.owner.Owner.TheVariants.{Data, Node}
 use Rattle.rights_books.specs.Accounts.{FileView}
-use Rattle.tree.specs.Change.{of_tickets, of_tokens}
+use Rattle.nodes.specs.Change.{of_tickets, of_tokens}
 use Rattle.nodes.specs.declared.file.FileState.{FileState}
 use Rattle.nodes.specs.Held.{AreHeld}
 use Rattle.cleaning.specs.Moves.{HasMoved, KeepsWeights}

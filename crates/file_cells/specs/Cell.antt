@@ -8,7 +8,7 @@ use Rattle.nodes.specs.declared.file.FileState.{FileState}
 use Rattle.nodes.specs.File.{file_of}
 use Rattle.nodes.specs.Held.{AreHeld}
 use Rattle.nodes_law.specs.Law.{FileStateLaw}
-use Rattle.file_calls.specs.Contents.{IsStored}
+use Rattle.nodes_law.specs.Contents.{IsStored}
 
 -- A file's state between calls, under the law that an image of it needs. The account has lodged its tickets and tokens, each
 -- as often.

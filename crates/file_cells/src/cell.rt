@@ -6,6 +6,7 @@ ghost use Rattle.geometry.specs.Path.{largest_length};
 ghost use Rattle.geometry.specs.Shape.{block_bytes};
 ghost use Rattle.rights_permits.specs.Turns.{at_home};
 
+use crate::NewBlock;
 use crate::lodged::{cut_lodged, erase_lodged, note_file, recount, write_lodged};
 use crate::marks::Marks;
 use crate::pass::FilePass;
@@ -14,7 +15,7 @@ use device::Block;
 use geometry::Error;
 use nodes::FileState;
 use rights_books::{Books, FileAccount, Permit};
-use rights_names::VolumeName;
+use rights_permits::VolumeName;
 use std::alloc::Global;
 use std::marker::{Brand, Model, PhantomData};
 use std::sync::Wait;
@@ -60,7 +61,7 @@ impl<V: VolumeName, B: Block + Drop> FileCell<V, B> {
         }
     }
 
-    /// Writes a block of the file at an index below the largest length, as `file_calls::write_block` does. After an error the file
+    /// Writes a block of the file at an index below the largest length, as `write_block` does. After an error the file
     /// is as it was.
     pub fn write<R: Wait>(
         &mut self,
@@ -69,15 +70,13 @@ impl<V: VolumeName, B: Block + Drop> FileCell<V, B> {
         area: &MainArea<V, B>,
         hand: &mut Permit,
         pass: &mut FilePass<V>,
-        index: u32,
-        bytes: &[u8],
-        now: u64,
+        block: &NewBlock<'_>,
     ) -> Result<(), Error>
         requires hand { hand.old ≡ at_home V.Books.books.book }
         requires number { self.old.number ≡ pass.old.number }
-        requires inside { index < largest_length V.Numbers.geometry.shape }
-        requires bytes { length bytes.now ≡ block_bytes V.Numbers.geometry.shape }
-        ensures file { OnOk result (pass.new ≡ record pass.old { file = written pass.old.file index bytes.now }) }
+        requires inside { block.now.index < largest_length V.Numbers.geometry.shape }
+        requires bytes { length block.now.bytes.now ≡ block_bytes V.Numbers.geometry.shape }
+        ensures file { OnOk result (pass.new ≡ record pass.old { file = written pass.old.file block.now.index block.now.bytes.now }) }
         ensures err { OnErr result (pass.new ≡ pass.old) }
         ensures hand { hand.new ≡ hand.old }
         ensures number { self.new.number ≡ self.old.number }
@@ -89,9 +88,7 @@ impl<V: VolumeName, B: Block + Drop> FileCell<V, B> {
         };
         let account = &mut self.account;
         let marks = &mut self.marks;
-        write_lodged(
-            rt, alloc, area, hand, account, file, marks, index, bytes, now,
-        )?;
+        write_lodged(rt, alloc, area, hand, account, file, marks, block)?;
         note_file::<B, Brand>(area.books(), account, &mut pass.account, file);
         pass.length = file.length();
         Ok(())
@@ -127,7 +124,7 @@ impl<V: VolumeName, B: Block + Drop> FileCell<V, B> {
         Ok(true)
     }
 
-    /// Cuts the file to a length in blocks, or leaves it where it is shorter, as `file_calls::cut_blocks` does. It takes no memory,
+    /// Cuts the file to a length in blocks, or leaves it where it is shorter, as `cut_blocks` does. It takes no memory,
     /// and is never refused.
     pub fn cut<R: Wait>(
         &mut self,
@@ -154,7 +151,7 @@ impl<V: VolumeName, B: Block + Drop> FileCell<V, B> {
         pass.length = file.length();
     }
 
-    /// Gives back the blocks of the file at the indexes from `from` up to `to`, as `file_calls::erase_blocks` does: they read as zeros,
+    /// Gives back the blocks of the file at the indexes from `from` up to `to`, as `erase_blocks` does: they read as zeros,
     /// and the length stays. It takes no memory, and is never refused.
     pub fn erase<R: Wait>(
         &mut self,

@@ -11,7 +11,7 @@ use crate::pass::FilePass;
 use device::Block;
 use nodes::FileState;
 use rights_books::{Audit, Books};
-use rights_names::VolumeName;
+use rights_permits::VolumeName;
 
 impl<V: VolumeName, B: Block + Drop> FileCell<V, B> {
     /// Tells what holds of what is in the lock. Nothing runs.

@@ -11,13 +11,13 @@ ghost use Rattle.rights_permits.specs.Turns.{at_home};
 ghost use Rattle.file_cells.specs.Cell.{IsLodged};
 
 use crate::marks::{Marks, direct_node};
+use crate::{NewBlock, cut_blocks, erase_blocks, give_up, write_block};
 use area::MainArea;
 use device::Block;
-use file_calls::{cut_blocks, erase_blocks, give_up, write_block};
 use geometry::{Error, Kind, Shape};
 use nodes::FileState;
 use rights_books::{Books, FileAccount, Noted, PassAccount, Permit};
-use rights_names::VolumeName;
+use rights_permits::VolumeName;
 use std::alloc::Global;
 use std::sync::Wait;
 
@@ -68,31 +68,29 @@ pub(crate) fn write_lodged<V: VolumeName, B: Block + Drop, R: Wait>(
     account: &mut FileAccount,
     file: &mut FileState<B>,
     marks: &mut Marks,
-    index: u32,
-    bytes: &[u8],
-    now: u64,
+    block: &NewBlock<'_>,
 ) -> Result<(), Error>
     requires hand { hand.old ≡ at_home V.Books.books.book }
     requires book { account.old.book ≡ V.Books.books.book }
-    requires inside { index < largest_length V.Numbers.geometry.shape }
-    requires bytes { length bytes.now ≡ block_bytes V.Numbers.geometry.shape }
+    requires inside { block.now.index < largest_length V.Numbers.geometry.shape }
+    requires bytes { length block.now.bytes.now ≡ block_bytes V.Numbers.geometry.shape }
     requires lodged { IsLodged V.Numbers.geometry account.old file.old }
     ensures lodged { IsLodged V.Numbers.geometry account.new file.new }
     ensures number { file.new.token.number ≡ file.old.token.number }
     ensures account { (account.new.book ≡ account.old.book) × (account.new.inode ≡ account.old.inode) × (account.new.content ≡ account.old.content) }
     ensures hand { hand.new ≡ hand.old }
-    ensures file { OnOk result (file_of file.new ≡ written (file_of file.old) index bytes.now) }
+    ensures file { OnOk result (file_of file.new ≡ written (file_of file.old) block.now.index block.now.bytes.now) }
     ensures err { OnErr result (file.new ≡ file.old) }
     ensures error { IfErr result (λ error. (error ≡ NoMemory) ⊎ ((error ≡ NoNode) ⊎ ((error ≡ NoSpace) ⊎ (error ≡ Device)))) }
 {
     let before = *marks;
-    let length = file.length().max(index.saturating_add(1));
+    let length = file.length().max(block.index.saturating_add(1));
     let shape = area.geometry().shape;
-    let is_new = before.moves_on(shape, index) && may_lack_path(file, shape, index);
-    let after = before.after_write(shape, index, length, is_new);
+    let is_new = before.moves_on(shape, block.index) && may_lack_path(file, shape, block.index);
+    let after = before.after_write(shape, block.index, length, is_new);
     recount(area, file.kind(), marks, after);
     area.books().unlodge_all(account, hand);
-    let done = write_block(rt, alloc, area, hand, file, index, bytes, now);
+    let done = write_block(rt, alloc, area, hand, file, block);
     area.books().lodge_all(account, hand);
     recount_unless(done.is_ok(), area, file.kind(), marks, before);
     done

@@ -10,14 +10,13 @@ ghost use Rattle.file_cells.specs.Moved.{HasMovedLodged, KeepsLodged};
 
 use crate::cell::FileCell;
 use crate::lodged::{recount, recount_unless};
-use crate::marks::Marks;
 use area::MainArea;
 use cleaning::{Fate, migrate};
 use device::Block;
-use geometry::{Error, Owner};
+use geometry::{Error, Mark, Owner};
 use nodes::FileState;
 use rights_books::{FileAccount, Permit};
-use rights_names::VolumeName;
+use rights_permits::VolumeName;
 use std::sync::Wait;
 
 impl<V: VolumeName, B: Block + Drop> FileCell<V, B> {
@@ -49,30 +48,32 @@ impl<V: VolumeName, B: Block + Drop> FileCell<V, B> {
         let Some(file) = &mut self.state else {
             return Ok(Fate::Gone);
         };
-        let account = &mut self.account;
-        let marks = &mut self.marks;
-        migrate_lodged(
-            rt, area, hand, account, file, marks, address, owner, now, bytes,
-        )
+        let before = self.marks;
+        let shape = area.geometry().shape;
+        let after = before.after_move(shape, file.number(), owner, file.length());
+        let kind = file.kind();
+        recount(area, kind, &mut self.marks, after);
+        let mark = Mark { address, owner };
+        let done = migrate_lodged(rt, area, hand, &mut self.account, file, mark, now, bytes);
+        recount_unless(done.is_ok(), area, kind, &mut self.marks, before);
+        done
     }
 }
 
-// Moves a block of a file whose tickets and tokens are lodged in its account, as `migrate` does.
+// Moves the block of this mark, of a file whose tickets and tokens are lodged in its account, as `migrate` does.
 fn migrate_lodged<V: VolumeName, B: Block + Drop, R: Wait>(
     rt: &R,
     area: &MainArea<V, B>,
     hand: &mut Permit,
     account: &mut FileAccount,
     file: &mut FileState<B>,
-    marks: &mut Marks,
-    address: u32,
-    owner: Owner,
+    mark: Mark,
     now: u64,
     bytes: &mut [u8],
 ) -> Result<Fate, Error>
     requires hand { hand.old ≡ at_home V.Books.books.book }
     requires book { account.old.book ≡ V.Books.books.book }
-    requires address { 0 < address }
+    requires address { 0 < mark.address }
     requires bytes { length bytes.old ≡ block_bytes V.Numbers.geometry.shape }
     requires lodged { IsLodged V.Numbers.geometry account.old file.old }
     ensures lodged { IsLodged V.Numbers.geometry account.new file.new }
@@ -80,18 +81,13 @@ fn migrate_lodged<V: VolumeName, B: Block + Drop, R: Wait>(
     ensures account { (account.new.book ≡ account.old.book) × (account.new.inode ≡ account.old.inode) × (account.new.content ≡ account.old.content) }
     ensures hand { hand.new ≡ hand.old }
     ensures file { file_of file.new ≡ file_of file.old }
-    ensures moved { IfOk result (λ fate. fate ≡ Moved → HasMovedLodged address owner account.old account.new) }
+    ensures moved { IfOk result (λ fate. fate ≡ Moved → HasMovedLodged mark.address mark.owner account.old account.new) }
     ensures gone { IfOk result (λ fate. fate ≡ Gone → KeepsLodged account.old account.new) }
     ensures err { OnErr result (KeepsLodged account.old account.new) }
     ensures error { IfErr result (λ error. (error ≡ Device) ⊎ (error ≡ NoSpace)) }
 {
-    let before = *marks;
-    let shape = area.geometry().shape;
-    let after = before.after_move(shape, file.number(), owner, file.length());
-    recount(area, file.kind(), marks, after);
     area.books().unlodge_all(account, hand);
-    let done = migrate(rt, area, hand, file, address, owner, now, bytes);
+    let done = migrate(rt, area, hand, file, mark.address, mark.owner, now, bytes);
     area.books().lodge_all(account, hand);
-    recount_unless(done.is_ok(), area, file.kind(), marks, before);
     done
 }

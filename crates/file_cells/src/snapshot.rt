@@ -1,15 +1,15 @@
 //! A snapshot of the file in its lock.
 ghost use Rattle.std.specs.Prelude.{◌≡◌, ◌⊎◌, IfOk, IfErr};
 ghost use Rattle.geometry.specs.declared.error.Error.TheVariants.{NoMemory, Device};
-ghost use Rattle.file_readers.specs.Reader.{IsPinned};
+ghost use Rattle.file_cells.specs.Reader.{IsPinned};
 
 use crate::cell::FileCell;
 use crate::pass::FilePass;
+use crate::{Reader, Seat, take_reader};
 use area::MainArea;
 use device::Block;
-use file_readers::{Reader, Seat, take_reader};
 use geometry::Error;
-use rights_names::VolumeName;
+use rights_permits::VolumeName;
 use std::alloc::Global;
 use std::sync::Wait;
 

@@ -5,8 +5,8 @@ use Rattle.std.proofs.Math.Seq.{take-append_seam}
 use Rattle.geometry.specs.declared.geometry.Geometry.{Geometry}
 use Rattle.geometry.specs.File.{Block}
 use Rattle.image.specs.Image.{Image}
-use Rattle.packs_format.specs.Grammar.{SpellsTables}
-use Rattle.packs_format.proofs.RoundTrip.{spelled_back}
+use Rattle.pack_tables.specs.Grammar.{SpellsTables}
+use Rattle.pack_tables.proofs.RoundTrip.{spelled_back}
 use Rattle.file_device.specs.Named.{IsNamed, IsSet, StaySet}
 
 pub stay_twice : (first then last : List Bool) → StaySet first then → StaySet then last → StaySet first last

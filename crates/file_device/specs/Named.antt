@@ -4,7 +4,7 @@ use Rattle.geometry.specs.declared.geometry.Geometry.{Geometry}
 use Rattle.geometry.specs.Area.{block_count}
 use Rattle.image.specs.Image.{Image, is_marked, no_entry}
 use Rattle.packs.specs.Area.{reading_of}
-use Rattle.packs_format.specs.Grammar.{SpellsTables}
+use Rattle.pack_tables.specs.Grammar.{SpellsTables}
 
 -- the tables of an image name an address: as that of a valid block, or as that of a node
 abbrev pub IsNamed : Geometry → Image → ℕ → Type 0

@@ -5,7 +5,7 @@ ghost use Rattle.file_device.specs.Blocks.{is_kept};
 ghost use Rattle.file_device.specs.Named.{FlagNamed};
 ghost use Rattle.geometry.specs.Area.{block_count, meta_bytes};
 ghost use Rattle.geometry.specs.declared.geometry.Geometry.{Geometry as Numbers};
-ghost use Rattle.packs_format.specs.Grammar.{HasSuper};
+ghost use Rattle.pack_tables.specs.Grammar.{HasSuper};
 
 use crate::block::FileBlock;
 use crate::fault::FileFault;

@@ -5,12 +5,12 @@ ghost use Rattle.geometry.specs.Area.{block_count, meta_bytes};
 ghost use Rattle.image.specs.Image.{Image as Tables, is_marked, no_entry};
 ghost use Rattle.image.specs.View.{image_view};
 ghost use Rattle.packs.specs.Area.{reading_of};
-ghost use Rattle.packs_format.specs.Grammar.{SpellsTables};
+ghost use Rattle.pack_tables.specs.Grammar.{SpellsTables};
 
 use geometry::{Error, Geometry};
 use image::Image;
+use pack_tables::decode;
 use packs::assemble;
-use packs_format::decode;
 use std::alloc::Global;
 
 /// A flag for each block, from address 1 on: it is set where the tables of a pack in a meta area name the block, as valid or as that

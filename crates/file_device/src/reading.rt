@@ -4,12 +4,12 @@ ghost use Rattle.std.specs.List.{flat_map};
 ghost use Rattle.std.specs.Io.KnownBytes.{Consumes};
 ghost use Rattle.device.specs.Parts.{HasSize, IsBlockRun, image_file};
 ghost use Rattle.geometry.specs.Area.{meta_bytes};
-ghost use Rattle.packs_format.specs.Grammar.{HasSuper};
+ghost use Rattle.pack_tables.specs.Grammar.{HasSuper};
 
 use crate::fault::FileFault;
 use device::{Block, MemBlock, MemDevice, MemMeta, Meta, Parts};
 use geometry::{Error, Geometry};
-use packs_format::read_super;
+use pack_tables::read_super;
 use std::alloc::Global;
 use std::io;
 use std::io::Read;

@@ -48,6 +48,7 @@ impl Run {
         requires from { self.now.first ≤ place }
         requires below { place < self.now.first + self.now.count }
         ensures numbers { IfOk result (λ kept. geometry_of (arc_value kept) ≡ geometry_of (arc_value self.now.kept)) }
+        ensures bytes { IfOk result (λ kept. content_in (arc_value kept) (place + 1) ≡ content_in (arc_value self.now.kept) (place + 1)) }
         ensures read { IfOk result (λ kept. is_read (arc_value kept).held ≡ true) }
         ensures length { IfOk result (λ kept. length (content_in (arc_value kept) (place + 1)) ≡ size_of (arc_value self.now.kept)) }
     {

@@ -12,10 +12,10 @@ use Rattle.image_law.proofs.Weighing.{among_split}
 use Rattle.rights_books.specs.declared.claim.Entry.{Entry}
 use Rattle.rights_books.specs.Accounts.{HandView}
 use Rattle.tickets.specs.Placed.{Placed}
-use Rattle.tree.specs.declared.branch.Branch.{Branch}
-use Rattle.tree.specs.Tree.{entry_at}
-use Rattle.tree.specs.Change.{TreeNode, tree_node, unnumbered}
-use Rattle.tree_walks.specs.Writing.{IsAmong}
+use Rattle.nodes.specs.declared.branch.Branch.{Branch}
+use Rattle.nodes.specs.Tree.{entry_at}
+use Rattle.nodes.specs.Change.{TreeNode, tree_node, unnumbered}
+use Rattle.nodes_walks.specs.Writing.{IsAmong}
 use Rattle.nodes_walks.proofs.Flushed.{node_there}
 use Rattle.nodes.specs.declared.file.FileState.{FileState}
 use Rattle.nodes.specs.File.{IsFile, inode_of, address_of, nid_of, weight_of, shaped_direct, shaped_indirect, shaped_double}

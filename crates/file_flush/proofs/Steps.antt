@@ -9,8 +9,8 @@ use Rattle.image_codec.proofs.SpellingLemmas.{length-node_bytes}
 use Rattle.rights_books.specs.declared.claim.Entry.{Entry}
 use Rattle.rights_books.specs.Accounts.{HandView}
 use Rattle.tickets.specs.Placed.{Placed}
-use Rattle.tree.specs.Change.{TreeNode, of_tickets, of_tokens, unnumbered}
-use Rattle.tree_walks.specs.Writing.{rewritten, WritesOne}
+use Rattle.nodes.specs.Change.{TreeNode, of_tickets, of_tokens, unnumbered}
+use Rattle.nodes_walks.specs.Writing.{rewritten, WritesOne}
 use Rattle.nodes_walks.specs.Kept.{KeepsFile}
 use Rattle.nodes_walks.proofs.Flushed.{fewer_marked}
 use Rattle.nodes_walks.proofs.Keeping.{kept_same, kept_both}

@@ -6,7 +6,7 @@ use Rattle.geometry.specs.Weights.{weigh, SameItems}
 use Rattle.rights_books.specs.declared.claim.Entry.{Entry}
 use Rattle.rights_books.specs.Accounts.{HandView}
 use Rattle.tickets.specs.Placed.{Placed}
-use Rattle.tree.specs.Change.{of_tickets, of_tokens, each_marked}
+use Rattle.nodes.specs.Change.{of_tickets, of_tokens, each_marked}
 use Rattle.nodes.specs.declared.file.FileState.{FileState}
 use Rattle.nodes.specs.File.{IsFile, weight_of}
 use Rattle.nodes.specs.Held.{Others, AreHeldBeside}

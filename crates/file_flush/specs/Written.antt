@@ -10,8 +10,8 @@ use Rattle.rights_books.specs.declared.claim.Entry.{Entry}
 use Rattle.rights_books.specs.Accounts.{HandView}
 use Rattle.rights_books.specs.Lists.{times}
 use Rattle.rights_books.specs.Sameness.{same_entry}
-use Rattle.tree.specs.Change.{TreeNode}
-use Rattle.tree_walks.specs.Writing.{rewritten}
+use Rattle.nodes.specs.Change.{TreeNode}
+use Rattle.nodes_walks.specs.Writing.{rewritten}
 use Rattle.nodes_law.specs.Nodes.{node_in}
 use Rattle.nodes_law.specs.Law.{ragged, IsSpelled}
 

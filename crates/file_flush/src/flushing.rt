@@ -4,8 +4,8 @@ ghost use Rattle.geometry.specs.declared.error.Error.TheVariants.{Device, NoSpac
 ghost use Rattle.geometry.specs.Path.{node_entries};
 ghost use Rattle.geometry.specs.Shape.{block_bytes};
 ghost use Rattle.rights_books.specs.declared.claim.Entry.{Entry};
-ghost use Rattle.tree.specs.Change.{TreeNode, each_marked};
-ghost use Rattle.tree_walks.specs.Writing.{WritesOne};
+ghost use Rattle.nodes.specs.Change.{TreeNode, each_marked};
+ghost use Rattle.nodes_walks.specs.Writing.{WritesOne};
 ghost use Rattle.nodes.specs.File.{IsFile, weight_of, file_of};
 ghost use Rattle.nodes.specs.Held.{Others, AreHeldBeside};
 ghost use Rattle.nodes.specs.Owners.{HasNumbers};
@@ -23,7 +23,7 @@ use geometry::Error;
 use nodes::FileState;
 use nodes_walks::flush_next;
 use rights_books::Permit;
-use rights_names::VolumeName;
+use rights_permits::VolumeName;
 use std::sync::Wait;
 
 /// Writes each marked node of a file, parents before what they name, each to the log of its class, and gives back the blocks

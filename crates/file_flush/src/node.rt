@@ -3,7 +3,7 @@ ghost use Rattle.std.specs.Prelude.{◌≡◌, ◌<◌, ◌⊎◌, ◌^◌, All,
 ghost use Rattle.geometry.specs.declared.error.Error.TheVariants.{Device, NoSpace};
 ghost use Rattle.geometry.specs.Shape.{block_bytes};
 ghost use Rattle.image.specs.Node.{Spells};
-ghost use Rattle.tree_walks.specs.Writing.{marked_node};
+ghost use Rattle.nodes_walks.specs.Writing.{marked_node};
 ghost use Rattle.nodes_law.specs.Nodes.{node_in};
 ghost use Rattle.file_flush.specs.Written.{IsWritable, IsInHand, HasSwapped, IsWrittenTo};
 
@@ -11,11 +11,11 @@ use area::{MainArea, Who, log_for};
 use device::Block;
 use geometry::{Error, Kind, Owner, Shape};
 use image_codec::{LentNode, encode_lent};
+use nodes_walks::NodeBlock;
 use rights_books::Permit;
-use rights_names::VolumeName;
+use rights_permits::VolumeName;
 use std::sync::Wait;
 use tickets::NidToken;
-use tree_walks::NodeBlock;
 
 /// Of which file nodes are written, and when.
 #[derive(Clone, Copy)]

@@ -5,11 +5,11 @@ use crate::node::{Source, write_block};
 use area::MainArea;
 use device::Block;
 use geometry::Error;
+use nodes_walks::{NodeBlock, NodeWriter};
 use rights_books::Permit;
-use rights_names::VolumeName;
+use rights_permits::VolumeName;
 use std::sync::Wait;
 use tickets::NidToken;
-use tree_walks::{NodeBlock, NodeWriter};
 
 /// Writes nodes of a file to a main area, with what a call has in hand.
 pub(crate) struct AreaWriter<'a, R: Wait, V: VolumeName, B: Block + Drop> {

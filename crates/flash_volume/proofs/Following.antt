@@ -10,7 +10,7 @@ use Rattle.image.specs.Image.{Image}
 use Rattle.image_codec.specs.Blocks.{bytes_at}
 use Rattle.image_law.proofs.Weighing.{among-map, of_among-map}
 use Rattle.image_law.specs.Items.{Among}
-use Rattle.packs_format.proofs.Same.{law_holds}
+use Rattle.pack_tables.proofs.Same.{law_holds}
 use Rattle.volume_law.specs.Found.{IsFound}
 use Rattle.volume_law.specs.Lawful.{HoldsLawfulVolume}
 use Rattle.volume_law.proofs.Standing.{held_again, files_again}

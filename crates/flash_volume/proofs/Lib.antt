@@ -1,6 +1,7 @@
 pub mod Crewed
 pub mod Dealing
 pub mod Following
+pub mod Laid
 pub mod Lending
 pub mod Refused
 pub mod Results

@@ -4,13 +4,7 @@ use Rattle.std.proofs.Common.{◌≡◌, ℕ, List, Result, IfErr, subst, sym}
 use Rattle.device.specs.declared.parts.Parts.{Parts}
 use Rattle.geometry.specs.declared.error.Error.{Error}
 use Rattle.geometry.specs.declared.error.Error.TheVariants.{NoMemory}
-use Rattle.geometry.specs.declared.geometry.Geometry.{Geometry}
-use Rattle.image.specs.Image.{Image}
-use Rattle.mount_reading.proofs.Moments.{kept_held}
-use Rattle.mount_reading.specs.Held.{AreSameParts, KeepsBetween}
 use Rattle.mount_reading.specs.declared.open.OpenFault.{OpenFault}
-use Rattle.packs_format.specs.Grammar.{HasSuper}
-use Rattle.packs_format.specs.Holding.{HoldsTables}
 use Rattle.flash_volume.proofs.Results.{err_both}
 use Rattle.flash_volume.specs.Refused.{HandsBack}
 
@@ -24,16 +18,6 @@ module _ {M B : Type 0} (seen : M → List ℕ) (may_leave : M → List ℕ → 
   handed_on back left error other is same handed = subst (λ (parts : Parts M B). Back parts other) (sym is) (subst (λ (e : Error). Back back e) (sym same) handed)
 
   -- what was found, and is handed back for want of memory
-  pub found_back : {O : Type 0} (found : Parts M B) (result : Result O (OpenFault M B)) (numbers : Geometry) (image : Image)
-      → IfErr result (λ fault. fault.parts ≡ found) → IfErr result (λ fault. fault.error ≡ NoMemory) → AreSameParts seen address_of content_of old found
-      → HasSuper numbers (seen old.meta) → HoldsTables numbers image (seen old.meta) → HoldsTables numbers image (seen found.meta)
-      → KeepsBetween seen may_leave moment left_since old.meta found.meta → IfErr result (λ fault. Back fault.parts fault.error)
-  found_back found result numbers image back error same front was now between =
-      err_both result _ _ _
-      (λ fault is no_memory. handed_on found fault.parts NoMemory fault.error is no_memory (record {
-        refused = tt;
-        same = same;
-        kept = λ other. kept_held seen old.meta found.meta numbers image front was now;
-        any_moment = between;
-        device = λ is. absurd (let no = is in cc);
-      })) back error
+  pub found_back : {O : Type 0} (found : Parts M B) (result : Result O (OpenFault M B)) → Back found NoMemory → IfErr result (λ fault. fault.parts ≡ found)
+      → IfErr result (λ fault. fault.error ≡ NoMemory) → IfErr result (λ fault. Back fault.parts fault.error)
+  found_back found result handed back error = err_both result _ _ _ (λ fault is no_memory. handed_on found fault.parts NoMemory fault.error is no_memory handed) back error

@@ -10,6 +10,11 @@ pub ok_then : {T E : Type 0} (result : Result T E) (P Q : T → Type 0) → ((va
 ok_then (Ok value) P Q step holds = step value holds
 ok_then (Err error) P Q step holds = tt
 
+-- the same of two facts
+pub ok_both : {T E : Type 0} (result : Result T E) (P O Q : T → Type 0) → ((value : T) → P value → O value → Q value) → IfOk result P → IfOk result O → IfOk result Q
+ok_both (Ok value) P O Q step holds too = step value holds too
+ok_both (Err error) P O Q step holds too = tt
+
 -- the same of an error
 pub err_then : {T E : Type 0} (result : Result T E) (P Q : E → Type 0) → ((error : E) → P error → Q error) → IfErr result P → IfErr result Q
 err_then (Ok value) P Q step holds = tt

@@ -10,9 +10,9 @@ use Rattle.flash_volume.proofs.Results.{at_mount}
 use Rattle.flash_volume.specs.Worked.{AreGivenUp}
 use Rattle.flash_volume.specs.declared.leave.Stage.{Stage}
 use Rattle.flash_volume.specs.declared.leave.Stage.TheVariants.{Mount}
-use Rattle.packs_format.proofs.Same.{one_geometry}
+use Rattle.pack_tables.proofs.Same.{one_geometry}
 use Rattle.mount_reading.specs.Held.{AreSameParts}
-use Rattle.packs_format.specs.Grammar.{HasSuper}
+use Rattle.pack_tables.specs.Grammar.{HasSuper}
 
 module _ {B : Type 0} (address_of : B → ℕ) (content_of : B → List ℕ) where
   same_count : (old new : List B) → map address_of new ≡ map address_of old → length new ≡ length old
@@ -46,10 +46,13 @@ module _ {M B : Type 0} (seen : M → List ℕ) (address_of : B → ℕ) (conten
       subst (λ (numbers : Geometry). HasSize seen address_of content_of numbers left) (one_geometry other geometry (seen made.meta) there front) given_up.size
 
 module _ {M B : Type 0} (seen : M → List ℕ) (may_leave : M → List ℕ → Type 0) (address_of : B → ℕ) (content_of : B → List ℕ) where
-  pub refused_run : (bytes : ℕ) (old : List B) (back left : Parts M B) → map address_of back.blocks.items ≡ map address_of old → map content_of back.blocks.items ≡ map content_of old
-      → IsBlockRun address_of content_of bytes 1 old → left ≡ back → (size : ℕ) × IsBlockRun address_of content_of size 1 left.blocks.items
-  refused_run bytes old back left addresses contents run is =
-      (bytes, subst (λ (parts : Parts M B). IsBlockRun address_of content_of bytes 1 parts.blocks.items) (sym is) (same_run address_of content_of bytes old back.blocks.items addresses contents run))
+  pub refused_run : (old back left : Parts M B) → AreSameParts seen address_of content_of old back → (bytes : ℕ) × IsBlockRun address_of content_of bytes 1 old.blocks.items
+      → left ≡ back → (bytes : ℕ) × IsBlockRun address_of content_of bytes 1 left.blocks.items
+  refused_run old back left same (bytes, run) is = (
+    bytes,
+    subst (λ (parts : Parts M B). IsBlockRun address_of content_of bytes 1 parts.blocks.items) (sym is)
+        (same_run address_of content_of bytes old.blocks.items back.blocks.items same.addresses same.contents run),
+  )
 
   pub size_back : (geometry : Geometry) (made left : Parts M B) (stage : Stage) → HasSuper geometry (seen made.meta) → HasSize seen address_of content_of geometry made
       → (stage ≡ Mount → AreSameParts seen address_of content_of made left)

@@ -18,21 +18,21 @@ use Rattle.geometry.specs.declared.error.Error.{Error}
 use Rattle.geometry.specs.declared.geometry.Geometry.{Geometry}
 use Rattle.image.specs.Image.{Image}
 use Rattle.image_codec.specs.Blocks.{bytes_at}
-use Rattle.packs_format.specs.Grammar.{HasSuper}
+use Rattle.pack_tables.specs.Grammar.{HasSuper}
 use Rattle.volume.specs.declared.volume.Base.{Base}
 use Rattle.volume_law.specs.Lawful.{HoldsLawfulVolume}
 
-module _ {M B L : Type 0} (seen : M → List ℕ) (address_of : B → ℕ) (content_of : B → List ℕ) (did : Geometry → Base → List Pass → L → Type 0) where
-  pub visited_on : (geometry : Geometry) (image : Image) (blocks : List B) (parts : Parts M B) (left : L)
+module _ {M B L E : Type 0} (seen : M → List ℕ) (address_of : B → ℕ) (content_of : B → List ℕ) (did : Geometry → Base → List Pass → L → Type 0) where
+  pub visited_on : (geometry : Geometry) (image : Image) (blocks : List B) (parts : Parts M B) (result : Result L E)
       → HoldsLawfulVolume seen address_of content_of geometry image parts → map content_of blocks ≡ map content_of parts.blocks.items
-      → VisitedFrom did geometry image (bytes_at content_of blocks) left → VisitedOn seen address_of content_of did parts left
-  visited_on geometry image blocks parts left held same from = record {
+      → IfOk result (VisitedFrom did geometry image (bytes_at content_of blocks)) → IfOk result (VisitedOn seen address_of content_of did parts)
+  visited_on geometry image blocks parts result held same = ok_then result _ _ (λ left from. record {
     geometry = geometry;
     image = image;
     held = held;
     from = subst (λ (bytes : ℕ → List ℕ). VisitedFrom did geometry image bytes left)
         (ap (λ (contents : List (List ℕ)). λ (address : ℕ). get_or contents (address - 1) []) same) from;
-  }
+  })
 
 -- what is said under the names of a mounted volume is so of what was mounted
 pub visited_from : {L : Type 0} (did : Geometry → Base → List Pass → L → Type 0) (geometry named : Geometry) (image : Image) (blocks : ℕ → Block) (before : List Pass) (base : Base) (left : L)

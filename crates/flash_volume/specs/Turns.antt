@@ -2,7 +2,7 @@
 use Rattle.std.specs.Prelude.{◌≡◌, ◌⊎◌, ℕ, List, [], All, Option, Result, map}
 use Rattle.std.specs.List.{AllZip}
 use Rattle.file_cells.specs.Pass.{Pass}
-use Rattle.file_readers.specs.Reader.{SnapshotOf}
+use Rattle.file_cells.specs.Reader.{SnapshotOf}
 use Rattle.flash_volume.specs.Visited.{ArePassesOf}
 use Rattle.flash_volume.specs.Worked.{WasWorked}
 use Rattle.flash_volume.specs.declared.leave.Done.{Done}

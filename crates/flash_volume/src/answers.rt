@@ -16,7 +16,7 @@ use checkpoint::Stored;
 use device::{Block, Meta};
 use file_cells::FilePass;
 use geometry::Error;
-use rights_names::VolumeName;
+use rights_permits::VolumeName;
 use std::alloc::Global;
 use std::sync::Wait;
 use volume::Volume;
@@ -62,8 +62,9 @@ pub fn read_part<V: VolumeName, M: Meta, B: Block + Drop, R: Wait>(
     Ok(())
 }
 
-/// Writes bytes that lie in one block of a file, from a byte of it on: they are laid over what the pass shows there. `block` has room for a
-/// block. Answers what a read and a write of the volume answer; then the file is as before.
+/// Writes bytes that lie in one block of a file, from a byte of it on: they are laid over what the pass shows there, which is not read
+/// where they are a whole block. `block` has room for a block. Answers what a read and a write of the volume answer; then the file is as
+/// before.
 pub fn write_part<V: VolumeName, M: Meta, B: Block + Drop, R: Wait>(
     rt: &R,
     volume: &Volume<V, M, B>,
@@ -80,6 +81,10 @@ pub fn write_part<V: VolumeName, M: Meta, B: Block + Drop, R: Wait>(
     ensures err { OnErr result (pass.new ≡ pass.old) }
     ensures error { IfErr result (λ error. (error ≡ TooFar) ⊎ ((error ≡ Wounded) ⊎ ((error ≡ NoMemory) ⊎ ((error ≡ NoNode) ⊎ ((error ≡ NoSpace) ⊎ (error ≡ Device)))))) }
 {
+    pass.blocks_law();
+    if bytes.len() == block.len() {
+        return volume.write(rt, pass, index, bytes, now);
+    }
     read_block(rt, volume, pass, index, block)?;
     let end = from + bytes.len();
     block[from..end].copy_from_slice(bytes);

@@ -1,6 +1,5 @@
 //! One of the works that are done side by side, and what each of them is given.
 ghost use Rattle.std.specs.Prelude.{◌≡◌, ◌+◌, [], map, vec_len, IfOk, IfErr, OnOk};
-ghost use Rattle.file_cells.specs.Pass.{Pass};
 ghost use Rattle.flash_volume.specs.Beside.{AreDealt, is_named, passes_named, passes_unnamed};
 ghost use Rattle.geometry.specs.Weights.{weigh};
 ghost use Rattle.geometry.specs.declared.error.Error.TheVariants.{NoMemory};
@@ -10,10 +9,9 @@ use crate::lent::Lent;
 use crate::rights::Rights;
 use crate::works::OneBeside;
 use device::Block;
-use file_cells::FilePass;
-use file_readers::Seat;
+use file_cells::{FilePass, Seat};
 use geometry::Error;
-use rights_names::VolumeName;
+use rights_permits::VolumeName;
 use std::alloc::Global;
 use std::mem;
 

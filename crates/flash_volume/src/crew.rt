@@ -3,7 +3,7 @@ use crate::leave::Leave;
 use crate::lent::Lent;
 use device::{Block, Meta};
 use geometry::Error;
-use rights_names::VolumeName;
+use rights_permits::VolumeName;
 use std::alloc::Global;
 use std::sync::Wait;
 use volume::Volume;

@@ -13,12 +13,13 @@ use crate::block::SharedBlock;
 use crate::crew::{Crew, Part};
 use crate::leave::{Done, Fault};
 use crate::leaving::take_turns_and_leave;
+use crate::mounting::mount_parts;
 use crate::rights::Rights;
 use area::Threading;
 use device::{Block, Meta, Parts};
-use mount::{Mounted, MountedQueues, mount};
+use mount::{Mounted, MountedQueues};
 use mount_reading::OpenFault;
-use rights_names::{BooksOf, NumbersOf, PoolName, TablesName, TurnName, WordsOf};
+use rights_permits::{BooksOf, NumbersOf, PoolName, TablesName, TurnName, WordsOf};
 use std::alloc::Global;
 use std::marker::Brand;
 use std::sync::Wait;
@@ -50,20 +51,20 @@ where
     ensures done { IfOk result (VisitedOn M.seen B.address_of B.content_of (λ geometry base before left. WasCrewed M.seen M.may_leave B.address_of B.content_of (X.did crew geometry base (at_first before) []) (X.failed crew geometry base (at_first before) []) geometry left) parts) }
     ensures handed_back { IfErr result (λ fault. HandsBack M.seen M.may_leave M.moment M.left_since M.failed B.address_of B.content_of B.failed parts fault.parts fault.error) }
 {
-    match mount(alloc, parts) {
+    match mount_parts(alloc, parts) {
         Ok(mounted) => {
-            shown_law(&mounted);
-            on_mounted::<Brand, M, B, R, X>(rt, alloc, mounted, threading, crew)
+            let crewing = Crewing { threading, crew };
+            on_mounted::<Brand, M, B, R, X>(rt, alloc, mounted, crewing)
         }
         Err(fault) => Err(fault),
     }
 }
 
-// A crash may leave what the device shows. It runs nothing: its contract is the law.
-fn shown_law<M: Meta, B: Block + Drop>(mounted: &Mounted<M, B>)
-    ensures { M.may_leave mounted.now.parts.meta (M.seen mounted.now.parts.meta) }
-{
-    let _mounted = mounted;
+// A crew, and the rule by which the volume threads meanwhile.
+#[derive(Drop)]
+struct Crewing<X> {
+    threading: Threading,
+    crew: X,
 }
 
 // The names ask for `Send` and `Sync` since threads share the volume that has them in its type.
@@ -77,22 +78,22 @@ fn on_mounted<
     rt: &R,
     alloc: Global,
     mounted: Mounted<M, B>,
-    threading: Threading,
-    crew: X,
+    crewing: Crewing<X>,
 ) -> Result<Result<Done<M, B, X::Output>, Fault<M, B>>, OpenFault<M, B>>
 where
     X::Part: Send + Drop,
     <X::Part as Part<M, B>>::Done: Send,
     requires books { mounted.books ≡ K.books }
+    requires rows { mounted.rows ≡ K.rows }
     requires words { mounted.words ≡ K.words }
     requires geometry { mounted.geometry ≡ K.geometry }
-    requires fits { MayBegin (X.fits crew) }
-    ensures done { IfOk result (VisitedFrom (λ geometry base before left. WasCrewed M.seen M.may_leave B.address_of B.content_of (X.did crew geometry base (at_first before) []) (X.failed crew geometry base (at_first before) []) geometry left) mounted.geometry mounted.image (bytes_at B.content_of mounted.parts.blocks.items)) }
+    requires fits { MayBegin (X.fits crewing.crew) }
+    ensures done { IfOk result (VisitedFrom (λ geometry base before left. WasCrewed M.seen M.may_leave B.address_of B.content_of (X.did crewing.crew geometry base (at_first before) []) (X.failed crewing.crew geometry base (at_first before) []) geometry left) mounted.geometry mounted.image (bytes_at B.content_of mounted.parts.blocks.items)) }
     ensures back { IfErr result (λ fault. fault.parts ≡ mounted.parts) }
     ensures error { IfErr result (λ fault. fault.error ≡ NoMemory) }
 {
     match mounted.name::<BooksOf<K>, WordsOf<K>, NumbersOf<K>>() {
-        Ok(opened) => on_opened::<K, Brand, Brand, M, B, R, X>(rt, alloc, opened, threading, crew),
+        Ok(opened) => on_opened::<K, Brand, Brand, M, B, R, X>(rt, alloc, opened, crewing),
         Err(fault) => Err(fault),
     }
 }
@@ -109,23 +110,22 @@ fn on_opened<
     rt: &R,
     alloc: Global,
     opened: MountedQueues<BooksOf<K>, WordsOf<K>, NumbersOf<K>, M, B>,
-    threading: Threading,
-    crew: X,
+    crewing: Crewing<X>,
 ) -> Result<Result<Done<M, B, X::Output>, Fault<M, B>>, OpenFault<M, B>>
 where
     X::Part: Send + Drop,
     <X::Part as Part<M, B>>::Done: Send,
     requires named { HaveNames opened.queues opened.channel P.ordinary P.reserve T.turns T.key }
-    requires fits { MayBegin (X.fits crew) }
-    ensures done { IfOk result (VisitedFrom (λ geometry base before left. WasCrewed M.seen M.may_leave B.address_of B.content_of (X.did crew geometry base (at_first before) []) (X.failed crew geometry base (at_first before) []) geometry left) opened.named.mounted.geometry opened.named.mounted.image (bytes_at B.content_of opened.named.mounted.parts.blocks.items)) }
+    requires fits { MayBegin (X.fits crewing.crew) }
+    ensures done { IfOk result (VisitedFrom (λ geometry base before left. WasCrewed M.seen M.may_leave B.address_of B.content_of (X.did crewing.crew geometry base (at_first before) []) (X.failed crewing.crew geometry base (at_first before) []) geometry left) opened.named.mounted.geometry opened.named.mounted.image (bytes_at B.content_of opened.named.mounted.parts.blocks.items)) }
     ensures back { IfErr result (λ fault. fault.parts ≡ opened.named.mounted.parts) }
     ensures error { IfErr result (λ fault. fault.error ≡ NoMemory) }
 {
     match opened.name::<P, T, R>(rt) {
         Ok((volume, seats, passes)) => {
-            let volume = volume.with_threading(rt, threading);
+            let volume = volume.with_threading(rt, crewing.threading);
             let rights = Rights { seats, passes };
-            Ok(take_turns_and_leave(rt, alloc, volume, rights, crew))
+            Ok(take_turns_and_leave(rt, alloc, volume, rights, crewing.crew))
         }
         Err(fault) => Err(fault),
     }

@@ -6,7 +6,7 @@ ghost use Rattle.geometry.specs.File.{erased};
 use device::{Block, Meta};
 use file_cells::FilePass;
 use geometry::Error;
-use rights_names::VolumeName;
+use rights_permits::VolumeName;
 use std::sync::Wait;
 use volume::Volume;
 

@@ -10,13 +10,14 @@ ghost use Rattle.volume.specs.Picked.{HaveNames};
 
 use crate::leave::{Done, Fault, Leave};
 use crate::leaving::visit_and_leave;
+use crate::mounting::mount_parts;
 use crate::rights::Rights;
 use crate::visit::Visit;
 use area::Threading;
 use device::{Block, Meta, Parts};
-use mount::{Mounted, MountedQueues, mount};
+use mount::{Mounted, MountedQueues};
 use mount_reading::OpenFault;
-use rights_names::{BooksOf, NumbersOf, PoolName, TablesName, TurnName, WordsOf};
+use rights_permits::{BooksOf, NumbersOf, PoolName, TablesName, TurnName, WordsOf};
 use std::alloc::Global;
 use std::marker::Brand;
 use std::sync::Wait;
@@ -39,7 +40,7 @@ pub fn visit_volume<M: Meta, B: Block + Drop, R: Wait, X: Visit<M, B> + Drop>(
     ensures done { IfOk result (VisitedOn M.seen B.address_of B.content_of (λ geometry base before left. WasWorked M.seen M.may_leave B.address_of B.content_of (λ output after. X.did visit geometry base before output after) (λ error. X.failed visit geometry base before error) leave geometry left) parts) }
     ensures handed_back { IfErr result (λ fault. HandsBack M.seen M.may_leave M.moment M.left_since M.failed B.address_of B.content_of B.failed parts fault.parts fault.error) }
 {
-    match mount(alloc, parts) {
+    match mount_parts(alloc, parts) {
         Ok(mounted) => on_mounted::<Brand, M, B, R, X>(rt, alloc, mounted, threading, leave, visit),
         Err(fault) => Err(fault),
     }
@@ -54,6 +55,7 @@ fn on_mounted<K: TablesName, M: Meta, B: Block + Drop, R: Wait, X: Visit<M, B> +
     visit: X,
 ) -> Result<Result<Done<M, B, X::Output>, Fault<M, B>>, OpenFault<M, B>>
     requires books { mounted.books ≡ K.books }
+    requires rows { mounted.rows ≡ K.rows }
     requires words { mounted.words ≡ K.words }
     requires geometry { mounted.geometry ≡ K.geometry }
     ensures done { IfOk result (VisitedFrom (λ geometry base before left. WasWorked M.seen M.may_leave B.address_of B.content_of (λ output after. X.did visit geometry base before output after) (λ error. X.failed visit geometry base before error) leave geometry left) mounted.geometry mounted.image (bytes_at B.content_of mounted.parts.blocks.items)) }

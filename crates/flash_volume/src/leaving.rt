@@ -2,7 +2,7 @@
 ghost use Rattle.std.specs.Prelude.{◌≡◌, [], IfOk, IfErr, vec_len};
 ghost use Rattle.flash_volume.specs.Turns.{WasCrewed};
 ghost use Rattle.flash_volume.specs.Worked.{AreClosed, AreGivenUp, AreLeft, IsNotClosed, WasWorked};
-ghost use Rattle.flash_volume.specs.declared.leave.Stage.TheVariants.{Close as AtClose};
+ghost use Rattle.flash_volume.specs.declared.leave.Stage.TheVariants.{Work as AtWork, Close as AtClose};
 
 use crate::block::SharedBlock;
 use crate::crew::{Crew, Part};
@@ -11,7 +11,8 @@ use crate::rights::Rights;
 use crate::turns::take_turns;
 use crate::visit::Visit;
 use device::{Block, Meta, Parts};
-use rights_names::VolumeName;
+use geometry::Error;
+use rights_permits::VolumeName;
 use std::alloc::Global;
 use std::sync::Wait;
 use std::thread::Threads;
@@ -30,15 +31,8 @@ pub(crate) fn visit_and_leave<V: VolumeName, M: Meta, B: Block + Drop, R: Wait, 
 {
     let mut rights = rights;
     match visit.visit(rt, alloc, &volume, &mut rights) {
-        Ok(output) => match leave_volume(rt, volume, rights, leave) {
-            Ok(parts) => Ok(Done { parts, output }),
-            Err(fault) => Err(fault),
-        },
-        Err(error) => Err(Fault {
-            parts: volume.discard(rt),
-            stage: Stage::Work,
-            error,
-        }),
+        Ok(output) => leave_with(rt, volume, rights, leave, output),
+        Err(error) => Err(give_up(rt, volume, error)),
     }
 }
 
@@ -63,20 +57,50 @@ where
     ensures { WasCrewed M.seen M.may_leave B.address_of B.content_of (X.did crew V.Numbers.geometry volume.base (record { passes = rights.passes.items; seats = vec_len rights.seats; readers = [] }) []) (X.failed crew V.Numbers.geometry volume.base (record { passes = rights.passes.items; seats = vec_len rights.seats; readers = [] }) []) V.Numbers.geometry result }
 {
     match take_turns(rt, alloc, &volume, rights, crew) {
-        Ok((rights, output, leave)) => match leave_volume(rt, volume, rights, leave) {
-            Ok(parts) => Ok(Done { parts, output }),
-            Err(fault) => Err(fault),
-        },
-        Err(error) => Err(Fault {
-            parts: volume.discard(rt),
-            stage: Stage::Work,
-            error,
-        }),
+        Ok((rights, output, leave)) => leave_with(rt, volume, rights, leave, output),
+        Err(error) => Err(give_up(rt, volume, error)),
+    }
+}
+
+// Leaves a volume on which work was done, which answered this.
+pub(crate) fn leave_with<V: VolumeName, M: Meta, B: Block + Drop, R: Wait, O: Drop>(
+    rt: &R,
+    volume: Volume<V, M, B>,
+    rights: Rights<V>,
+    leave: Leave,
+    output: O,
+) -> Result<Done<M, B, O>, Fault<M, B>>
+    ensures output { IfOk result (λ done. done.output ≡ output) }
+    ensures left { IfOk result (λ done. AreLeft M.seen M.may_leave B.address_of B.content_of leave V.Numbers.geometry rights.passes.items done.parts) }
+    ensures given_up { IfErr result (λ fault. AreGivenUp M.seen M.may_leave B.address_of B.content_of V.Numbers.geometry fault.parts) }
+    ensures stage { IfErr result (λ fault. fault.stage ≡ AtClose) }
+    ensures error { IfErr result (λ fault. IsNotClosed fault.error) }
+{
+    match leave_volume(rt, volume, rights, leave) {
+        Ok(parts) => Ok(Done { parts, output }),
+        Err(fault) => Err(fault),
+    }
+}
+
+// Gives a volume up, the work on which was refused: nothing more is written.
+pub(crate) fn give_up<V: VolumeName, M: Meta, B: Block + Drop, R: Wait>(
+    rt: &R,
+    volume: Volume<V, M, B>,
+    error: Error,
+) -> Fault<M, B>
+    ensures given_up { AreGivenUp M.seen M.may_leave B.address_of B.content_of V.Numbers.geometry result.parts }
+    ensures stage { result.stage ≡ AtWork }
+    ensures error { result.error ≡ error }
+{
+    Fault {
+        parts: volume.discard(rt),
+        stage: Stage::Work,
+        error,
     }
 }
 
 // Leaves a volume.
-pub(crate) fn leave_volume<V: VolumeName, M: Meta, B: Block + Drop, R: Wait>(
+fn leave_volume<V: VolumeName, M: Meta, B: Block + Drop, R: Wait>(
     rt: &R,
     volume: Volume<V, M, B>,
     rights: Rights<V>,

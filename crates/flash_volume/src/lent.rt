@@ -3,8 +3,8 @@ ghost use Rattle.std.specs.Prelude.{◌≡◌, [], vec_len};
 
 use crate::rights::Rights;
 use device::Block;
-use file_readers::Reader;
-use rights_names::VolumeName;
+use file_cells::Reader;
+use rights_permits::VolumeName;
 use std::alloc::Global;
 use std::marker::Model;
 use std::mem;
@@ -20,7 +20,7 @@ impl<'v, V: VolumeName, B: Block + Drop> Model for Lent<'v, V, B> {
     ghost use Rattle.std.specs.Prelude.{vec_len};
     ghost use Rattle.std.specs.Coded.{codes};
     ghost use Rattle.geometry.specs.File.{blocks_code};
-    ghost use Rattle.file_readers.specs.Reader.{segments_code};
+    ghost use Rattle.file_cells.specs.Reader.{segments_code};
     ghost use Rattle.flash_volume.specs.Turns.{Held};
 
     ghost Value = { Held };

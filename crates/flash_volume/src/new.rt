@@ -1,8 +1,8 @@
 //! A volume is made, worked on and left.
-ghost use Rattle.std.specs.Prelude.{◌≡◌, ◌≢◌, ◌⊎◌, ℕ, [], IfOk, IfErr};
+ghost use Rattle.std.specs.Prelude.{◌≡◌, ◌⊎◌, ℕ, [], IfOk, IfErr};
 ghost use Rattle.device.specs.Parts.{HasSize, IsBlockRun};
 ghost use Rattle.flash_volume.specs.Beside.{AreDoneBeside, HaveFailed};
-ghost use Rattle.flash_volume.specs.Worked.{AreGivenUp, EndedWith, IsNotClosed};
+ghost use Rattle.flash_volume.specs.Worked.{EndedWith, IsNotClosed};
 ghost use Rattle.flash_volume.specs.declared.leave.Stage.TheVariants.{Format as AtFormat, Mount as AtMount, Work as AtWork, Close as AtClose};
 ghost use Rattle.geometry.specs.declared.error.Error.TheVariants.{NoMemory, Device};
 

@@ -5,7 +5,7 @@ ghost use Rattle.flash_volume.specs.Refused.{HandsBack};
 ghost use Rattle.flash_volume.specs.Worked.{AreGivenUp, IsNotClosed, IsSoOf, WorkedOn};
 ghost use Rattle.flash_volume.specs.declared.leave.Stage.TheVariants.{Format as AtFormat, Mount as AtMount, Work as AtWork, Close as AtClose};
 ghost use Rattle.geometry.specs.declared.geometry.Geometry.{Geometry};
-ghost use Rattle.packs_format.specs.Grammar.{HasSuper};
+ghost use Rattle.pack_tables.specs.Grammar.{HasSuper};
 
 use crate::ladder::visit_volume;
 use crate::leave::{Done, Fault, Leave, Stage};
@@ -16,7 +16,7 @@ use area::Threading;
 use device::{Block, Meta, Parts};
 use geometry::Error;
 use mount_reading::OpenFault;
-use rights_names::VolumeName;
+use rights_permits::VolumeName;
 use std::alloc::Global;
 use std::sync::Wait;
 use volume::Volume;

@@ -1,7 +1,6 @@
 //! What the calls of a volume ask for.
-use file_cells::FilePass;
-use file_readers::Seat;
-use rights_names::VolumeName;
+use file_cells::{FilePass, Seat};
+use rights_permits::VolumeName;
 
 /// The rights to a volume that are out: seats of readers, and passes of files. A volume is closed with all of them.
 #[derive(Drop)]

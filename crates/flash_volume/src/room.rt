@@ -1,14 +1,14 @@
 //! Room is made on a volume that runs.
 ghost use Rattle.std.specs.Prelude.{◌≡◌, ◌<◌, ◌≤◌, IfOk, IfErr};
 ghost use Rattle.close_area.specs.Refused.{IsNotWritten};
-ghost use Rattle.file_readers.specs.Status.{all};
+ghost use Rattle.file_cells.specs.Status.{all};
 ghost use Rattle.flash_volume.specs.declared.room.Ending.TheVariants.{Enough, NothingToWin};
 
 use cleaning::Policy;
 use device::{Block, Meta};
-use file_readers::Status;
+use file_cells::Status;
 use geometry::{Error, Geometry};
-use rights_names::VolumeName;
+use rights_permits::VolumeName;
 use std::sync::Wait;
 use volume::Volume;
 

@@ -6,7 +6,7 @@ ghost use Rattle.flash_volume.specs.Worked.{AreGivenUp, IsNotClosed, WorkedOn};
 ghost use Rattle.flash_volume.specs.declared.leave.Stage.TheVariants.{Format as AtFormat, Mount as AtMount, Work as AtWork, Close as AtClose};
 ghost use Rattle.geometry.specs.declared.error.Error.TheVariants.{NoMemory};
 ghost use Rattle.geometry.specs.declared.geometry.Geometry.{Geometry};
-ghost use Rattle.packs_format.specs.Grammar.{HasSuper};
+ghost use Rattle.pack_tables.specs.Grammar.{HasSuper};
 
 use crate::block::SharedBlock;
 use crate::leave::{Done, Fault, Leave};
@@ -18,7 +18,7 @@ use crate::shelf::Shelf;
 use crate::turns::{Job, do_side_by_side};
 use device::{Block, Meta, Parts};
 use geometry::Error;
-use rights_names::VolumeName;
+use rights_permits::VolumeName;
 use std::alloc::Global;
 use std::sync::Wait;
 use std::thread::Threads;

@@ -10,17 +10,18 @@ ghost use Rattle.image_codec.specs.Blocks.{bytes_at};
 ghost use Rattle.volume.specs.Picked.{HaveNames};
 
 use crate::block::SharedBlock;
-use crate::leave::{Done, Fault, Stage};
-use crate::leaving::leave_volume;
+use crate::leave::{Done, Fault};
+use crate::leaving::{give_up, leave_with};
+use crate::mounting::mount_parts;
 use crate::rights::Rights;
 use crate::serve::{Serving, serve_side_by_side};
 use crate::service::Service;
 use area::Threading;
 use device::{Block, Meta, Parts};
 use geometry::Error;
-use mount::{Mounted, MountedQueues, mount};
+use mount::{Mounted, MountedQueues};
 use mount_reading::OpenFault;
-use rights_names::{BooksOf, NumbersOf, PoolName, TablesName, TurnName, WordsOf};
+use rights_permits::{BooksOf, NumbersOf, PoolName, TablesName, TurnName, WordsOf};
 use std::alloc::Global;
 use std::marker::Brand;
 use std::sync::Wait;
@@ -46,20 +47,10 @@ pub(crate) fn serve_by<
     ensures done { IfOk result (VisitedOn M.seen B.address_of B.content_of (λ geometry base before left. WasWorked M.seen M.may_leave B.address_of B.content_of (λ ended after. Unit {0}) (λ error. error ≡ NoMemory) serving.entry.leave geometry left) parts) }
     ensures handed_back { IfErr result (λ fault. HandsBack M.seen M.may_leave M.moment M.left_since M.failed B.address_of B.content_of B.failed parts fault.parts fault.error) }
 {
-    match mount(alloc, parts) {
-        Ok(mounted) => {
-            shown_law(&mounted);
-            on_mounted::<Brand, M, B, R, S>(rt, alloc, mounted, serving)
-        }
+    match mount_parts(alloc, parts) {
+        Ok(mounted) => on_mounted::<Brand, M, B, R, S>(rt, alloc, mounted, serving),
         Err(fault) => Err(fault),
     }
-}
-
-// A crash may leave what the device shows. It runs nothing: its contract is the law.
-fn shown_law<M: Meta, B: Block + Drop>(mounted: &Mounted<M, B>)
-    ensures { M.may_leave mounted.now.parts.meta (M.seen mounted.now.parts.meta) }
-{
-    let _mounted = mounted;
 }
 
 // The names ask for `Send` and `Sync` since threads share the volume that has them in its type.
@@ -76,6 +67,7 @@ fn on_mounted<
     serving: Serving<'_, S>,
 ) -> Result<Result<Done<M, B, Vec<Result<(), Error>>>, Fault<M, B>>, OpenFault<M, B>>
     requires books { mounted.books ≡ K.books }
+    requires rows { mounted.rows ≡ K.rows }
     requires words { mounted.words ≡ K.words }
     requires geometry { mounted.geometry ≡ K.geometry }
     ensures done { IfOk result (VisitedFrom (λ geometry base before left. WasWorked M.seen M.may_leave B.address_of B.content_of (λ ended after. Unit {0}) (λ error. error ≡ NoMemory) serving.entry.leave geometry left) mounted.geometry mounted.image (bytes_at B.content_of mounted.parts.blocks.items)) }
@@ -135,14 +127,7 @@ fn serve_and_leave<
 {
     let leave = serving.leave;
     match serve_side_by_side(rt, alloc, &volume, rights, serving) {
-        Ok((rights, output)) => match leave_volume(rt, volume, rights, leave) {
-            Ok(parts) => Ok(Done { parts, output }),
-            Err(fault) => Err(fault),
-        },
-        Err(error) => Err(Fault {
-            parts: volume.discard(rt),
-            stage: Stage::Work,
-            error,
-        }),
+        Ok((rights, output)) => leave_with(rt, volume, rights, leave, output),
+        Err(error) => Err(give_up(rt, volume, error)),
     }
 }

@@ -2,7 +2,7 @@
 use crate::shelf::Shelf;
 use device::{Block, Meta};
 use geometry::Error;
-use rights_names::VolumeName;
+use rights_permits::VolumeName;
 use std::alloc::Global;
 use std::sync::Wait;
 use volume::Volume;

@@ -5,7 +5,7 @@ ghost use Rattle.geometry.specs.declared.error.Error.TheVariants.{NoMemory};
 
 use file_cells::FilePass;
 use geometry::Error;
-use rights_names::VolumeName;
+use rights_permits::VolumeName;
 use std::alloc::Global;
 use std::sync::{RwLock, RwLockReadGuard, RwLockWriteGuard, Wait};
 

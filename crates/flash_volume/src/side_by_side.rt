@@ -6,7 +6,7 @@ ghost use Rattle.flash_volume.specs.Refused.{HandsBack};
 ghost use Rattle.flash_volume.specs.Worked.{AreGivenUp, IsNotClosed, IsSoOf, WorkedOn};
 ghost use Rattle.flash_volume.specs.declared.leave.Stage.TheVariants.{Format as AtFormat, Mount as AtMount, Work as AtWork, Close as AtClose};
 ghost use Rattle.geometry.specs.declared.geometry.Geometry.{Geometry};
-ghost use Rattle.packs_format.specs.Grammar.{HasSuper};
+ghost use Rattle.pack_tables.specs.Grammar.{HasSuper};
 
 use crate::beside::Beside;
 use crate::block::SharedBlock;

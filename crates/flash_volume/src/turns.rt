@@ -10,7 +10,7 @@ use crate::lent::Lent;
 use crate::rights::Rights;
 use device::{Block, Meta};
 use geometry::Error;
-use rights_names::VolumeName;
+use rights_permits::VolumeName;
 use std::alloc::{AllocError, Global};
 use std::sync::Wait;
 use std::thread;

@@ -13,7 +13,7 @@ use crate::rights::Rights;
 use crate::work::Work;
 use device::{Block, Meta};
 use geometry::Error;
-use rights_names::VolumeName;
+use rights_permits::VolumeName;
 use std::alloc::Global;
 use std::mem;
 use std::sync::Wait;

@@ -5,8 +5,8 @@ use Rattle.geometry.specs.Shape.{block_bytes, segment_blocks}
 use Rattle.image.specs.Image.{Image, node_of}
 use Rattle.image.specs.Free.{free_count}
 use Rattle.image.specs.Rules.{IsLawful}
-use Rattle.packs_format.specs.File.{HoldsImage}
-use Rattle.packs_format.specs.Grammar.{HasSuper}
+use Rattle.pack_tables.specs.File.{HoldsImage}
+use Rattle.pack_tables.specs.Grammar.{HasSuper}
 use Rattle.image_c.specs.declared.facts.Facts.{Facts}
 
 -- the file has this superblock and this image, which is lawful

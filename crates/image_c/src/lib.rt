@@ -11,7 +11,7 @@ use facts::{Facts, facts_of, fault_of};
 use file::copy_file;
 use image::Image;
 use image_reading::length_of;
-use packs_format::ReadImage;
+use pack_tables::ReadImage;
 use std::alloc::Global;
 
 /// Checks an image file, all of whose bytes are given. Answers 0 where the image of its last checkpoint is lawful, and tells what it

@@ -5,3 +5,4 @@ pub mod NamedLemmas
 pub mod FaultLemmas
 pub mod LengthLemmas
 pub mod UsedLemmas
+pub mod ZerosBehind

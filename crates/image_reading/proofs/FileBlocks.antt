@@ -16,7 +16,7 @@ use Rattle.image.specs.Image.{Image, node_of}
 use Rattle.image.specs.Reading.{node_at, read_node}
 use Rattle.image.proofs.FileBlocks.{content, entries, in_entries}
 use Rattle.image_reading.specs.Held.{file_in}
-use Rattle.packs_format.specs.File.{block_in, file_bytes}
+use Rattle.pack_tables.specs.File.{block_in, file_bytes}
 
 module _ (blocks : ℕ → Block) where
   -- a block that the file has

@@ -1,3 +1,7 @@
+mod Anew
+mod Copying
+mod RefusingUpgrade
+mod Written
 mod FileBlocks
 pub mod Handing
 mod Refusing

@@ -16,10 +16,10 @@ use Rattle.image_reading.specs.declared.fault.ReadFault.TheVariants.{Refused}
 use Rattle.packs.specs.Area.{reading_of}
 use Rattle.packs.specs.Pack.{picked}
 use Rattle.packs.specs.Parts.{body_bytes}
-use Rattle.packs_format.proofs.Parts.{none_of_this_length}
-use Rattle.packs_format.specs.File.{block_in, file_bytes}
-use Rattle.packs_format.specs.Grammar.{HasSuper}
-use Rattle.packs_format.specs.Holding.{HoldsTables}
+use Rattle.pack_tables.proofs.Parts.{none_of_this_length}
+use Rattle.pack_tables.specs.File.{block_in, file_bytes}
+use Rattle.pack_tables.specs.Grammar.{HasSuper}
+use Rattle.pack_tables.specs.Holding.{HoldsTables}
 
 pub if_refused : (fault : ReadFault) (P Q : Error → Type 0) → ((e : Error) → P e → Q e) → IfRefused fault P → IfRefused fault Q
 if_refused (Refused e) P Q so is = so e is

@@ -10,9 +10,9 @@ use Rattle.image.specs.Node.{Node}
 use Rattle.image.specs.Reading.{read_nodes}
 use Rattle.image.specs.Rules.{IsLawful}
 use Rattle.image_reading.specs.Held.{HoldsVolume, area_in}
-use Rattle.packs_format.specs.File.{block_in, file_bytes}
-use Rattle.packs_format.specs.Grammar.{HasSuper}
-use Rattle.packs_format.specs.Holding.{HoldsTables}
+use Rattle.pack_tables.specs.File.{block_in, file_bytes}
+use Rattle.pack_tables.specs.Grammar.{HasSuper}
+use Rattle.pack_tables.specs.Holding.{HoldsTables}
 
 -- the superblock that was read in front is that of the area
 pub front_there : (geometry : Geometry) (front bytes : List ℕ) → front ≡ part 0 64 bytes → length bytes ≡ file_bytes geometry → HasSuper geometry front

@@ -6,8 +6,8 @@ use Rattle.geometry.specs.File.{File}
 use Rattle.image.specs.Files.{file_of, files}
 use Rattle.image.specs.Image.{Image}
 use Rattle.image.specs.Rules.{IsLawful}
-use Rattle.packs_format.specs.File.{block_in, file_bytes}
-use Rattle.packs_format.specs.OneImage.{HoldVolume}
+use Rattle.pack_tables.specs.File.{block_in, file_bytes}
+use Rattle.pack_tables.specs.OneImage.{HoldVolume}
 
 -- the meta area in front
 abbrev pub area_in : Geometry → List ℕ → List ℕ

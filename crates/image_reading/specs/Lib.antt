@@ -1,3 +1,4 @@
+pub mod Upgraded
 pub mod Content
 pub mod Held
 pub mod Told

@@ -11,8 +11,8 @@ use Rattle.image_reading.specs.declared.fault.ReadFault.{ReadFault}
 use Rattle.image_reading.specs.declared.fault.ReadFault.TheVariants.{Refused}
 use Rattle.packs.specs.Area.{reading_of}
 use Rattle.packs.specs.Pack.{picked}
-use Rattle.packs_format.specs.File.{block_in, file_bytes}
-use Rattle.packs_format.specs.Grammar.{HasSuper, SpellsTables, SpellsNoTables}
+use Rattle.pack_tables.specs.File.{block_in, file_bytes}
+use Rattle.pack_tables.specs.Grammar.{HasSuper, SpellsTables, SpellsNoTables}
 
 -- what is said of a refusal; of a source or a writer that failed it says nothing
 abbrev pub IfRefused : ReadFault → (Error → Type 0) → Type 0

@@ -12,9 +12,9 @@ ghost use Rattle.packs.specs.Area.{reading_of};
 ghost use Rattle.packs.specs.Device.{AreSettled, body_of};
 ghost use Rattle.packs.specs.Pack.{picked};
 ghost use Rattle.packs.specs.Parts.{body_bytes};
-ghost use Rattle.packs_format.specs.File.{block_in, file_bytes as bytes_of_file};
-ghost use Rattle.packs_format.specs.Grammar.{HasSuper};
-ghost use Rattle.packs_format.specs.Holding.{HoldsTables};
+ghost use Rattle.pack_tables.specs.File.{block_in, file_bytes as bytes_of_file};
+ghost use Rattle.pack_tables.specs.Grammar.{HasSuper};
+ghost use Rattle.pack_tables.specs.Holding.{HoldsTables};
 
 use crate::fault::ReadFault;
 use crate::source::ImageSource;
@@ -23,8 +23,8 @@ use geometry::{Error, Geometry};
 use image::{Image, Node, NodeEntry};
 use image_checker::check;
 use image_codec::decode_node;
+use pack_tables::{decode, file_bytes, read_super};
 use packs::Packs;
-use packs_format::{decode, file_bytes, read_super};
 use std::alloc::Global;
 
 // The bytes of a superblock.

@@ -7,7 +7,7 @@ use Rattle.geometry.specs.declared.geometry.Geometry.{Geometry}
 use Rattle.geometry.specs.declared.owner.Mark.{Mark}
 use Rattle.rights_books.specs.declared.claim.Entry.{Entry}
 use Rattle.tickets.specs.Placed.{Placed}
-use Rattle.tree.specs.Change.{of_tickets, of_tokens}
+use Rattle.nodes.specs.Change.{of_tickets, of_tokens}
 use Rattle.nodes.specs.declared.file.FileState.{FileState}
 use Rattle.nodes.specs.File.{weight_of}
 use Rattle.nodes.specs.Held.{AreHeld}
@@ -16,10 +16,10 @@ use Rattle.nodes_law.proofs.Listing.{nodes_weigh}
 use Rattle.image.specs.Image.{Image}
 use Rattle.image.specs.Walk.{inodes, misfits}
 use Rattle.image.specs.Rules.{IsLawful}
-use Rattle.mount_trees.specs.Goods.{Shelves, in_place}
-use Rattle.mount_trees.specs.Loaded.{of_rights}
-use Rattle.mount_trees.specs.FileLoaded.{FitsFile, IsLoadedFile}
-use Rattle.mount_trees.proofs.Fitting.{all_at, inode_listed, file_fits}
+use Rattle.mount_blocks.specs.TreeGoods.{Shelves, in_place}
+use Rattle.mount_blocks.specs.Loaded.{of_rights}
+use Rattle.mount_blocks.specs.FileLoaded.{FitsFile, IsLoadedFile}
+use Rattle.mount_blocks.proofs.Fitting.{all_at, inode_listed, file_fits}
 use Rattle.mount_blocks.specs.Goods.{AreGoods}
 use Rattle.mount.specs.MountFiles.{HasFile, AreFiles}
 use Rattle.mount_blocks.specs.Lodging.{file_of, of_file, of_some}

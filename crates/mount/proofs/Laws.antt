@@ -11,10 +11,10 @@ use Rattle.geometry.specs.Area.{block_count}
 use Rattle.geometry.specs.Shape.{block_bytes}
 use Rattle.rights_books.specs.declared.claim.Entry.{Entry}
 use Rattle.tickets.specs.Placed.{Placed}
-use Rattle.tree.specs.declared.branch.Branch.{Branch}
-use Rattle.tree.specs.Tree.{entry_at}
-use Rattle.tree.specs.Change.{TreeNode, ticket_weight, of_tickets, of_tokens, unnumbered}
-use Rattle.tree.proofs.Changes.{weigh_zero}
+use Rattle.nodes.specs.declared.branch.Branch.{Branch}
+use Rattle.nodes.specs.Tree.{entry_at}
+use Rattle.nodes.specs.Change.{TreeNode, ticket_weight, of_tickets, of_tokens, unnumbered}
+use Rattle.nodes.proofs.Changes.{weigh_zero}
 use Rattle.nodes.specs.declared.file.FileState.{FileState}
 use Rattle.nodes.specs.File.{weight_direct, weight_indirect, weight_double, below_weight, weight_of}
 use Rattle.nodes.specs.Owners.{HasNumbers}
@@ -27,10 +27,10 @@ use Rattle.image.specs.declared.image.NodeEntry.{NodeEntry}
 use Rattle.image.specs.Image.{Image, no_entry, entry_of, node_of}
 use Rattle.image.specs.Walk.{child}
 use Rattle.image.specs.Rules.{IsLawful, IsNodeOf, IsEntry}
-use Rattle.mount_trees.specs.Goods.{Shelves}
-use Rattle.mount_trees.specs.FileLoaded.{FitsFile, IsLoadedFile, loaded_ticket, loaded_direct, loaded_indirect, loaded_double}
-use Rattle.mount_trees.proofs.Ends.{at_any, direct_of, indirect_of, double_of}
-use Rattle.mount_trees.specs.Marked.{marked_owner}
+use Rattle.mount_blocks.specs.TreeGoods.{Shelves}
+use Rattle.mount_blocks.specs.FileLoaded.{FitsFile, IsLoadedFile, loaded_ticket, loaded_direct, loaded_indirect, loaded_double}
+use Rattle.mount_blocks.proofs.Ends.{at_any, direct_of, indirect_of, double_of}
+use Rattle.mount_blocks.specs.Marked.{marked_owner}
 use Rattle.mount_blocks.specs.Table.{ticket_of}
 use Rattle.mount_blocks.proofs.States.{same_some, some_within}
 use Rattle.mount_blocks.specs.Goods.{AreGoods, data_ticket}

@@ -12,3 +12,4 @@ pub mod Rest
 pub mod Slips
 pub mod Passes
 pub mod Pooled
+pub mod Parts

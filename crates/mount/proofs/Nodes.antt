@@ -8,9 +8,9 @@ use Rattle.geometry.specs.declared.kind.Kind.TheVariants.{File}
 use Rattle.geometry.specs.Path.{node_entries, largest_length}
 use Rattle.rights_books.specs.declared.claim.Entry.{Entry}
 use Rattle.tickets.specs.Placed.{Placed}
-use Rattle.tree.specs.declared.branch.Branch.{Branch}
-use Rattle.tree.specs.Tree.{entry_at}
-use Rattle.tree.specs.Change.{TreeNode}
+use Rattle.nodes.specs.declared.branch.Branch.{Branch}
+use Rattle.nodes.specs.Tree.{entry_at}
+use Rattle.nodes.specs.Change.{TreeNode}
 use Rattle.nodes.specs.declared.file.FileState.{FileState}
 use Rattle.nodes.specs.File.{address_of, nid_of, inode_of}
 use Rattle.image_law.specs.Items.{Among}
@@ -20,8 +20,8 @@ use Rattle.image.specs.Node.{Node, HasEntries, IsPlain}
 use Rattle.image.specs.Image.{Image, no_node, entry_of, node_of}
 use Rattle.image.specs.Walk.{child}
 use Rattle.image.specs.Rules.{IsLawful, IsNodeOf, HasRange}
-use Rattle.mount_trees.specs.Goods.{Shelves}
-use Rattle.mount_trees.specs.FileLoaded.{FitsFile, IsLoadedFile, fits_direct, fits_indirect, fits_double, loaded_ticket, loaded_direct, loaded_indirect, loaded_double}
+use Rattle.mount_blocks.specs.TreeGoods.{Shelves}
+use Rattle.mount_blocks.specs.FileLoaded.{FitsFile, IsLoadedFile, fits_direct, fits_indirect, fits_double, loaded_ticket, loaded_direct, loaded_indirect, loaded_double}
 use Rattle.mount_blocks.specs.Goods.{AreGoods}
 use Rattle.mount_blocks.proofs.Passing.{no_token, some_token, taken_of, entry_within}
 use Rattle.mount_blocks.proofs.States.{same_some}

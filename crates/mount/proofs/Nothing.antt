@@ -2,7 +2,7 @@
 use Rattle.std.proofs.Common.{◌≡◌, ℕ, List, [], ◌∷◌, Option, None, Some, refl, arith}
 use Rattle.geometry.specs.Weights.{weigh}
 use Rattle.rights_books.specs.declared.claim.Entry.{Entry}
-use Rattle.mount_trees.specs.Goods.{Goods, in_place, goods_weight}
+use Rattle.mount_blocks.specs.TreeGoods.{Goods, in_place, goods_weight}
 
 none_weighs : {A : Type 0} (h : A → ℕ) (xs : List (Option A)) → weigh (in_place (λ _. 1)) xs ≡ 0 → weigh (in_place h) xs ≡ 0
 none_weighs h [] none = refl

@@ -15,7 +15,7 @@ use Rattle.nodes.specs.declared.file.FileState.{FileState}
 use Rattle.nodes.specs.File.{IsFile, ticket_at, address_of, weight_of, file_of}
 use Rattle.nodes.specs.Held.{AreHeld}
 use Rattle.nodes.specs.Owners.{HasNumbers, AreNamed}
-use Rattle.tree.specs.Change.{of_tickets}
+use Rattle.nodes.specs.Change.{of_tickets}
 use Rattle.std.specs.FinMap.{len}
 use Rattle.geometry.specs.Path.{largest_length}
 use Rattle.geometry.specs.Shape.{block_bytes}
@@ -27,8 +27,8 @@ use Rattle.image.specs.Rules.{IsLawful}
 use Rattle.image.specs.Walk.{is_taken, up_to}
 use Rattle.checkpoint.specs.Files.{IsStateOf, HoldContents}
 use Rattle.checkpoint.proofs.ImageFiles.{shown_is_of_image}
-use Rattle.mount_trees.specs.Goods.{Shelves, in_place}
-use Rattle.mount_trees.specs.Loaded.{of_rights}
+use Rattle.mount_blocks.specs.TreeGoods.{Shelves, in_place}
+use Rattle.mount_blocks.specs.Loaded.{of_rights}
 use Rattle.mount_blocks.specs.Goods.{AreGoods}
 use Rattle.image_codec.specs.Blocks.{bytes_at}
 use Rattle.mount_blocks.specs.Table.{HaveBytes}

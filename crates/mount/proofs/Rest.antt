@@ -4,7 +4,7 @@ use Rattle.std.proofs.Common.{◌≡◌, ℕ, zero, suc, ◌+◌, ◌<◌, ◌�
 use Rattle.std.proofs.lemmas.Bool.{cases_eq}
 use Rattle.std.proofs.lemmas.List.{get_or-set_same, get_or-set_other}
 use Rattle.geometry.specs.Weights.{weigh}
-use Rattle.mount_trees.specs.Goods.{in_place}
+use Rattle.mount_blocks.specs.TreeGoods.{in_place}
 
 module _ {A : Type 0} (P : ℕ → A → Type 0) where
   -- the items have the places from this one on

@@ -7,9 +7,9 @@ use Rattle.geometry.specs.declared.geometry.Geometry.{Geometry}
 use Rattle.geometry.specs.Path.{node_entries}
 use Rattle.rights_books.specs.declared.claim.Entry.{Entry}
 use Rattle.tickets.specs.Placed.{Placed}
-use Rattle.tree.specs.declared.branch.Branch.{Branch}
-use Rattle.tree.specs.Tree.{entry_at}
-use Rattle.tree.specs.Change.{TreeNode, ticket_weight, of_tickets, of_tokens}
+use Rattle.nodes.specs.declared.branch.Branch.{Branch}
+use Rattle.nodes.specs.Tree.{entry_at}
+use Rattle.nodes.specs.Change.{TreeNode, ticket_weight, of_tickets, of_tokens}
 use Rattle.nodes.specs.declared.file.FileState.{FileState}
 use Rattle.nodes.specs.File.{weight_direct, weight_indirect, weight_double, weight_of}
 use Rattle.image_law.specs.Items.{Among}
@@ -18,8 +18,8 @@ use Rattle.nodes_law.proofs.Listing.{nodes_weigh}
 use Rattle.image.specs.Image.{Image, entry_of, node_of}
 use Rattle.image.specs.Walk.{child}
 use Rattle.image.specs.Rules.{IsLawful}
-use Rattle.mount_trees.specs.Goods.{Shelves, in_place}
-use Rattle.mount_trees.specs.FileLoaded.{FitsFile, IsLoadedFile, fits_direct, fits_indirect, fits_double, loaded_ticket, loaded_direct, loaded_indirect, loaded_double}
+use Rattle.mount_blocks.specs.TreeGoods.{Shelves, in_place}
+use Rattle.mount_blocks.specs.FileLoaded.{FitsFile, IsLoadedFile, fits_direct, fits_indirect, fits_double, loaded_ticket, loaded_direct, loaded_indirect, loaded_double}
 use Rattle.mount_blocks.specs.Goods.{AreGoods}
 use Rattle.mount_blocks.specs.Lodging.{file_of}
 use Rattle.mount.proofs.Nodes.{token_is, node_from}

@@ -12,9 +12,9 @@ use Rattle.rights_books.specs.Lists.{sum_below}
 use Rattle.geometry.specs.Path.{inode_entries, node_entries, largest_length}
 use Rattle.geometry.specs.File.{Block}
 use Rattle.tickets.specs.Placed.{Placed}
-use Rattle.tree.specs.declared.branch.Branch.{Branch}
-use Rattle.tree.specs.Tree.{find_in, only_at_zero, entry_at}
-use Rattle.tree.specs.Change.{ticket_weight, of_tickets, Weighing}
+use Rattle.nodes.specs.declared.branch.Branch.{Branch}
+use Rattle.nodes.specs.Tree.{find_in, only_at_zero, entry_at}
+use Rattle.nodes.specs.Change.{ticket_weight, of_tickets, Weighing}
 use Rattle.nodes.specs.declared.file.FileState.{FileState}
 use Rattle.nodes.specs.File.{IsFile, joined, find_direct, find_indirect, find_double, shaped_direct, shaped_indirect, shaped_double, weight_direct, weight_indirect, weight_double, in_tickets, in_direct, in_indirect, in_double, ticket_at, content_of, with_block, blocks_below, weight_of, file_of}
 use Rattle.nodes.proofs.Shown.{kept}

@@ -12,7 +12,7 @@ use Rattle.words.specs.Tokens.{Post, FreeSegment, fresh_post, fresh_posts, fresh
 use Rattle.sit.specs.Room.{RoomOf}
 use Rattle.area.specs.Rooms.{AreRooms, SlipsFallFrom}
 use Rattle.area.proofs.RoomLemmas.{are_accounts, are_posts, posts_long}
-use Rattle.mount_trees.specs.Goods.{in_place}
+use Rattle.mount_blocks.specs.TreeGoods.{in_place}
 use Rattle.mount_blocks.specs.Rights.{AreRights}
 use Rattle.mount_blocks.proofs.Tables.{nothing_weighs}
 use Rattle.mount.specs.Empty.{AreEmptyAccounts}

@@ -6,7 +6,7 @@ use Rattle.geometry.specs.declared.owner.Mark.{Mark}
 use Rattle.rights_books.specs.declared.claim.Entry.{Entry}
 use Rattle.rights_books.specs.Accounts.{FileView}
 use Rattle.image.specs.Image.{Image}
-use Rattle.mount_trees.specs.Goods.{Shelves, in_place}
+use Rattle.mount_blocks.specs.TreeGoods.{Shelves, in_place}
 use Rattle.mount_blocks.specs.Lodging.{file_of, of_file}
 use Rattle.tickets.specs.Placed.{Placed}
 

@@ -3,11 +3,11 @@ use Rattle.std.specs.Prelude.{◌≡◌, ℕ, ◌+◌, ◌≤◌, List, length, 
 use Rattle.geometry.specs.declared.geometry.Geometry.{Geometry}
 use Rattle.image.specs.Image.{Image}
 use Rattle.image.specs.Walk.{is_taken}
-use Rattle.mount_trees.specs.Goods.{Shelves}
+use Rattle.mount_blocks.specs.TreeGoods.{Shelves}
 use Rattle.nodes.specs.declared.file.FileState.{FileState}
 use Rattle.tickets.specs.Placed.{Placed}
-use Rattle.mount_trees.specs.FileLoaded.{IsFileRoom, IsLoadedFile}
-use Rattle.mount_trees.specs.declared.file_room.FileRoom.{FileRoom}
+use Rattle.mount_blocks.specs.FileLoaded.{IsFileRoom, IsLoadedFile}
+use Rattle.mount_blocks.specs.declared.file_room.FileRoom.{FileRoom}
 
 -- there is a file of this inode
 pub record HasFile (geometry : Geometry) (image : Image) (inode : ℕ) : Type 0 where

@@ -1,7 +1,7 @@
 -- What a volume is mounted from.
 use Rattle.std.specs.Prelude.{◌≡◌, ℕ, List}
 use Rattle.atomic_table.specs.Seated.{TableId}
-use Rattle.rights_claims.specs.Rules.{Ruled}
+use Rattle.rights_books.specs.ClaimRules.{Ruled}
 use Rattle.rights_books.specs.declared.claim.Layout.{Layout}
 use Rattle.device.specs.Disk.{Leaves}
 use Rattle.device.specs.Parts.{HasSize}
@@ -15,13 +15,14 @@ use Rattle.checkpoint.specs.Holding.{AreWhole}
 use Rattle.mount.specs.declared.made.MountTables.{MountTables}
 use Rattle.mount.specs.Made.{AreTables}
 use Rattle.image_codec.specs.Blocks.{AreBlocks, bytes_at}
-use Rattle.packs_format.specs.Grammar.{HasSuper}
-use Rattle.packs_format.specs.Holding.{HoldsTables}
+use Rattle.pack_tables.specs.Grammar.{HasSuper}
+use Rattle.pack_tables.specs.Holding.{HoldsTables}
 
--- the numbers, the books and the words by which names are picked, and the device with its image
+-- the numbers, the books, the rows and the words by which names are picked, and the device with its image
 pub record MountView (M B : Type 0) : Type 0 where
   pub geometry : Geometry
   pub books : Ruled Layout
+  pub rows : TableId
   pub words : TableId
   pub image : Image
   pub parts : Parts M B

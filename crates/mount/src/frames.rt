@@ -6,11 +6,10 @@ ghost use Rattle.words.specs.Tokens.{fresh_holder};
 use area::{LogCell, SegmentCell, ShardCell};
 use area_emptying::SpareRows;
 use device::Block;
-use file_cells::{FileCell, FilePass};
-use file_readers::{Seat, name_seats};
+use file_cells::{FileCell, FilePass, Seat, name_seats};
 use geometry::{Error, Geometry};
 use rights_books::FileAccount;
-use rights_names::VolumeName;
+use rights_permits::VolumeName;
 use std::alloc::Global;
 use std::sync::Mutex;
 use words::FreeSlip;
@@ -39,12 +38,17 @@ pub(crate) struct FileFrames<V: VolumeName, B: Block + Drop> {
     pub ghost passes_fit: { V.Numbers.geometry.files ≤ vec_capacity passes },
 }
 
+/// The memory of a volume's locks.
+pub(crate) struct LockFrames<V: VolumeName, B: Block + Drop> {
+    pub(crate) area: AreaFrames<V, B>,
+    pub(crate) files: FileFrames<V, B>,
+}
+
 /// All memory of a volume that is made under its name, the seats of its readers, and room for all that lies in its locks, so
 /// that leaving takes no memory.
 pub(crate) struct MountFrames<V: VolumeName, B: Block + Drop> {
     pub(crate) seats: Vec<Seat<V>>,
-    pub(crate) area: AreaFrames<V, B>,
-    pub(crate) files: FileFrames<V, B>,
+    pub(crate) locks: LockFrames<V, B>,
     pub(crate) spare: SpareRows<B>,
     pub(crate) accounts: Vec<FileAccount>,
     pub(crate) kept: Vec<FreeSlip>,
@@ -110,8 +114,7 @@ impl<V: VolumeName, B: Block + Drop> MountFrames<V, B> {
         match Vec::with_capacity(alloc, geometry.segments as usize) {
             Ok(kept) => Ok(MountFrames {
                 seats,
-                area,
-                files,
+                locks: LockFrames { area, files },
                 spare,
                 accounts,
                 kept,

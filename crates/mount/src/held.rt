@@ -1,56 +1,24 @@
 //! What the accounts of the files have, once all rights are lodged.
-ghost use Rattle.std.specs.Prelude.{◌≡◌, ◌+◌, ℕ, List, Some, None, slice_index_or};
+ghost use Rattle.std.specs.Prelude.{◌≡◌, ◌+◌, ℕ, List};
 ghost use Rattle.rights_books.specs.declared.claim.Entry.{Entry};
 ghost use Rattle.geometry.specs.declared.owner.Mark.{Mark};
 ghost use Rattle.image.specs.Rules.{IsLawful};
 ghost use Rattle.image.specs.View.{image_view};
-ghost use Rattle.mount_trees.specs.Goods.{in_place};
-ghost use Rattle.mount_trees.specs.Loaded.{of_rights};
+ghost use Rattle.mount_blocks.specs.TreeGoods.{in_place};
+ghost use Rattle.mount_blocks.specs.Loaded.{of_rights};
 ghost use Rattle.nodes.specs.File.{weight_of};
-ghost use Rattle.nodes.specs.Held.{AreHeld};
 ghost use Rattle.geometry.specs.Weights.{weigh};
 ghost use Rattle.tickets.specs.Placed.{Placed};
 ghost use Rattle.mount_blocks.specs.Goods.{AreGoods};
 ghost use Rattle.mount.specs.MountFiles.{AreFiles};
-ghost use Rattle.mount_blocks.specs.Lodging.{file_of, of_file, of_some};
+ghost use Rattle.mount_blocks.specs.Lodging.{file_of, of_some};
 
 use device::Block;
 use geometry::Geometry;
 use image::Image;
-use mount_trees::Stock;
+use mount_blocks::Stock;
 use nodes::FileState;
-use rights_books::FileAccount;
 use tickets::Ticket;
-
-/// Tells of the file of an inode, where all tickets and tokens of a stock went into files, that its account, which has
-/// lodged those of the stock that are of its inode, has lodged the file's.
-pub fn tell_held<B: Block>(
-    geometry: &Geometry,
-    image: &Image,
-    inode: u32,
-    stock: &Stock<Ticket<B>>,
-    files: &[Option<FileState<B>>],
-    file: &FileState<B>,
-    account: &FileAccount,
-)
-    requires lawful { IsLawful geometry.now (image_view image.now) }
-    requires goods { (bytes : ℕ → List ℕ) × AreGoods geometry.now (image_view image.now) bytes stock.now.all.tickets stock.now.all.tokens }
-    requires files { AreFiles geometry.now (image_view image.now) stock.now.all files.now }
-    requires all { (ticket : Placed → ℕ) (token : Entry → ℕ) → weigh (in_place (λ f. weight_of f (of_rights ticket token))) files.now
-        ≡ weigh (in_place ticket) stock.now.all.tickets + weigh (in_place token) stock.now.all.tokens }
-    requires file { slice_index_or files.now inode None ≡ Some file.now }
-    requires tickets { (h : Mark → ℕ) → weigh h account.now.tickets ≡ weigh (in_place (λ (t : Placed). of_file inode (file_of (image_view image.now) t.mark.owner) (h t.mark))) stock.now.all.tickets }
-    requires tokens { (h : Entry → ℕ) → weigh h account.now.tokens ≡ weigh (in_place (λ e. of_file inode e.inode (h e))) stock.now.all.tokens }
-    ensures { AreHeld file.now account.now.tickets account.now.tokens }
-{
-    let _geometry = geometry;
-    let _image = image;
-    let _inode = inode;
-    let _stock = stock;
-    let _files = files;
-    let _file = file;
-    let _account = account;
-}
 
 /// Tells that each ticket and each token of a stock is of a file, where all of them went into files: none stays in hand that
 /// is to be lodged.

@@ -10,8 +10,8 @@ ghost use Rattle.geometry.specs.Shape.{block_bytes, segment_blocks};
 ghost use Rattle.image.specs.Rules.{IsLawful};
 ghost use Rattle.image.specs.View.{image_view};
 ghost use Rattle.image.specs.Walk.{names};
-ghost use Rattle.mount_trees.specs.Goods.{ArePlaced, in_place, goods_weight};
-ghost use Rattle.mount_trees.specs.Loaded.{of_rights};
+ghost use Rattle.mount_blocks.specs.TreeGoods.{ArePlaced, in_place, goods_weight};
+ghost use Rattle.mount_blocks.specs.Loaded.{of_rights};
 ghost use Rattle.nat.specs.Shard.{ShardNodes};
 ghost use Rattle.nodes.specs.File.{weight_of};
 ghost use Rattle.geometry.specs.Weights.{weigh};
@@ -30,9 +30,9 @@ use device::Block;
 use geometry::Geometry;
 use image::Image;
 use mount_blocks::{
-    LoadedSegments, SegmentRights, load_nodes, load_segments, lodge_tickets, lodge_tokens,
+    FileRoom, LoadedSegments, SegmentMemory, Stock, load_nodes, load_segments, lodge_tickets,
+    lodge_tokens,
 };
-use mount_trees::{FileRoom, Stock};
 use nat::Shard;
 use nodes::FileState;
 use rights_books::{Books, FileAccount, Permit};
@@ -42,8 +42,7 @@ use words::Words;
 /// What is made before the first block of a device moves: the rights to segments, shards and files, and the memory for all that
 /// comes into them. In the tables nothing stands.
 pub struct VolumeMemory<B: Block + Drop> {
-    pub rights: SegmentRights<B>,
-    pub segments: LoadedSegments<B>,
+    pub segments: SegmentMemory<B>,
     pub shards: Vec<Shard<B>>,
     pub accounts: Vec<FileAccount>,
     pub rooms: Vec<Option<FileRoom<B>>>,
@@ -52,10 +51,15 @@ pub struct VolumeMemory<B: Block + Drop> {
     pub files: Vec<Option<FileState<B>>>,
 }
 
-/// Segments, shards, and files with their accounts, and the stock out of which the files came, in which nothing is left.
-pub struct LoadedVolume<B: Block + Drop> {
+/// The segments and the shards of a main area.
+pub struct LoadedArea<B: Block + Drop> {
     pub segments: LoadedSegments<B>,
     pub shards: Vec<Shard<B>>,
+}
+
+/// The main area, the files with their accounts, and the stock out of which the files came, in which nothing is left.
+pub struct LoadedVolume<B: Block + Drop> {
+    pub area: LoadedArea<B>,
     pub accounts: Vec<FileAccount>,
     pub files: Vec<Option<FileState<B>>>,
     pub stock: Stock<Ticket<B>>,
@@ -75,11 +79,11 @@ pub fn load_volume<B: Block + Drop>(
     requires lawful { IsLawful geometry.now (image_view image.now) }
     requires layout { books.now.key.blocks ≡ segment_blocks geometry.now.shape }
     requires permit { permit.old ≡ record { book = books.now.book; tickets = []; tokens = [] } }
-    requires rights { AreRights geometry.now.shape books.now.book words.now.table memory.rights.rooms.items memory.rights.accounts.items memory.rights.standings.items memory.rights.slips.items }
-    requires count { length memory.rights.rooms.items ≡ geometry.now.segments }
-    requires none { (memory.segments.states.items ≡ []) × (memory.segments.free.items ≡ []) × (memory.segments.logs.items ≡ replicate 6 None) }
-    requires states { geometry.now.segments ≤ vec_capacity memory.segments.states }
-    requires free { geometry.now.segments ≤ vec_capacity memory.segments.free }
+    requires rights { AreRights geometry.now.shape books.now.book words.now.table memory.segments.rights.rooms.items memory.segments.rights.accounts.items memory.segments.rights.standings.items memory.segments.rights.slips.items }
+    requires count { length memory.segments.rights.rooms.items ≡ geometry.now.segments }
+    requires none { (memory.segments.room.states.items ≡ []) × (memory.segments.room.free.items ≡ []) × (memory.segments.room.logs.items ≡ replicate 6 None) }
+    requires states { geometry.now.segments ≤ vec_capacity memory.segments.room.states }
+    requires free { geometry.now.segments ≤ vec_capacity memory.segments.room.free }
     requires shards { AreShards books.now.book geometry.now.nodes memory.shards.items }
     requires no_numbers { (k : ℕ) (other : ShardNodes) → k < length memory.shards.items → (slice_index_or memory.shards.items k other).taken ≡ [] }
     requires accounts { AreEmptyAccounts books.now.book memory.accounts.items }
@@ -90,8 +94,8 @@ pub fn load_volume<B: Block + Drop>(
     requires files { memory.files.items ≡ replicate (geometry.now.files + 1) None }
     requires run { IsBlockRun B.address_of B.content_of (block_bytes geometry.now.shape) 1 blocks.old.items }
     requires blocks { length blocks.old.items ≡ block_count geometry.now }
-    ensures segments { AreSegmentsFrom geometry.now (image_view image.now) books.now.book words.now.table 0 result.segments.states.items result.segments.free.items result.segments.logs.items }
-    ensures shards { AreShards books.now.book geometry.now.nodes result.shards.items }
+    ensures segments { AreSegmentsFrom geometry.now (image_view image.now) books.now.book words.now.table 0 result.area.segments.states.items result.area.segments.free.items result.area.segments.logs.items }
+    ensures shards { AreShards books.now.book geometry.now.nodes result.area.shards.items }
     ensures goods { (bytes : ℕ → List ℕ) → HaveBytes B.content_of bytes blocks.old.items → AreGoods geometry.now (image_view image.now) bytes result.stock.all.tickets result.stock.all.tokens }
     ensures files { AreFiles geometry.now (image_view image.now) result.stock.all result.files.items }
     ensures all { (ticket : Placed → ℕ) (token : Entry → ℕ) → weigh (in_place (λ f. weight_of f (of_rights ticket token))) result.files.items
@@ -109,7 +113,6 @@ pub fn load_volume<B: Block + Drop>(
     ensures capacity { vec_capacity blocks.new ≡ vec_capacity blocks.old }
 {
     let VolumeMemory {
-        rights,
         segments,
         mut shards,
         mut accounts,
@@ -124,7 +127,6 @@ pub fn load_volume<B: Block + Drop>(
         books,
         words,
         permit,
-        rights,
         segments,
         blocks,
         &mut tickets,
@@ -142,8 +144,7 @@ pub fn load_volume<B: Block + Drop>(
     lodge_tokens(books, permit, &mut accounts, &tokens);
     let stock = load_all_files(geometry, image, rooms, tickets, tokens, &mut files);
     LoadedVolume {
-        segments,
-        shards,
+        area: LoadedArea { segments, shards },
         accounts,
         files,
         stock,

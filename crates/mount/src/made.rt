@@ -4,28 +4,32 @@ ghost use Rattle.atomic_table.specs.Seated.{TableId};
 ghost use Rattle.geometry.specs.declared.error.Error.TheVariants.{NoMemory};
 ghost use Rattle.image.specs.Rules.{IsLawful};
 ghost use Rattle.image.specs.View.{image_view};
-ghost use Rattle.mount.specs.Made.{AreTables, IsMemory};
+ghost use Rattle.mount.specs.Made.{AreTables, AreVolumeRows, IsMemory};
 ghost use Rattle.mount_blocks.specs.Rights.{AreRights};
 ghost use Rattle.rights_books.specs.Accounts.{AreEmptySegments};
-ghost use Rattle.rights_names.specs.Names.{layout_of};
+ghost use Rattle.rights_permits.specs.Names.{layout_of};
 ghost use Rattle.words.specs.Tokens.{fresh_holder};
 
 use crate::goods::{Goods, free_goods, new_goods};
 use crate::loading_all::VolumeMemory;
 use crate::shards::new_shards;
 use area::{new_rooms, store_slips};
+use checkpoint_image::KeptBody;
 use device::Block;
 use geometry::{Error, Geometry};
 use image::Image;
-use mount_blocks::{LoadedSegments, SegmentRights};
-use rights_books::{Books, Layout, Opened, Permits, SegmentAccount};
+use mount_blocks::{LoadedSegments, SegmentMemory, SegmentRights};
+use rights_books::{Books, Layout, Opened, OpenedRows, PartAccount, Permits, Rows, SegmentAccount};
 use std::alloc::Global;
 use words::{CheckpointSeat, Dealt, Seat, Words};
+
+// So many shards are parts of a volume, behind its segments.
+const SHARDS: u32 = 16;
 
 // So many readers may look at a volume at once.
 const SEATS: u32 = 64;
 
-/// The books and the words of a volume out of an image, whose version is complete, with the rights to them; and the memory of
+/// The books, the words and the rows of a volume out of an image, whose version is complete, with the rights to them; and the memory of
 /// its segments, its shards and its files.
 pub struct MountTables<B: Block + Drop> {
     pub books: Books,
@@ -33,7 +37,17 @@ pub struct MountTables<B: Block + Drop> {
     pub words: Words,
     pub seats: Vec<Seat>,
     pub checkpoint: CheckpointSeat,
+    pub rows: VolumeRows,
     pub memory: VolumeMemory<B>,
+}
+
+/// The rows of a volume's parts, its segments first and then its shards, of which nothing was spelled.
+#[derive(Drop)]
+pub struct VolumeRows {
+    /// The account of each part, the last one first.
+    pub parts: Vec<PartAccount>,
+    /// The body of the packs, with the twins of these.
+    pub body: KeptBody,
 }
 
 impl<B: Block + Drop> MountTables<B> {
@@ -51,8 +65,9 @@ impl<B: Block + Drop> MountTables<B> {
             files,
             shards,
         } = Books::format(alloc, &volume_layout(geometry))?;
+        let rows = open_rows(alloc, geometry)?;
         let shards = new_shards(alloc, &books, shards, geometry.nodes)?;
-        let segments = LoadedSegments::new(alloc, geometry)?;
+        let room = LoadedSegments::new(alloc, geometry)?;
         let DealtRights {
             words,
             seats,
@@ -71,9 +86,9 @@ impl<B: Block + Drop> MountTables<B> {
             words,
             seats,
             checkpoint,
+            rows,
             memory: VolumeMemory {
-                rights,
-                segments,
+                segments: SegmentMemory { rights, room },
                 shards,
                 accounts: files,
                 rooms,
@@ -83,6 +98,21 @@ impl<B: Block + Drop> MountTables<B> {
             },
         })
     }
+}
+
+// The rows of a volume of these numbers. The only error is NoMemory, and then nothing is kept.
+fn open_rows(alloc: Global, geometry: &Geometry) -> Result<VolumeRows, Error>
+    ensures rows { IfOk result (AreVolumeRows geometry.now) }
+    ensures error { IfErr result (λ error. error ≡ NoMemory) }
+{
+    let OpenedRows {
+        rows,
+        mut parts,
+        kept: twins,
+    } = Rows::open(alloc, geometry.segments + SHARDS)?;
+    parts.reverse();
+    let body = KeptBody::new(alloc, geometry, rows, twins);
+    Ok(VolumeRows { parts, body })
 }
 
 // What the books of a volume of these numbers count.
@@ -152,7 +182,6 @@ pub fn free_memory<B: Block + Drop>(geometry: &Geometry, image: &Image, memory: 
     requires { (book : TableId) × (table : TableId) × IsMemory geometry.now (image_view image.now) book table memory }
 {
     let VolumeMemory {
-        rights: _,
         segments: _,
         shards: _,
         accounts: _,

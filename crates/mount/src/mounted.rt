@@ -6,21 +6,20 @@ ghost use Rattle.mount_reading.specs.Held.{HoldsImage, IsPartsRefusal, AreSamePa
 ghost use Rattle.geometry.specs.declared.error.Error.TheVariants.{NoMemory, Device};
 ghost use Rattle.image.specs.Rules.{IsLawful};
 ghost use Rattle.geometry.specs.Weights.{weigh};
-ghost use Rattle.packs_format.specs.Grammar.{HasSuper};
-ghost use Rattle.packs_format.specs.Holding.{HoldsTables};
+ghost use Rattle.pack_tables.specs.Grammar.{HasSuper};
+ghost use Rattle.pack_tables.specs.Holding.{HoldsTables};
 
 use crate::{MountTables, free_memory};
 use device::{Block, Meta, Parts};
 use geometry::Error;
 use mount_reading::{OpenFault, OpenedDevice, open_device};
-use rights_names::{BooksName, GeometryName, WordsName};
-use rights_permits::OpenedTurnstile;
+use rights_permits::{BooksName, GeometryName, OpenedTurnstile, WordsName};
 use std::alloc::Global;
 use std::marker::{Model, PhantomData};
 use volume::open_queues;
 
-/// A device that holds a lawful image, and all that is made for its volume and has no name, `{ geometry; books; words; image;
-/// parts }` to contracts: names are picked by the first three, and `parts` is the device.
+/// A device that holds a lawful image, and all that is made for its volume and has no name, `{ geometry; books; rows; words;
+/// image; parts }` to contracts: names are picked by the first four, and `parts` is the device.
 pub struct Mounted<M: Meta, B: Block + Drop> {
     pub(crate) device: OpenedDevice<M, B>,
     pub(crate) tables: MountTables<B>,
@@ -36,6 +35,7 @@ impl<M: Meta, B: Block + Drop> Model for Mounted<M, B> {
     ghost view = { λ m. record {
       geometry = m.device.packs.geometry;
       books = m.tables.books;
+      rows = m.tables.rows.body.rows;
       words = m.tables.words.table;
       image = image_view m.device.image;
       parts = record { meta = m.device.packs.area.meta; blocks = m.device.blocks };
@@ -94,6 +94,7 @@ pub struct NamedMount<L: BooksName, W: WordsName, N: GeometryName, M: Meta, B: B
     pub mounted: Mounted<M, B>,
     pub(crate) names: PhantomData<(L, W, N)>,
     pub ghost of_books: { mounted.books ≡ L.books },
+    pub ghost of_rows: { mounted.rows ≡ L.rows },
     pub ghost of_words: { mounted.words ≡ W.words },
     pub ghost of_geometry: { mounted.geometry ≡ N.geometry },
 }
@@ -115,6 +116,7 @@ impl<M: Meta, B: Block + Drop> Mounted<M, B> {
         self,
     ) -> Result<MountedQueues<L, W, N, M, B>, OpenFault<M, B>>
         requires books { self.books ≡ L.books }
+        requires rows { self.rows ≡ L.rows }
         requires words { self.words ≡ W.words }
         requires geometry { self.geometry ≡ N.geometry }
         ensures mounted { IfOk result (λ opened. opened.named.mounted ≡ self) }
@@ -155,6 +157,7 @@ impl<M: Meta, B: Block + Drop> Mounted<M, B> {
             words: _,
             seats: _,
             checkpoint: _,
+            rows: _,
             memory,
         } = tables;
         free_memory(&device.packs.geometry, &device.image, memory);

@@ -1,5 +1,5 @@
 //! A volume under all its names.
-ghost use Rattle.std.specs.Prelude.{◌≡◌, ◌≤◌, [], map, length, vec_len, vec_capacity, IfOk, IfErr};
+ghost use Rattle.std.specs.Prelude.{◌≡◌, ◌≤◌, ◌<◌, ℕ, true, [], map, length, vec_len, vec_capacity, IfOk, IfErr};
 ghost use Rattle.checkpoint.specs.Holding.{AreWhole};
 ghost use Rattle.device.specs.Disk.{Leaves};
 ghost use Rattle.device.specs.Parts.{HasSize};
@@ -9,35 +9,39 @@ ghost use Rattle.image.specs.Files.{files as image_files};
 ghost use Rattle.image.specs.Rules.{IsLawful};
 ghost use Rattle.image.specs.View.{image_view};
 ghost use Rattle.image_codec.specs.Blocks.{AreBlocks, bytes_at};
-ghost use Rattle.packs_format.specs.Grammar.{HasSuper};
-ghost use Rattle.packs_format.specs.Holding.{HoldsTables};
+ghost use Rattle.pack_tables.specs.Grammar.{HasSuper};
+ghost use Rattle.pack_tables.specs.Holding.{HoldsTables};
 ghost use Rattle.pool.specs.Pools.{first_account};
-ghost use Rattle.rights_names.specs.Names.{layout_of};
+ghost use Rattle.rights_permits.specs.Names.{layout_of};
 ghost use Rattle.rights_permits.specs.Turns.{at_home};
 ghost use Rattle.volume.specs.Picked.{HaveNames};
-ghost use Rattle.mount.specs.Made.{IsMemory};
+ghost use Rattle.mount.specs.Made.{AreVolumeRows, IsMemory};
+ghost use Rattle.packs_journal.specs.Pages.{has_page};
 ghost use Rattle.mount.specs.Pooled.{HasPutFree};
 
 use crate::frames::MountFrames;
 use crate::loading_all::VolumeMemory;
-use crate::locked::load_locks;
+use crate::locked::{LockedVolume, load_locks};
+use crate::made::VolumeRows;
 use crate::mounted::{Mounted, MountedQueues, NamedMount};
+use crate::mounted_area::NamedTables;
 use crate::{MountTables, free_memory};
 use area_emptying::SpareRows;
 use checkpoint::{ImagePacks, PacksCell};
+use checkpoint_image::KeptBody;
 use device::{Block, Meta};
-use file_cells::FilePass;
-use file_readers::Seat;
+use file_cells::{FilePass, Seat};
 use image::Image;
 use mount_reading::{OpenFault, OpenedDevice};
-use pool::{Pool, PoolPass};
+use pool::PoolPass;
 use rights_books::FileAccount;
-use rights_names::{BooksName, GeometryName, Named, PoolName, TurnName, VolumeName, WordsName};
-use rights_permits::{AllPermits, Turnstile};
+use rights_permits::{
+    AllPermits, BooksName, GeometryName, Named, PoolName, TurnName, VolumeName, WordsName,
+};
 use std::alloc::Global;
 use std::sync::Wait;
 use volume::{Base, SpareCell, Volume};
-use words::{CheckpointSeat, FreeSlip, Words};
+use words::{CheckpointSeat, FreeSlip};
 
 impl<L: BooksName, W: WordsName, N: GeometryName, M: Meta, B: Block + Drop> MountedQueues<
     L,
@@ -86,6 +90,7 @@ impl<L: BooksName, W: WordsName, N: GeometryName, M: Meta, B: Block + Drop> Moun
             words,
             seats,
             checkpoint,
+            rows,
             memory,
         } = tables;
         let geometry = device.packs.geometry;
@@ -99,10 +104,23 @@ impl<L: BooksName, W: WordsName, N: GeometryName, M: Meta, B: Block + Drop> Moun
         };
         let (turnstile, all) = channel.named::<T>(books, permits);
         let (pool, pass) = queues.named::<P>();
-        Ok(put_together(
-            rt, alloc, device, turnstile, all, words, pool, pass, checkpoint, memory, frames,
-        ))
+        let VolumeRows { parts, body } = rows;
+        let tables = NamedTables {
+            turnstile,
+            words,
+            pool,
+            pass,
+            parts,
+        };
+        let rights = PacksRights { checkpoint, body };
+        Ok(put_together(rt, alloc, device, tables, all, rights, memory, frames))
     }
+}
+
+// What the lock of the packs has beside them: the right to advance the version, and the body of the last pack.
+struct PacksRights {
+    checkpoint: CheckpointSeat,
+    body: KeptBody,
 }
 
 // The volume over a device that was opened, out of its named tables, the rights to it and the memory for it, with its seats and
@@ -111,22 +129,21 @@ fn put_together<V: VolumeName, M: Meta, B: Block + Drop, R: Wait>(
     rt: &R,
     alloc: Global,
     device: OpenedDevice<M, B>,
-    turnstile: Turnstile<V::Books, V::Turns>,
+    tables: NamedTables<V>,
     mut all: AllPermits<V::Books, V::Turns>,
-    words: Words,
-    pool: Pool<V::Words, V::Pool>,
-    mut pass: PoolPass<V::Words, V::Pool>,
-    checkpoint: CheckpointSeat,
+    rights: PacksRights,
     memory: VolumeMemory<B>,
     frames: MountFrames<V, B>,
 ) -> (Volume<V, M, B>, Vec<Seat<V>>, Vec<FilePass<V>>)
     requires geometry { device.packs.geometry ≡ V.Numbers.geometry }
     requires lawful { IsLawful device.packs.geometry (image_view device.image) }
     requires layout { V.Books.books.key ≡ layout_of V.Numbers.geometry }
-    requires words { words ≡ record { table = V.Words.words; segments = V.Numbers.geometry.segments } }
+    requires words { tables.words ≡ record { table = V.Words.words; segments = V.Numbers.geometry.segments } }
     requires slots { V.Pool.ordinary.slots ≡ V.Numbers.geometry.segments }
-    requires pass { pass ≡ first_account }
+    requires pass { tables.pass ≡ first_account }
     requires hand { all.hand ≡ at_home V.Books.books.book }
+    requires of_rows { rights.body.rows ≡ V.Books.rows }
+    requires rows { AreVolumeRows device.packs.geometry (record { parts = tables.parts; body = rights.body }) }
     requires memory { IsMemory device.packs.geometry (image_view device.image) V.Books.books.book V.Words.words memory }
     requires size { HasSize M.seen B.address_of B.content_of device.packs.geometry (record { meta = device.packs.area.meta; blocks = device.blocks }) }
     requires nodes { AreBlocks device.packs.geometry (image_view device.image) (bytes_at B.content_of device.blocks.items) }
@@ -134,7 +151,7 @@ fn put_together<V: VolumeName, M: Meta, B: Block + Drop, R: Wait>(
     requires whole { AreWhole M.seen M.may_leave device.packs }
     requires held { Leaves M.may_leave device.packs.area.meta (HoldsTables device.packs.geometry (image_view device.image)) }
     requires version { device.image.version ≡ device.packs.area.version }
-    requires checkpoint { (checkpoint.table ≡ V.Words.words) × (checkpoint.version ≡ device.image.version) }
+    requires checkpoint { (rights.checkpoint.table ≡ V.Words.words) × (rights.checkpoint.version ≡ device.image.version) }
     ensures seats { vec_len result.1 ≡ 64 }
     ensures base { result.0.base ≡ record { version = device.image.version; total = device.image.total } }
     ensures passes { map (λ pass. (pass.number, pass.file)) result.2.items
@@ -142,8 +159,7 @@ fn put_together<V: VolumeName, M: Meta, B: Block + Drop, R: Wait>(
 {
     let MountFrames {
         seats,
-        area,
-        files,
+        locks,
         spare,
         accounts,
         kept,
@@ -158,22 +174,23 @@ fn put_together<V: VolumeName, M: Meta, B: Block + Drop, R: Wait>(
         version: image.version,
         total: image.total,
     };
-    let (area, files, passes) = load_locks(
+    let LockedVolume {
+        area,
+        files,
+        passes,
+        pool_pass,
+    } = load_locks(
         rt,
         geometry,
         &image,
-        turnstile,
-        words,
-        pool,
-        &mut pass,
+        tables,
         &mut all.hand,
         memory,
         &mut blocks,
-        area,
-        files,
+        locks,
     );
     area.turnstile().scatter(rt, all);
-    let packs = lock_packs(packs, &image, checkpoint, pass, kept);
+    let packs = lock_packs(packs, &image, rights, pool_pass, kept);
     let spare = keep_rows(spare, accounts, blocks);
     let volume = Volume::of(alloc, area, files, packs, spare, base);
     (volume, seats, passes)
@@ -184,24 +201,28 @@ fn put_together<V: VolumeName, M: Meta, B: Block + Drop, R: Wait>(
 fn lock_packs<V: VolumeName, M: Meta>(
     packs: ImagePacks<M>,
     image: &Image,
-    checkpoint: CheckpointSeat,
+    rights: PacksRights,
     pass: PoolPass<V::Words, V::Pool>,
     kept: Vec<FreeSlip>,
 ) -> PacksCell<V, M>
     requires size { length (M.seen packs.area.meta) ≡ meta_bytes V.Numbers.geometry }
     requires numbers { packs.geometry ≡ V.Numbers.geometry }
-    requires words { checkpoint.table ≡ V.Words.words }
+    requires words { rights.checkpoint.table ≡ V.Words.words }
     requires whole { AreWhole M.seen M.may_leave packs }
     requires front { HasSuper V.Numbers.geometry (M.seen packs.area.meta) }
     requires lawful { IsLawful packs.geometry (image_view image.now) }
     requires held { Leaves M.may_leave packs.area.meta (HoldsTables packs.geometry (image_view image.now)) }
     requires free { HasPutFree packs.geometry (image_view image.now) pass }
-    requires complete { checkpoint.version ≡ packs.area.version }
+    requires complete { rights.checkpoint.version ≡ packs.area.version }
     requires none { kept.items ≡ [] }
     requires room { V.Numbers.geometry.segments ≤ vec_capacity kept }
+    requires rows { rights.body.rows ≡ V.Books.rows }
+    requires body_numbers { rights.body.geometry ≡ V.Numbers.geometry }
+    requires touched { (k : ℕ) → k < 4352 → has_page rights.body.body.touched k ≡ true }
 {
     let _image = image;
-    PacksCell::of(packs, checkpoint, pass, kept)
+    let PacksRights { checkpoint, body } = rights;
+    PacksCell::of(packs, checkpoint, pass, kept, body)
 }
 
 // The rows in which a close gives all back, with the one that the blocks of the device came in.

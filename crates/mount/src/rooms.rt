@@ -3,17 +3,16 @@ ghost use Rattle.std.specs.Prelude.{ℕ, IfOk};
 ghost use Rattle.image.specs.Image.{Image as Imaged};
 ghost use Rattle.image.specs.Rules.{IsLawful};
 ghost use Rattle.image.specs.View.{image_view};
-ghost use Rattle.mount_trees.specs.FileLoaded.{IsFileRoom};
+ghost use Rattle.mount_blocks.specs.FileLoaded.{IsFileRoom};
 ghost use Rattle.mount.specs.MountFiles.{AreOfFiles, AreRooms};
 
 use device::Block;
 use geometry::Geometry;
 use image::Image;
-use mount_blocks::{new_table, put_at};
-use mount_trees::{FileRoom, free_node_room, make_file_room, tell_lawful};
+use mount_blocks::{FileRoom, free_node_room, make_file_room, new_table, put_at, tell_lawful};
+use nodes::Branch;
 use std::alloc::{AllocError, Global};
 use tickets::Ticket;
-use tree::Branch;
 
 // Frees the memory of a file.
 fn free_file_room<B: Block>(room: FileRoom<B>)

@@ -14,9 +14,9 @@ use Rattle.image.specs.Walk.{names}
 use Rattle.image.specs.Rules.{IsLawful}
 use Rattle.image.proofs.Marking.{true_or_false}
 use Rattle.sit.specs.Summaries.{is_set, count_of}
-use Rattle.mount_trees.specs.Marked.{marked_owner}
-use Rattle.mount_trees.proofs.Marked.{name_at}
-use Rattle.mount_trees.proofs.Owners.{names_are_owned}
+use Rattle.mount_blocks.specs.Marked.{marked_owner}
+use Rattle.mount_blocks.proofs.Marked.{name_at}
+use Rattle.mount_blocks.proofs.TreeOwners.{names_are_owned}
 use Rattle.mount_blocks.specs.States.{HasOwners}
 
 passed : {A : Type 0} (b : Bool) (x y : A) → b ≡ true → (if b then x else y) ≡ x

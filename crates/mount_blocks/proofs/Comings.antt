@@ -13,7 +13,7 @@ use Rattle.geometry.specs.Address.{address_of}
 use Rattle.geometry.proofs.Addresses.{address_of-most}
 use Rattle.image.specs.Image.{Image}
 use Rattle.tickets.specs.Placed.{Placed}
-use Rattle.mount_trees.specs.Marked.{marked_owner}
+use Rattle.mount_blocks.specs.Marked.{marked_owner}
 use Rattle.mount_blocks.specs.Table.{HaveBytes, AreTicketsPast}
 use Rattle.mount_blocks.specs.States.{HasOwners}
 use Rattle.mount_blocks.proofs.Tables.{table_named, table_unnamed}

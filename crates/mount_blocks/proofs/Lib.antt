@@ -1,3 +1,11 @@
+pub mod Stocks
+pub mod TreePlaces
+pub mod Children
+pub mod Ends
+pub mod Whole
+pub mod Fitting
+pub mod Marked
+pub mod TreeOwners
 pub mod Bits
 pub mod Tables
 pub mod States

@@ -9,7 +9,7 @@ use Rattle.geometry.specs.Weights.{weigh}
 use Rattle.geometry.specs.declared.owner.Mark.{Mark}
 use Rattle.rights_books.specs.declared.claim.Entry.{Entry}
 use Rattle.rights_books.specs.Accounts.{FileView}
-use Rattle.mount_trees.specs.Goods.{in_place}
+use Rattle.mount_blocks.specs.TreeGoods.{in_place}
 use Rattle.mount_blocks.specs.Lodging.{of_file, of_some, AreOfBook, Lodges}
 
 pub file_same : (inode its n : ℕ) → its ≡ inode → of_file inode its n ≡ n

@@ -17,9 +17,9 @@ use Rattle.image.specs.Walk.{data_names, node_name, own_names, fits, names_below
 use Rattle.image.specs.Rules.{IsLawful}
 use Rattle.image.proofs.Marking.{true_or_false}
 use Rattle.image.proofs.Testing.{marked_within}
-use Rattle.mount_trees.specs.Marked.{marked_owner}
-use Rattle.mount_trees.proofs.Marked.{name_at}
-use Rattle.mount_trees.proofs.Owners.{names_are_owned}
+use Rattle.mount_blocks.specs.Marked.{marked_owner}
+use Rattle.mount_blocks.proofs.Marked.{name_at}
+use Rattle.mount_blocks.proofs.TreeOwners.{names_are_owned}
 
 -- 1 for a node's mark whose address is not that of its entry
 off_owner : Image → ℕ → Owner → ℕ

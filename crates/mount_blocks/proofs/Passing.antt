@@ -13,9 +13,9 @@ use Rattle.image.specs.declared.image.NodeEntry.{NodeEntry}
 use Rattle.image.specs.Image.{Image, no_entry, entry_of}
 use Rattle.image.specs.Walk.{is_taken}
 use Rattle.image.specs.Rules.{IsLawful}
-use Rattle.mount_trees.specs.Goods.{ArePlaced, IsData}
+use Rattle.mount_blocks.specs.TreeGoods.{ArePlaced, IsData}
 use Rattle.tickets.specs.Placed.{Placed}
-use Rattle.mount_trees.specs.Marked.{marked_owner}
+use Rattle.mount_blocks.specs.Marked.{marked_owner}
 use Rattle.mount_blocks.specs.Table.{ticket_of, AreTicketsPast}
 use Rattle.mount_blocks.proofs.States.{below_next, same_some}
 use Rattle.mount_blocks.proofs.Tables.{all_none}

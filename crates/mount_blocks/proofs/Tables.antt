@@ -14,11 +14,11 @@ use Rattle.geometry.specs.Area.{block_count}
 use Rattle.image.specs.Image.{Image}
 use Rattle.image.specs.Walk.{names}
 use Rattle.image.specs.Rules.{IsLawful}
-use Rattle.mount_trees.specs.Goods.{in_place}
+use Rattle.mount_blocks.specs.TreeGoods.{in_place}
 use Rattle.tickets.specs.Placed.{Placed}
-use Rattle.mount_trees.specs.Marked.{marked_owner, owned_weight}
-use Rattle.mount_trees.proofs.Marked.{names_are_marks}
-use Rattle.mount_trees.proofs.Owners.{names_are_owned}
+use Rattle.mount_blocks.specs.Marked.{marked_owner, owned_weight}
+use Rattle.mount_blocks.proofs.Marked.{names_are_marks}
+use Rattle.mount_blocks.proofs.TreeOwners.{names_are_owned}
 use Rattle.mount_blocks.specs.Table.{ticket_of, AreTicketsPast}
 
 pub all_none : {A : Type 0} (n k : ℕ) → ◌≡◌ {A = Option A} (get_or (replicate n None) k None) None

@@ -9,7 +9,7 @@ use Rattle.geometry.specs.Area.{block_count}
 use Rattle.rights_books.specs.declared.claim.Entry.{Entry}
 use Rattle.image.specs.Image.{Image, entry_of}
 use Rattle.tickets.specs.Placed.{Placed}
-use Rattle.mount_trees.specs.Marked.{marked_owner}
+use Rattle.mount_blocks.specs.Marked.{marked_owner}
 use Rattle.mount_blocks.specs.Table.{ticket_of}
 use Rattle.nat.specs.Shard.{ShardNodes}
 use Rattle.nat.specs.Table.{IsShardAt}

@@ -1,3 +1,7 @@
+pub mod TreeGoods
+pub mod Loaded
+pub mod FileLoaded
+pub mod Marked
 pub mod Table
 pub mod States
 pub mod Rights

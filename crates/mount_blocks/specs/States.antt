@@ -12,7 +12,7 @@ use Rattle.image.specs.declared.image.Place.{Place}
 use Rattle.image.specs.Image.{Image, info_of}
 use Rattle.words.specs.Tokens.{FreeSegment, OpenSegment, fresh_slip}
 use Rattle.sit.specs.Registered.{Registered}
-use Rattle.mount_trees.specs.Marked.{marked_owner}
+use Rattle.mount_blocks.specs.Marked.{marked_owner}
 
 -- from a place on, the summaries of a segment say who owns each block that the image marks
 pub record HasOwners (geometry : Geometry) (image : Image) (segment from : ℕ) (summaries : List (Option Owner)) : Type 0 where

@@ -5,7 +5,7 @@ use Rattle.geometry.specs.declared.owner.Owner.{Owner}
 use Rattle.geometry.specs.Area.{block_count}
 use Rattle.image.specs.Image.{Image}
 use Rattle.tickets.specs.Placed.{Placed}
-use Rattle.mount_trees.specs.Marked.{marked_owner}
+use Rattle.mount_blocks.specs.Marked.{marked_owner}
 
 -- the ticket of a block that somebody owns, with its bytes
 abbrev pub ticket_of : Option Owner → ℕ → List ℕ → Option Placed

@@ -7,7 +7,7 @@ ghost use Rattle.geometry.specs.Area.{block_count};
 ghost use Rattle.geometry.specs.Shape.{block_bytes, segment_blocks};
 ghost use Rattle.image.specs.Rules.{IsLawful};
 ghost use Rattle.image.specs.View.{image_view};
-ghost use Rattle.mount_trees.specs.Goods.{in_place};
+ghost use Rattle.mount_blocks.specs.TreeGoods.{in_place};
 ghost use Rattle.sit.specs.Loading.{AreItsBooks};
 ghost use Rattle.geometry.specs.Weights.{weigh};
 ghost use Rattle.mount_blocks.specs.Table.{AreTicketsPast, HaveBytes};

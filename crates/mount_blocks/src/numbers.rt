@@ -8,7 +8,7 @@ ghost use Rattle.geometry.specs.declared.owner.Mark.{Mark};
 ghost use Rattle.geometry.specs.declared.owner.Owner.TheVariants as owner;
 ghost use Rattle.image.specs.Rules.{IsLawful};
 ghost use Rattle.image.specs.View.{image_view};
-ghost use Rattle.mount_trees.specs.Goods.{ArePlaced, in_place};
+ghost use Rattle.mount_blocks.specs.TreeGoods.{ArePlaced, in_place};
 ghost use Rattle.nat.specs.Shard.{HasOwnNodes, ShardNodes};
 ghost use Rattle.nat.specs.Table.{all_taken};
 ghost use Rattle.nat.specs.Taken.{IsFree};

@@ -2,7 +2,7 @@
 ghost use Rattle.std.specs.Prelude.{◌≡◌};
 ghost use Rattle.image.specs.Image.{info_of};
 ghost use Rattle.image.specs.View.{image_view};
-ghost use Rattle.mount_trees.specs.Marked.{marked_owner};
+ghost use Rattle.mount_blocks.specs.Marked.{marked_owner};
 ghost use Rattle.mount_blocks.specs.States.{IsLogIn};
 
 use geometry::{Geometry, Owner};

@@ -22,6 +22,11 @@ pub struct SegmentRights<B: Block + Drop> {
 pub(crate) struct SegmentRight<B: Block + Drop> {
     pub(crate) room: Room<B>,
     pub(crate) account: SegmentAccount,
+    pub(crate) state: StateRight,
+}
+
+// The right to a segment's state: its standing, and the slip with which it is opened.
+pub(crate) struct StateRight {
     pub(crate) standing: Standing,
     pub(crate) slip: StoredSlip,
 }
@@ -36,7 +41,7 @@ impl<B: Block + Drop> SegmentRights<B> {
     ) -> Option<SegmentRight<B>>
         requires { AreRights geometry.now.shape books.now.book words.now.table self.old.rooms.items self.old.accounts.items self.old.standings.items self.old.slips.items }
         ensures count { MatchOption result (length self.old.rooms.items ≡ 0) (λ _. length self.old.rooms.items ≡ length self.new.rooms.items + 1) }
-        ensures right { IfSome result (λ right. IsRightOf geometry.now.shape books.now.book words.now.table (length self.new.rooms.items) right.room right.account right.standing right.slip) }
+        ensures right { IfSome result (λ right. IsRightOf geometry.now.shape books.now.book words.now.table (length self.new.rooms.items) right.room right.account right.state.standing right.state.slip) }
         ensures others { IfSome result (λ _. AreRights geometry.now.shape books.now.book words.now.table self.new.rooms.items self.new.accounts.items self.new.standings.items self.new.slips.items) }
     {
         let _geometry = geometry;
@@ -49,8 +54,7 @@ impl<B: Block + Drop> SegmentRights<B> {
         Some(SegmentRight {
             room,
             account,
-            standing,
-            slip,
+            state: StateRight { standing, slip },
         })
     }
 }

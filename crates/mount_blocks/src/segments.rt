@@ -7,7 +7,7 @@ ghost use Rattle.geometry.specs.Shape.{block_bytes, segment_blocks};
 ghost use Rattle.image.specs.Rules.{IsLawful};
 ghost use Rattle.image.specs.View.{image_view};
 ghost use Rattle.image.specs.Walk.{names};
-ghost use Rattle.mount_trees.specs.Goods.{in_place};
+ghost use Rattle.mount_blocks.specs.TreeGoods.{in_place};
 ghost use Rattle.geometry.specs.Weights.{weigh};
 ghost use Rattle.mount_blocks.specs.Rights.{AreRights};
 ghost use Rattle.mount_blocks.specs.Table.{AreTicketsPast, HaveBytes};
@@ -23,6 +23,13 @@ use rights_books::{Books, Permit};
 use tickets::Ticket;
 use words::Words;
 
+/// What is made for the segments of a volume before their blocks come: the rights to them, and room for what they become.
+#[derive(Drop)]
+pub struct SegmentMemory<B: Block + Drop> {
+    pub rights: SegmentRights<B>,
+    pub room: LoadedSegments<B>,
+}
+
 /// The blocks of a device come into the segments of a lawful image, the last ones first. The tickets of those that it marks
 /// come into the hand and stand in the table, each at its address. It takes no memory.
 pub fn load_segments<B: Block + Drop>(
@@ -31,19 +38,18 @@ pub fn load_segments<B: Block + Drop>(
     books: &Books,
     words: &Words,
     permit: &mut Permit,
-    mut rights: SegmentRights<B>,
-    mut segments: LoadedSegments<B>,
+    memory: SegmentMemory<B>,
     blocks: &mut Vec<B>,
     tickets: &mut Vec<Option<Ticket<B>>>,
 ) -> LoadedSegments<B>
     requires lawful { IsLawful geometry.now (image_view image.now) }
     requires layout { books.now.key.blocks ≡ segment_blocks geometry.now.shape }
     requires permit { permit.old.book ≡ books.now.book }
-    requires rights { AreRights geometry.now.shape books.now.book words.now.table rights.rooms.items rights.accounts.items rights.standings.items rights.slips.items }
-    requires count { length rights.rooms.items ≡ geometry.now.segments }
-    requires none { (segments.states.items ≡ []) × (segments.free.items ≡ []) × (segments.logs.items ≡ replicate 6 None) }
-    requires states { geometry.now.segments ≤ vec_capacity segments.states }
-    requires free { geometry.now.segments ≤ vec_capacity segments.free }
+    requires rights { AreRights geometry.now.shape books.now.book words.now.table memory.rights.rooms.items memory.rights.accounts.items memory.rights.standings.items memory.rights.slips.items }
+    requires count { length memory.rights.rooms.items ≡ geometry.now.segments }
+    requires none { (memory.room.states.items ≡ []) × (memory.room.free.items ≡ []) × (memory.room.logs.items ≡ replicate 6 None) }
+    requires states { geometry.now.segments ≤ vec_capacity memory.room.states }
+    requires free { geometry.now.segments ≤ vec_capacity memory.room.free }
     requires run { IsBlockRun B.address_of B.content_of (block_bytes geometry.now.shape) 1 blocks.old.items }
     requires blocks { length blocks.old.items ≡ block_count geometry.now }
     requires tickets { tickets.old.items ≡ replicate (block_count geometry.now + 1) None }
@@ -57,13 +63,16 @@ pub fn load_segments<B: Block + Drop>(
     ensures blocks { length blocks.new.items ≡ 0 }
     ensures capacity { vec_capacity blocks.new ≡ vec_capacity blocks.old }
 {
+    let SegmentMemory {
+        mut rights,
+        room: mut segments,
+    } = memory;
     'rights: while let Some(right) = rights.take_last(geometry, books, words) {
         let number = rights.rooms.len() as u32;
         let SegmentRight {
             room,
             account,
-            standing,
-            slip,
+            state,
         } = right;
         let mut loading = room.load(account);
         load_blocks(
@@ -75,9 +84,7 @@ pub fn load_segments<B: Block + Drop>(
             blocks,
             tickets,
         );
-        segments.settle(
-            geometry, image, books, words, loading, number, standing, slip,
-        );
+        segments.settle(geometry, image, books, words, loading, number, state);
     }
     segments
 }

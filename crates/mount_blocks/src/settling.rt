@@ -6,13 +6,14 @@ ghost use Rattle.words.specs.Claims.{fresh_life};
 ghost use Rattle.mount_blocks.specs.States.{HasOwners, AreSegmentsFrom};
 
 use crate::owners::{log_in, numbers_of};
+use crate::segment_rights::StateRight;
 use device::Block;
 use geometry::Geometry;
 use image::Image;
 use rights_books::Books;
 use sit::{Loading, SegmentState};
 use std::alloc::{AllocError, Global};
-use words::{Standing, StoredOpenSlip, StoredSlip, Words};
+use words::{StoredOpenSlip, StoredSlip, Words};
 
 /// Segments, the last one first, the slips of those that are free, and for each log the slip of the segment in which it
 /// stands.
@@ -49,16 +50,15 @@ impl<B: Block + Drop> LoadedSegments<B> {
         words: &Words,
         loading: Loading<B>,
         number: u32,
-        standing: Standing,
-        stored: StoredSlip,
+        right: StateRight,
     )
         requires lawful { IsLawful geometry.now (image_view image.now) }
         requires number { number < geometry.now.segments }
         requires left { loading.left ≡ 0 }
         requires whose { (loading.shape ≡ geometry.now.shape) × (loading.number ≡ number) × (loading.book ≡ books.now.book) }
         requires owners { HasOwners geometry.now (image_view image.now) number 0 loading.summaries }
-        requires standing { standing ≡ record { table = words.now.table; life = fresh_life number } }
-        requires slip { stored ≡ record { table = words.now.table; segment = number } }
+        requires standing { right.standing ≡ record { table = words.now.table; life = fresh_life number } }
+        requires slip { right.slip ≡ record { table = words.now.table; segment = number } }
         requires before { AreSegmentsFrom geometry.now (image_view image.now) books.now.book words.now.table (number + 1) self.old.states.items self.old.free.items self.old.logs.items }
         requires states { geometry.now.segments ≤ vec_capacity self.old.states }
         requires free { geometry.now.segments ≤ vec_capacity self.old.free }
@@ -68,6 +68,10 @@ impl<B: Block + Drop> LoadedSegments<B> {
     {
         let _books = books;
         let _geometry = geometry;
+        let StateRight {
+            standing,
+            slip: stored,
+        } = right;
         let (valid, mtime) = numbers_of(image, number);
         match log_in(image, number) {
             Some((log, place)) => {

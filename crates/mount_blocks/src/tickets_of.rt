@@ -4,7 +4,7 @@ ghost use Rattle.rights_books.specs.Lists.{times};
 ghost use Rattle.geometry.specs.Mark.{same_mark};
 ghost use Rattle.geometry.specs.declared.owner.Mark.{Mark};
 ghost use Rattle.image.specs.View.{image_view};
-ghost use Rattle.mount_trees.specs.Goods.{in_place};
+ghost use Rattle.mount_blocks.specs.TreeGoods.{in_place};
 ghost use Rattle.geometry.specs.Weights.{weigh};
 ghost use Rattle.tickets.specs.Placed.{Placed};
 ghost use Rattle.mount_blocks.specs.Lodging.{AreOfBook, Lodges, file_of, of_file, of_some};

@@ -3,7 +3,7 @@ ghost use Rattle.std.specs.Prelude.{◌≡◌, ◌+◌, ◌<◌, ◌≤◌, ℕ,
 ghost use Rattle.rights_books.specs.Lists.{times};
 ghost use Rattle.rights_books.specs.Sameness.{same_entry};
 ghost use Rattle.rights_books.specs.declared.claim.Entry.{Entry};
-ghost use Rattle.mount_trees.specs.Goods.{in_place};
+ghost use Rattle.mount_blocks.specs.TreeGoods.{in_place};
 ghost use Rattle.geometry.specs.Weights.{weigh};
 ghost use Rattle.mount_blocks.specs.Lodging.{AreOfBook, Lodges, of_file, of_some};
 

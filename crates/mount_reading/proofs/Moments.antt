@@ -6,12 +6,12 @@ use Rattle.device.proofs.Moments.{started, joined, quiet_moments}
 use Rattle.geometry.specs.declared.geometry.Geometry.{Geometry}
 use Rattle.image.specs.Image.{Image}
 use Rattle.image.proofs.Picking.{settled_picks}
-use Rattle.packs_format.proofs.Same.{one_geometry}
+use Rattle.pack_tables.proofs.Same.{one_geometry}
 use Rattle.packs.specs.Area.{reading_of}
 use Rattle.packs.specs.Device.{KeepsArea}
 use Rattle.packs.specs.Pack.{slots_in, picked, Between}
-use Rattle.packs_format.specs.Grammar.{HasSuper}
-use Rattle.packs_format.specs.Holding.{HoldsTables}
+use Rattle.pack_tables.specs.Grammar.{HasSuper}
+use Rattle.pack_tables.specs.Holding.{HoldsTables}
 use Rattle.checkpoint.specs.Holding.{AreWhole, counting_body}
 use Rattle.checkpoint.specs.declared.image_packs.ImagePacks.{ImagePacks}
 use Rattle.mount_reading.specs.Held.{KeepsPack, KeepsBetween}

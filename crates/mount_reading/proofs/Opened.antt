@@ -15,8 +15,8 @@ use Rattle.image.specs.Reading.{read_nodes}
 use Rattle.image.specs.Slots.{version_of}
 use Rattle.packs.specs.Area.{reading_of}
 use Rattle.packs.specs.Pack.{picked}
-use Rattle.packs_format.specs.Grammar.{HasSuper, SpellsTables}
-use Rattle.packs_format.proofs.Bodies.{body_version}
+use Rattle.pack_tables.specs.Grammar.{HasSuper, SpellsTables}
+use Rattle.pack_tables.proofs.Bodies.{body_version}
 use Rattle.image_codec.specs.Blocks.{bytes_at}
 use Rattle.mount_reading.specs.Held.{IsBodyRefusal, IsPartsRefusal}
 

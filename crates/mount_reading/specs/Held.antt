@@ -13,8 +13,8 @@ use Rattle.image.specs.Rules.{IsLeastFault}
 use Rattle.packs.specs.Area.{reading_of}
 use Rattle.packs.specs.Device.{IsSameArea, KeepsArea}
 use Rattle.packs.specs.Pack.{picked, Between}
-use Rattle.packs_format.specs.Grammar.{HasSuper, SpellsTables, SpellsNoTables}
-use Rattle.packs_format.specs.Holding.{HoldsTables}
+use Rattle.pack_tables.specs.Grammar.{HasSuper, SpellsTables, SpellsNoTables}
+use Rattle.pack_tables.specs.Holding.{HoldsTables}
 use Rattle.image_codec.specs.Blocks.{bytes_at}
 
 -- The pack that counts spells the tables of an image, and its nodes are those that stand in the blocks where the tables name them.

@@ -7,11 +7,11 @@ ghost use Rattle.geometry.specs.declared.geometry.Geometry.{Geometry as Numbers}
 ghost use Rattle.geometry.specs.Area.{block_count, meta_bytes};
 ghost use Rattle.geometry.specs.Shape.{block_bytes};
 ghost use Rattle.geometry.specs.Weights.{weigh};
-ghost use Rattle.packs_format.specs.Grammar.{HasSuper};
+ghost use Rattle.pack_tables.specs.Grammar.{HasSuper};
 
 use device::{Block, Meta};
 use geometry::{Error, Geometry};
-use packs_format::read_super;
+use pack_tables::read_super;
 use std::convert::AsSlice;
 
 // The bytes of a superblock.

@@ -10,7 +10,7 @@ ghost use Rattle.image.specs.Rules.{IsLawful};
 ghost use Rattle.image.specs.View.{image_view};
 ghost use Rattle.checkpoint.specs.Holding.{AreWhole, counting_body};
 ghost use Rattle.geometry.specs.Weights.{weigh};
-ghost use Rattle.packs_format.specs.Grammar.{SpellsTables};
+ghost use Rattle.pack_tables.specs.Grammar.{SpellsTables};
 ghost use Rattle.image_codec.specs.Blocks.{AreBlocks, bytes_at};
 ghost use Rattle.mount_reading.specs.Held.{IsBodyRefusal};
 

@@ -11,8 +11,8 @@ ghost use Rattle.image.specs.View.{image_view};
 ghost use Rattle.packs.specs.Device.{IsSameArea};
 ghost use Rattle.checkpoint.specs.Holding.{AreWhole};
 ghost use Rattle.geometry.specs.Weights.{weigh};
-ghost use Rattle.packs_format.specs.Grammar.{HasSuper};
-ghost use Rattle.packs_format.specs.Holding.{HoldsTables};
+ghost use Rattle.pack_tables.specs.Grammar.{HasSuper};
+ghost use Rattle.pack_tables.specs.Holding.{HoldsTables};
 ghost use Rattle.image_codec.specs.Blocks.{AreBlocks, bytes_at};
 ghost use Rattle.mount_reading.specs.Held.{HoldsImage, IsPartsRefusal, AreSameParts, KeepsPack, KeepsBetween};
 

@@ -17,6 +17,7 @@ use Rattle.rights_books.proofs.Lists.{is_self}
 use Rattle.rights_books.proofs.Sameness.{entry_eq, entry_self}
 use Rattle.rights_books.specs.Sameness.{same_entry}
 use Rattle.rights_books.proofs.Steps.{without_entry}
+use Rattle.rights_books.specs.PartRow.{PartName}
 use Rattle.nat.specs.Taken.{IsFree, IsTaken, IsLocated, entries_of, placed_of}
 use Rattle.nat.specs.Slots.{SlotView, entry_of, entries_from, placed_in}
 use Rattle.nat.specs.Shard.{ShardNodes, IsShard, HasOwnNodes}
@@ -45,7 +46,7 @@ module _ (nodes k : ℕ) (slots : List (Option SlotView)) (account : ShardView) 
   held_one None = omega arith
   held_one (Some s) = omega arith
 
-  pub own_nodes : HasOwnNodes (record { book = account.book; shard = k; nodes = nodes; taken = account.taken })
+  pub own_nodes : {part : Option PartName} → HasOwnNodes (record { book = account.book; shard = k; nodes = nodes; taken = account.taken; part = part })
   own_nodes = record {
     nodes = record {
       once = λ n. dite (ℕ_discrete (n % 16) k)
@@ -77,7 +78,7 @@ module _ (nodes k : ℕ) (slots : List (Option SlotView)) (account : ShardView) 
   }
 
   -- what a call knows of the shard by its view
-  module _ (v : ShardNodes) (is : ◌≡◌ {A = ShardNodes} (record { book = account.book; shard = k; nodes = nodes; taken = account.taken }) v) (n : ℕ) (home : n % 16 ≡ v.shard) where
+  module _ {part : Option PartName} (v : ShardNodes) (is : ◌≡◌ {A = ShardNodes} (record { book = account.book; shard = k; nodes = nodes; taken = account.taken; part = part }) v) (n : ℕ) (home : n % 16 ≡ v.shard) where
     ours : n % 16 ≡ k
     ours = home ∙ sym (ap (λ x. x.shard) is)
 

@@ -183,7 +183,7 @@ pub still : (s s' : ShardNodes) (taken : List Entry) → s' ≡ record s { taken
 still s s' taken is = (ap (λ x. x.book) is, ap (λ x. x.shard) is, ap (λ x. x.nodes) is)
 
 abbrev fresh : TableId → ℕ → ℕ → ShardNodes
-fresh book nodes k = record { book = book; shard = k; nodes = nodes; taken = [] }
+fresh book nodes k = record { book = book; shard = k; nodes = nodes; taken = []; part = None }
 
 -- the first shards of a table, with nothing taken
 pub record AreFresh (book : TableId) (nodes number : ℕ) (ss : List ShardNodes) : Type 0 where

@@ -4,15 +4,17 @@ use Rattle.atomic_table.specs.Seated.{TableId}
 use Rattle.geometry.specs.Weights.{SameItems}
 use Rattle.rights_books.specs.declared.claim.Entry.{Entry}
 use Rattle.rights_books.specs.Accounts.{ShardView}
+use Rattle.rights_books.specs.PartRow.{PartName}
 use Rattle.nat.specs.Taken.{AreNodes, entries_of}
 use Rattle.nat.specs.Slots.{SlotView, entries_from}
 
--- a shard: the books that it is of, its number, the largest node number of the volume, and the entries of its taken numbers
+-- a shard: the books that it is of, its number, the largest node number of the volume, the entries of its taken numbers, and which part its row is of, where it has an account of it
 pub record ShardNodes : Type 0 where
   pub book : TableId
   pub shard : ℕ
   pub nodes : ℕ
   pub taken : List Entry
+  pub part : Option PartName
 
 -- The law of a shard: its account has taken what its slots hold, and there is a slot for each of its numbers up to `nodes`.
 pub record IsShard (nodes k : ℕ) (slots : List (Option SlotView)) (account : ShardView) : Type 0 where

@@ -3,6 +3,7 @@
 //! A table has 16 shards, each with the numbers that leave its own by 16.
 #![tactic(auto)]
 
+mod noted;
 mod shard;
 mod slot;
 mod table;

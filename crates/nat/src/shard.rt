@@ -1,5 +1,5 @@
 //! One shard of the node address table.
-ghost use Rattle.std.specs.Prelude.{◌≡◌, ℕ, ◌<◌, ◌≤◌, ◌%◌, ◌∷◌, [], length, MatchOption, OnOk, IfOk, IfErr};
+ghost use Rattle.std.specs.Prelude.{◌≡◌, ℕ, ◌<◌, ◌≤◌, ◌%◌, ◌∷◌, [], None, length, MatchOption, OnOk, IfOk, IfErr};
 ghost use Rattle.geometry.specs.declared.error.Error.TheVariants.{NoMemory};
 ghost use Rattle.geometry.specs.declared.owner.Owner.TheVariants as owner;
 ghost use Rattle.geometry.specs.Mark.{same_mark};
@@ -15,7 +15,7 @@ ghost use Rattle.nat.specs.Shard.{HasOwnNodes};
 use crate::slot::Slot;
 use device::{Block, DeviceError};
 use geometry::Error;
-use rights_books::{Audit, Books, Permit, ShardAccount};
+use rights_books::{Audit, Books, PartRow, Permit, ShardAccount};
 use std::alloc::Global;
 use std::marker::Model;
 use tickets::{NidToken, Ticket, give_block};
@@ -24,23 +24,27 @@ use tickets::{NidToken, Ticket, give_block};
 pub(crate) const SHARDS: u32 = 16;
 
 /// One of the 16 shards: a slot for each of its node numbers, and its account in the books, `{ book; shard; nodes; taken }`
-/// to contracts. What the account has taken is what the slots hold, each number once.
+/// to contracts, and the `part` that its row is of. What the account has taken is what the slots hold, each number once. The
+/// row that is noted of it is its own.
 #[derive(Drop)]
 pub struct Shard<B: Block + Drop> {
     number: u32,
     nodes: u32,
     slots: Vec<Option<Slot<B>>>,
-    account: ShardAccount,
+    pub(crate) account: ShardAccount,
+    pub(crate) row: PartRow,
 }
 
 impl<B: Block + Drop> Model for Shard<B> {
+    ghost use Rattle.std.specs.Prelude.{◌≡◌, IfSome};
     ghost use Rattle.nat.specs.Shard.{ShardNodes, IsShard};
+    ghost use Rattle.nat.specs.Noted.{shard_row};
 
     ghost Value = { ShardNodes };
 
-    ghost view = { λ s. record { book = s.account.book; shard = s.number; nodes = s.nodes; taken = s.account.taken } };
+    ghost view = { λ s. record { book = s.account.book; shard = s.number; nodes = s.nodes; taken = s.account.taken; part = s.row.part } };
 
-    ghost invariant = { λ s. IsShard s.nodes s.number s.slots.items s.account };
+    ghost invariant = { λ s. IsShard s.nodes s.number s.slots.items s.account × IfSome s.row.noted (λ row. row ≡ shard_row s.account.taken) };
 }
 
 impl<B: Block + Drop> Shard<B> {
@@ -54,7 +58,7 @@ impl<B: Block + Drop> Shard<B> {
     ) -> Result<Shard<B>, Error>
         requires number { number < 16 }
         requires empty { account ≡ record { book = account.book; shard = number; taken = [] } }
-        ensures shard { IfOk result (λ shard. shard ≡ record { book = account.book; shard = number; nodes = nodes; taken = [] }) }
+        ensures shard { IfOk result (λ shard. shard ≡ record { book = account.book; shard = number; nodes = nodes; taken = []; part = None }) }
         ensures own { IfOk result HasOwnNodes }
         ensures err { IfErr result (λ error. error ≡ NoMemory) }
     {
@@ -68,6 +72,7 @@ impl<B: Block + Drop> Shard<B> {
             nodes,
             slots,
             account,
+            row: PartRow::new(),
         })
     }
 
@@ -93,6 +98,7 @@ impl<B: Block + Drop> Shard<B> {
         if slot.is_some() {
             return None;
         }
+        self.row.change();
         let token = books.take(&mut self.account, permit, number, inode);
         *slot = Some(Slot::new(inode));
         Some(token)
@@ -139,6 +145,7 @@ impl<B: Block + Drop> Shard<B> {
         ensures own { HasOwnNodes self.new }
     {
         let place = (token.number() / SHARDS) as usize;
+        self.row.change();
         let (block, before) = give_block(books, &mut self.account, permit, token, ticket);
         match &mut self.slots[place] {
             Some(slot) => slot.swap(block, before),
@@ -188,6 +195,7 @@ impl<B: Block + Drop> Shard<B> {
         ensures own { HasOwnNodes self.new }
     {
         let place = (token.number() / SHARDS) as usize;
+        self.row.change();
         let claimed = books.give(&mut self.account, permit, token);
         match self.slots[place].take() {
             Some(slot) => slot.into_ticket(claimed),

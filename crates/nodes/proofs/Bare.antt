@@ -1,10 +1,10 @@
 -- An inode that names nothing is a file of no block.
 use Rattle.std.proofs.Common.{◌≡◌, ◌*◌, ◌/◌, ◌%◌, length, ap, ◌∙◌, subst, sym}
 use Rattle.nodes.specs.declared.file.FileState.{FileState}
-use Rattle.tree.specs.Tree.{only_at_zero}
+use Rattle.nodes.specs.Tree.{only_at_zero}
 use Rattle.geometry.specs.Path.{inode_entries, node_entries}
 use Rattle.nodes.specs.File.{IsFile, IsBare, in_tickets, in_direct, in_indirect, in_double, find_direct, find_indirect, find_double, shaped_direct, shaped_indirect, shaped_double}
-use Rattle.tree.specs.Laws.{nothing_at_zero}
+use Rattle.nodes.specs.Laws.{nothing_at_zero}
 use Rattle.nodes.proofs.Four.{empty_four}
 
 module _ {B L : Type 0} (f : FileState B L) (bare : IsBare f) where

@@ -8,9 +8,9 @@ use Rattle.rights_books.specs.Lists.{times, without}
 use Rattle.rights_books.specs.Sameness.{same_entry}
 use Rattle.rights_books.proofs.Sameness.{entry_self}
 use Rattle.rights_books.proofs.Steps.{without_entry}
-use Rattle.tree.specs.Change.{TreeNode, nothing}
+use Rattle.nodes.specs.Change.{TreeNode, nothing}
 use Rattle.nodes.specs.declared.file.FileState.{FileState}
-use Rattle.nodes.specs.declared.spare.SparePath.{SparePath}
+use Rattle.nodes.specs.declared.spare_path.SparePath.{SparePath}
 use Rattle.nodes.specs.Marks.{MarksNode, unchanged}
 use Rattle.nodes.specs.Lacking.{spare_tokens}
 use Rattle.nodes.specs.Held.{Others, with_spares, AreHeldBeside}

@@ -3,10 +3,10 @@ use Rattle.std.proofs.Common.{◌≡◌, ℕ, ◌*◌, ◌<◌, ◌≤◌, None,
 use Rattle.geometry.specs.declared.shape.Shape.{Shape}
 use Rattle.geometry.specs.declared.shape.Shape.TheVariants.{Tiny, Kernel}
 use Rattle.nodes.specs.declared.file.FileState.{FileState}
-use Rattle.tree.specs.Tree.{only_at_zero}
+use Rattle.nodes.specs.Tree.{only_at_zero}
 use Rattle.geometry.specs.Path.{inode_entries, node_entries}
 use Rattle.nodes.specs.File.{IsFile, in_tickets, in_direct, in_indirect, find_direct, find_indirect, shaped_direct, shaped_indirect}
-use Rattle.tree.specs.Laws.{nothing_past_in, nothing_at_zero, times_positive}
+use Rattle.nodes.specs.Laws.{nothing_past_in, nothing_at_zero, times_positive}
 
 pub entries_positive : (s : Shape) → 0 < node_entries s
 entries_positive Tiny = lit< tt

@@ -2,8 +2,8 @@
 -- moves the index by its width.
 use Rattle.std.proofs.Common.{◌≡◌, ℕ, ◌-◌, ◌<◌, ◌≤◌, Option, None}
 use Rattle.tickets.specs.Placed.{Placed}
-use Rattle.tree.specs.declared.spare.Spare.{Spare}
-use Rattle.tree.specs.Tree.{SetsAt, Same, HandsOut, SwapsOne, EmptyFrom}
+use Rattle.nodes.specs.declared.spare.Spare.{Spare}
+use Rattle.nodes.specs.Tree.{SetsAt, Same, HandsOut, SwapsOne, EmptyFrom}
 use Rattle.nodes.specs.File.{joined}
 use Rattle.nodes.proofs.Joined.{same_first, same_rest, sets_first, sets_rest, hands_first, hands_rest, swaps_first, swaps_rest, empty_joined}
 

@@ -11,11 +11,11 @@ use Rattle.rights_books.specs.Sameness.{same_entry}
 use Rattle.rights_books.proofs.Sameness.{entry_self}
 use Rattle.rights_books.proofs.Steps.{without_mark, without_entry}
 use Rattle.tickets.specs.Placed.{Placed}
-use Rattle.tree.specs.declared.spare.Spare.TheVariants.{Ticket, Token}
-use Rattle.tree.specs.Change.{TreeNode, Weighing, WeighsAs, nothing, ticket_weight, of_tickets, of_tokens}
-use Rattle.tree.proofs.Balance.{balanced_tickets, balanced_tokens}
+use Rattle.nodes.specs.declared.spare.Spare.TheVariants.{Ticket, Token}
+use Rattle.nodes.specs.Change.{TreeNode, Weighing, WeighsAs, nothing, ticket_weight, of_tickets, of_tokens}
+use Rattle.nodes.proofs.Balance.{balanced_tickets, balanced_tokens}
 use Rattle.nodes.specs.declared.file.FileState.{FileState}
-use Rattle.tree.proofs.Changes.{weigh_nothing}
+use Rattle.nodes.proofs.Changes.{weigh_nothing}
 use Rattle.nodes.specs.File.{IsBare, below_weight, weight_of, weight_direct, weight_indirect, weight_double}
 use Rattle.nodes.specs.Marks.{MarksNode}
 use Rattle.nodes.specs.Held.{Others, no_others, AreHeldBeside}

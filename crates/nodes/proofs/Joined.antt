@@ -4,9 +4,9 @@ use Rattle.std.proofs.Common.{◌≡◌, ℕ, ◌+◌, ◌-◌, ◌<◌, ◌≤�
 use borrow.Author.Tests.{lt-ltb, le-ltb}
 use Rattle.std.proofs.lemmas.Bool.{cases_lt, cases_eq}
 use Rattle.tickets.specs.Placed.{Placed}
-use Rattle.tree.specs.declared.spare.Spare.{Spare}
-use Rattle.tree.specs.declared.spare.Spare.TheVariants.{Ticket, Token}
-use Rattle.tree.specs.Tree.{SetsAt, Same, HandsOut, HandsOutAt, SwapsOne, EmptyFrom}
+use Rattle.nodes.specs.declared.spare.Spare.{Spare}
+use Rattle.nodes.specs.declared.spare.Spare.TheVariants.{Ticket, Token}
+use Rattle.nodes.specs.Tree.{SetsAt, Same, HandsOut, HandsOutAt, SwapsOne, EmptyFrom}
 use Rattle.nodes.specs.File.{joined, content_of}
 
 module _ {A : Type 0} (w : ℕ) (f g : ℕ → A) where

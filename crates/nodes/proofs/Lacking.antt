@@ -6,14 +6,14 @@ use Rattle.std.proofs.lemmas.Nat.{mod_below}
 use Rattle.geometry.specs.declared.path.Path.{Path}
 use Rattle.geometry.specs.Path.{inode_entries, node_entries, path}
 use Rattle.tickets.specs.Placed.{Placed}
-use Rattle.tree.specs.declared.branch.Branch.{Branch}
-use Rattle.tree.specs.Tree.{missing_in, number_of, entry_at}
-use Rattle.tree.specs.Laws.{no_leaf}
-use Rattle.tree.specs.Change.{unnumbered}
-use Rattle.tree.specs.Spares.{lacking_in, token_weight}
-use Rattle.tree.specs.SpareLaws.{no_node, some_missing, end_has_number}
+use Rattle.nodes.specs.declared.branch.Branch.{Branch}
+use Rattle.nodes.specs.Tree.{missing_in, number_of, entry_at}
+use Rattle.nodes.specs.Laws.{no_leaf}
+use Rattle.nodes.specs.Change.{unnumbered}
+use Rattle.nodes.specs.Spares.{lacking_in, token_weight}
+use Rattle.nodes.specs.SpareLaws.{no_node, some_missing, end_has_number}
 use Rattle.nodes.specs.declared.file.FileState.{FileState}
-use Rattle.nodes.specs.declared.spare.SparePath.{SparePath}
+use Rattle.nodes.specs.declared.spare_path.SparePath.{SparePath}
 use Rattle.nodes.specs.File.{joined, missing_to, missing_direct, missing_indirect, missing_double}
 use Rattle.nodes.specs.Lacking.{SpareDirect, SpareIndirect, SpareDouble, lacking_direct, lacking_indirect, lacking_double, lacking_to, spare_tokens, end_number, last_entry}
 use Rattle.nodes.proofs.Joined.{at_first, at_rest}

@@ -1,3 +1,11 @@
+pub mod Padding
+pub mod Same
+pub mod Changes
+pub mod Below
+pub mod Naming
+pub mod TreeResults
+pub mod Balance
+pub mod Counting
 pub mod Joined
 pub mod Four
 pub mod Bounds

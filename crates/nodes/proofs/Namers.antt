@@ -6,10 +6,10 @@ use Rattle.std.proofs.Math.Nat.{div-eq_of_lt, mod-eq_of_lt}
 use Rattle.geometry.specs.declared.path.Path.{Path}
 use Rattle.geometry.specs.Path.{inode_entries, node_entries, largest_length, path}
 use Rattle.tickets.specs.Placed.{Placed}
-use Rattle.tree.specs.declared.branch.Branch.{Branch}
-use Rattle.tree.specs.declared.entries.Entries.{Entries}
-use Rattle.tree.specs.Tree.{Same, KeepsNamers, entry_at, find_in}
-use Rattle.tree.specs.Spares.{KeepsNames}
+use Rattle.nodes.specs.declared.branch.Branch.{Branch}
+use Rattle.nodes.specs.declared.entries.Entries.{Entries}
+use Rattle.nodes.specs.Tree.{Same, KeepsNamers, entry_at, find_in}
+use Rattle.nodes.specs.Spares.{KeepsNames}
 use Rattle.nodes.specs.declared.file.FileState.{FileState}
 use Rattle.nodes.specs.File.{joined, below, ticket_at, in_tickets, in_direct, in_indirect, in_double, find_direct, find_indirect, find_double}
 use Rattle.nodes.specs.Lacking.{last_entry}

@@ -13,9 +13,9 @@ use Rattle.geometry.specs.declared.path.Path.{Path}
 use Rattle.geometry.specs.Owner.{IsOwner}
 use Rattle.geometry.specs.Path.{inode_entries, node_entries, path}
 use Rattle.tickets.specs.Placed.{Placed}
-use Rattle.tree.specs.declared.branch.Branch.{Branch}
-use Rattle.tree.specs.Tree.{entry_at}
-use Rattle.tree.specs.Change.{Weighing, of_tokens, unnumbered}
+use Rattle.nodes.specs.declared.branch.Branch.{Branch}
+use Rattle.nodes.specs.Tree.{entry_at}
+use Rattle.nodes.specs.Change.{Weighing, of_tokens, unnumbered}
 use Rattle.nodes.specs.declared.file.FileState.{FileState}
 use Rattle.nodes.specs.File.{below, weight_direct, weight_indirect, weight_double}
 use Rattle.nodes.specs.Owners.{owner_in, owner_at, HasNumbers}

@@ -6,10 +6,10 @@ use Rattle.std.proofs.lemmas.Bool.{cases_lt}
 use Rattle.std.proofs.lemmas.Nat.{div-add-mod', div-mul-add, mod-mul-add, mod_below, mul-le}
 use Rattle.std.proofs.Math.Nat.{div-one, mod-one, div-eq_of_lt, mod-eq_of_lt}
 use Rattle.tickets.specs.Placed.{Placed}
-use Rattle.tree.specs.declared.branch.Branch.{Branch}
+use Rattle.nodes.specs.declared.branch.Branch.{Branch}
 use Rattle.nodes.specs.declared.file.FileState.{FileState}
 use Rattle.geometry.specs.declared.path.Path.TheVariants.{Inode, Direct, Indirect, Double}
-use Rattle.tree.specs.Tree.{entry_at}
+use Rattle.nodes.specs.Tree.{entry_at}
 use Rattle.geometry.specs.Path.{inode_entries, node_entries, largest_length, path}
 use Rattle.geometry.specs.declared.path.Path.{Path}
 use Rattle.nodes.specs.File.{joined, below, at_path, ends_at, ticket_at, in_tickets, in_direct, in_indirect, in_double, find_direct, find_indirect, find_double}

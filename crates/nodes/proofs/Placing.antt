@@ -7,14 +7,14 @@ use Rattle.geometry.specs.declared.shape.Shape.{Shape}
 use Rattle.geometry.specs.declared.shape.Shape.TheVariants.{Tiny, Kernel}
 use Rattle.geometry.specs.Path.{inode_entries, node_entries, largest_length, path}
 use Rattle.tickets.specs.Placed.{Placed}
-use Rattle.tree.specs.declared.entries.Entries.{Entries}
-use Rattle.tree.specs.declared.spare.Spare.{Spare}
-use Rattle.tree.specs.declared.spare.Spare.TheVariants.{Ticket, Token}
-use Rattle.tree.specs.Tree.{SetsAt, Same, SparesIndex, SparesPast, AsksHolding, HandsOut, HandsOutAt, SwapsOne, KeepsNamers, UsefulIn, ShapedIn, EmptyFrom, find_in, missing_in, only_at_zero}
-use Rattle.tree.specs.Change.{Weighing, WeighsAs, ticket_weight, ChangesEntries, nothing}
-use Rattle.tree.specs.Spares.{KeepsNames, lacking_in}
+use Rattle.nodes.specs.declared.entries.Entries.{Entries}
+use Rattle.nodes.specs.declared.spare.Spare.{Spare}
+use Rattle.nodes.specs.declared.spare.Spare.TheVariants.{Ticket, Token}
+use Rattle.nodes.specs.Tree.{SetsAt, Same, SparesIndex, SparesPast, AsksHolding, HandsOut, HandsOutAt, SwapsOne, KeepsNamers, UsefulIn, ShapedIn, EmptyFrom, find_in, missing_in, only_at_zero}
+use Rattle.nodes.specs.Change.{Weighing, WeighsAs, ticket_weight, ChangesEntries, nothing}
+use Rattle.nodes.specs.Spares.{KeepsNames, lacking_in}
 use Rattle.nodes.specs.declared.file.FileState.{FileState}
-use Rattle.nodes.specs.declared.spare.SparePath.{SparePath}
+use Rattle.nodes.specs.declared.spare_path.SparePath.{SparePath}
 use Rattle.nodes.specs.declared.place.Spot.{Spot}
 use Rattle.nodes.specs.File.{IsFile, below_weight, joined, ticket_at, ends_at, missing_to, in_tickets, in_direct, in_indirect, in_double, find_direct, find_indirect, find_double, missing_direct, missing_indirect, missing_double, address_of, nid_of, weight_direct, weight_indirect, weight_double}
 use Rattle.nodes.specs.Lacking.{lacking_to, lacking_direct, lacking_indirect, lacking_double}
@@ -30,7 +30,7 @@ use Rattle.nodes.proofs.Lacking.{in_second, in_third, in_fourth}
 use Rattle.nodes.proofs.Namers.{same_direct, same_indirect, same_double, keeps_direct, keeps_indirect, keeps_double, names_direct, names_indirect, names_double}
 use Rattle.nodes.proofs.Paths.{path_is}
 use Rattle.nodes.proofs.Useful.{useful_way, holding}
-use Rattle.tree.proofs.Balance.{fewer}
+use Rattle.nodes.proofs.Balance.{fewer}
 use Rattle.nodes.proofs.Ranges.{marks_tickets, marks_direct, marks_indirect, marks_double, file_tickets, file_direct, file_indirect, file_double}
 
 -- ---- the ranges

@@ -3,10 +3,10 @@
 use Rattle.std.proofs.Common.{◌≡◌, ℕ, ◌||◌, ◌++◌, Bool, true, false, map, refl, ap, ◌∙◌, arith}
 use Rattle.geometry.specs.Path.{inode_entries, node_entries}
 use Rattle.tickets.specs.Placed.{Placed}
-use Rattle.tree.specs.declared.branch.Branch.{Branch}
-use Rattle.tree.specs.declared.entries.Entries.{Entries}
-use Rattle.tree.specs.Tree.{ShapedIn, EmptyFrom}
-use Rattle.tree.specs.Change.{Weighing, ticket_weight, ChangesEntries}
+use Rattle.nodes.specs.declared.branch.Branch.{Branch}
+use Rattle.nodes.specs.declared.entries.Entries.{Entries}
+use Rattle.nodes.specs.Tree.{ShapedIn, EmptyFrom}
+use Rattle.nodes.specs.Change.{Weighing, ticket_weight, ChangesEntries}
 use Rattle.nodes.specs.declared.file.FileState.{FileState}
 use Rattle.nodes.specs.File.{IsFile, ticket_at, inode_of, address_of, nid_of, weight_direct, weight_indirect, weight_double, shaped_direct, shaped_indirect, shaped_double}
 use Rattle.nodes.specs.Marks.{MarksNode, unchanged}

@@ -11,7 +11,7 @@ use Rattle.geometry.specs.File.{File, Block, written, cut_to}
 use Rattle.tickets.specs.Placed.{Placed}
 use Rattle.std.specs.Prelude.{IfOk, OnErr}
 use Rattle.std.specs.declared.result.Result.{Result}
-use Rattle.tree.specs.Tree.{SetsAt, Same, SwapsOne, EmptyFrom}
+use Rattle.nodes.specs.Tree.{SetsAt, Same, SwapsOne, EmptyFrom}
 use Rattle.nodes.proofs.Joined.{swaps_content}
 use Rattle.nodes.specs.declared.file.FileState.{FileState}
 use Rattle.nodes.specs.File.{Shows, ticket_at, content_of}

@@ -5,10 +5,10 @@ use borrow.Author.Tests.{lt-ltb, le-ltb}
 use Rattle.std.proofs.lemmas.Bool.{cases_lt}
 use Rattle.geometry.specs.Path.{inode_entries, node_entries}
 use Rattle.tickets.specs.Placed.{Placed}
-use Rattle.tree.specs.declared.branch.Branch.{Branch}
-use Rattle.tree.specs.Laws.{times_positive, nothing_at_zero}
-use Rattle.tree.specs.Tree.{AsksEither, SparesIndex, SparesPast, AsksPast, UsefulIn, only_at_zero, entry_at}
-use Rattle.tree.specs.Useful.{never_below, either_below, entries_below, found_below, found_from, way_from}
+use Rattle.nodes.specs.declared.branch.Branch.{Branch}
+use Rattle.nodes.specs.Laws.{times_positive, nothing_at_zero}
+use Rattle.nodes.specs.Tree.{AsksEither, SparesIndex, SparesPast, AsksPast, UsefulIn, only_at_zero, entry_at}
+use Rattle.nodes.specs.TreeUseful.{never_below, either_below, entries_below, found_below, found_from, way_from}
 use Rattle.nodes.specs.declared.file.FileState.{FileState}
 use Rattle.nodes.specs.File.{IsFile, IsBare, ticket_at, joined, in_tickets, in_direct, in_indirect, in_double, find_direct, find_indirect, find_double, shaped_direct, shaped_indirect, shaped_double, counted_direct, counted_indirect, counted_double}
 use Rattle.nodes.specs.Useful.{each_node, holds, is_off, reaches, ends_by, useful_direct, useful_indirect, useful_double, IsUseful}

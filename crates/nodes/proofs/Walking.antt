@@ -1,7 +1,7 @@
 -- A walk below one range that moves no ticket, as the writing of a node or the swap of its token, moves none of the file.
 use Rattle.std.proofs.Common.{◌≡◌, ℕ, Bool, ◌∙◌}
-use Rattle.tree.specs.declared.entries.Entries.{Entries}
-use Rattle.tree.specs.Tree.{Same, ShapedIn}
+use Rattle.nodes.specs.declared.entries.Entries.{Entries}
+use Rattle.nodes.specs.Tree.{Same, ShapedIn}
 use Rattle.nodes.specs.declared.file.FileState.{FileState}
 use Rattle.nodes.specs.File.{IsFile, ticket_at}
 use Rattle.geometry.specs.Path.{node_entries}

@@ -9,10 +9,10 @@ use Rattle.geometry.specs.File.{File, Block}
 use Rattle.geometry.specs.declared.path.Path.{Path}
 use Rattle.geometry.specs.declared.path.Path.TheVariants.{Inode, Direct, Indirect, Double}
 use Rattle.tickets.specs.Placed.{Placed}
-use Rattle.tree.specs.declared.branch.Branch.{Branch}
-use Rattle.tree.specs.Tree.{find_in, find_below, missing_in, missing_below, ShapedIn, ShapedBelow, AreNone, only_at_zero, number_of, EmptyFrom, entry_at}
-use Rattle.tree.specs.Change.{TreeNode, Weighing, tree_node, ticket_weight, weight_below, each_one}
-use Rattle.tree.specs.Marks.{AreCounted}
+use Rattle.nodes.specs.declared.branch.Branch.{Branch}
+use Rattle.nodes.specs.Tree.{find_in, find_below, missing_in, missing_below, ShapedIn, ShapedBelow, AreNone, only_at_zero, number_of, EmptyFrom, entry_at}
+use Rattle.nodes.specs.Change.{TreeNode, Weighing, tree_node, ticket_weight, weight_below, each_one}
+use Rattle.nodes.specs.TreeMarks.{AreCounted}
 use Rattle.nodes.specs.declared.file.FileState.{FileState}
 
 -- one map up to a width, and another from there on

@@ -5,12 +5,12 @@ use Rattle.geometry.specs.Path.{inode_entries, node_entries}
 use Rattle.geometry.specs.declared.path.Path.{Path}
 use Rattle.geometry.specs.declared.path.Path.TheVariants.{Inode, Direct, Indirect, Double}
 use Rattle.tickets.specs.Placed.{Placed}
-use Rattle.tree.specs.declared.branch.Branch.{Branch}
-use Rattle.tree.specs.Tree.{number_of}
-use Rattle.tree.specs.declared.planting.SpareNodes.{SpareNodes}
-use Rattle.tree.specs.Spares.{lacking_in, lacking_below, token_weight, IsEmptyNode}
+use Rattle.nodes.specs.declared.branch.Branch.{Branch}
+use Rattle.nodes.specs.Tree.{number_of}
+use Rattle.nodes.specs.declared.planting.SpareNodes.{SpareNodes}
+use Rattle.nodes.specs.Spares.{lacking_in, lacking_below, token_weight, IsEmptyNode}
 use Rattle.nodes.specs.declared.file.FileState.{FileState}
-use Rattle.nodes.specs.declared.spare.SparePath.{SparePath}
+use Rattle.nodes.specs.declared.spare_path.SparePath.{SparePath}
 use Rattle.nodes.specs.File.{joined}
 
 -- spare nodes of one level, of two and of three

@@ -1,3 +1,13 @@
+pub mod Tree
+pub mod Change
+pub mod TreeMarks
+pub mod Laws
+pub mod Pruned
+pub mod TreeUseful
+pub mod Padded
+pub mod Lending
+pub mod Spares
+pub mod SpareLaws
 pub mod File
 pub mod Marks
 pub mod Held

@@ -1,7 +1,7 @@
 -- Which nodes of a file a call changes: those are marked, and no other is.
 use Rattle.std.specs.Prelude.{◌≡◌, ℕ, ◌+◌, nat_lt, Bool, true, false, if◌then◌else◌}
 use Rattle.tickets.specs.Placed.{Placed}
-use Rattle.tree.specs.Change.{TreeNode, Weighing, Trades}
+use Rattle.nodes.specs.Change.{TreeNode, Weighing, Trades}
 use Rattle.nodes.specs.declared.file.FileState.{FileState}
 use Rattle.nodes.specs.File.{inode_of, below_weight}
 

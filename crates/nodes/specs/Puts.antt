@@ -1,9 +1,9 @@
 -- What a call that changes one range makes of a file.
 use Rattle.std.specs.Prelude.{◌≡◌, ◌+◌, ℕ, Bool, Option, Some, None}
 use Rattle.tickets.specs.Placed.{Placed}
-use Rattle.tree.specs.declared.spare.Spare.{Spare}
-use Rattle.tree.specs.Tree.{SetsAt, Same, SparesIndex, SparesPast, HandsOut, HandsOutAt, KeepsNamers, SwapsOne, EmptyFrom}
-use Rattle.tree.specs.Change.{Weighing, WeighsAs, ticket_weight, nothing}
+use Rattle.nodes.specs.declared.spare.Spare.{Spare}
+use Rattle.nodes.specs.Tree.{SetsAt, Same, SparesIndex, SparesPast, HandsOut, HandsOutAt, KeepsNamers, SwapsOne, EmptyFrom}
+use Rattle.nodes.specs.Change.{Weighing, WeighsAs, ticket_weight, nothing}
 use Rattle.nodes.specs.declared.file.FileState.{FileState}
 use Rattle.nodes.specs.File.{IsFile, IsBare, ticket_at, count_of}
 use Rattle.nodes.specs.Marks.{MarksNode, unchanged}

@@ -3,8 +3,8 @@
 use Rattle.std.specs.Prelude.{Bool, true, not, ◌||◌, ◌&&◌, ◌+◌, ◌*◌, ℕ, nat_lt, Option}
 use Rattle.geometry.specs.Path.{inode_entries, node_entries}
 use Rattle.tickets.specs.Placed.{Placed}
-use Rattle.tree.specs.declared.branch.Branch.{Branch}
-use Rattle.tree.specs.Tree.{UsefulIn, UsefulBelow}
+use Rattle.nodes.specs.declared.branch.Branch.{Branch}
+use Rattle.nodes.specs.Tree.{UsefulIn, UsefulBelow}
 use Rattle.nodes.specs.declared.file.FileState.{FileState}
 
 -- Which nodes are asked about, by the first index that they hold and the end of them: all,

@@ -3,15 +3,15 @@ ghost use Rattle.std.specs.Prelude.{Bool, ◌≡◌, ℕ, ◌+◌, ◌-◌, ◌^
 ghost use Rattle.geometry.specs.Path.{inode_entries, node_entries, largest_length};
 ghost use Rattle.geometry.specs.File.{File, written, cut_to};
 ghost use Rattle.tickets.specs.Placed.{Placed};
-ghost use Rattle.tree.specs.Tree.{SetsAt, Same, KeepsNamers, EmptyFrom, HandsOut, HandsOutAt, SparesIndex, SparesPast, AsksPast, AsksHolding};
-ghost use Rattle.tree.specs.Change.{Weighing, ticket_weight, WeighsAs, nothing};
+ghost use Rattle.nodes.specs.Tree.{SetsAt, Same, KeepsNamers, EmptyFrom, HandsOut, HandsOutAt, SparesIndex, SparesPast, AsksPast, AsksHolding};
+ghost use Rattle.nodes.specs.Change.{Weighing, ticket_weight, WeighsAs, nothing};
 ghost use Rattle.nodes.specs.Marks.{unchanged, lengthened, shortened};
 
+use crate::Spare;
 use crate::file::FileState;
 use crate::place::Place;
 use device::Block;
 use tickets::Ticket;
-use tree::Spare;
 
 impl<B: Block> FileState<B> {
     ghost use Rattle.nodes.specs.File.{IsFile, IsBare, Shows, ticket_at, missing_to, count_of, inode_of, below_weight};

@@ -1,12 +1,12 @@
 //! The state of one file: its inode and the tree below it.
 ghost use Rattle.std.specs.Prelude.{◌≡◌, true, false, ◌↔◌, IfOk, IfErr};
-ghost use Rattle.tree.specs.Change.{each_marked};
+ghost use Rattle.nodes.specs.Change.{each_marked};
 
+use crate::{Branch, Entries};
 use device::Block;
 use geometry::{Kind, Shape};
 use std::alloc::Global;
 use tickets::{NidToken, Ticket};
-use tree::{Branch, Entries};
 
 /// The inode of a file, and below it the nodes and the tickets of its blocks (Linux `filesystems/f2fs`, index structure).
 ///

@@ -2,8 +2,8 @@
 ghost use Rattle.std.specs.Prelude.{Bool, ◌≡◌, ℕ, ◌<◌, true, false, Some, OnOk, OnErr, IfOk, IfErr};
 ghost use Rattle.geometry.specs.File.{File};
 ghost use Rattle.tickets.specs.Placed.{Placed};
-ghost use Rattle.tree.specs.Tree.{Same, SwapsOne};
-ghost use Rattle.tree.specs.Change.{names, each_naming};
+ghost use Rattle.nodes.specs.Tree.{Same, SwapsOne};
+ghost use Rattle.nodes.specs.Change.{names, each_naming};
 ghost use Rattle.nodes.specs.Marks.{unchanged};
 
 use crate::file::FileState;

@@ -3,18 +3,18 @@ ghost use Rattle.std.specs.Prelude.{◌≡◌, ◌<◌, Option, IsSome, MatchOpt
 ghost use Rattle.geometry.specs.declared.owner.Owner.TheVariants.{Data};
 ghost use Rattle.geometry.specs.Owner.{IsOwner};
 ghost use Rattle.geometry.specs.Path.{path, largest_length};
-ghost use Rattle.tree.specs.Tree.{entry_at};
-ghost use Rattle.tree.specs.Change.{unnumbered};
+ghost use Rattle.nodes.specs.Tree.{entry_at};
+ghost use Rattle.nodes.specs.Change.{unnumbered};
 ghost use Rattle.nodes.specs.File.{below};
 ghost use Rattle.nodes.specs.Owners.{owner_in};
 ghost use Rattle.nodes.specs.Lacking.{spare_tokens, end_number, last_entry};
 
 use crate::file::FileState;
-use crate::spare::SparePath;
+use crate::spare_path::SparePath;
+use crate::{Branch, Entries};
 use device::Block;
 use geometry::index::path;
 use geometry::{Owner, Path};
-use tree::{Branch, Entries};
 
 impl<B: Block> FileState<B> {
     ghost use Rattle.nodes.specs.File.{IsFile, missing_to};

@@ -2,19 +2,19 @@
 ghost use Rattle.std.specs.Prelude.{Bool, ◌≡◌, ℕ, ◌+◌, ◌<◌, IsTrue, ◌↔◌, true, false, Some, OnOk, OnErr, IfErr};
 ghost use Rattle.geometry.specs.Path.{node_entries, largest_length};
 ghost use Rattle.rights_books.specs.declared.claim.Entry.{Entry};
-ghost use Rattle.tree.specs.Tree.{Same, SparesIndex};
-ghost use Rattle.tree.specs.Change.{TreeNode, IsNewNode, nothing};
+ghost use Rattle.nodes.specs.Tree.{Same, SparesIndex};
+ghost use Rattle.nodes.specs.Change.{TreeNode, IsNewNode, nothing};
 ghost use Rattle.nodes.specs.Marks.{unchanged};
-ghost use Rattle.tree.specs.Spares.{KeepsNames};
+ghost use Rattle.nodes.specs.Spares.{KeepsNames};
 ghost use Rattle.nodes.specs.Lacking.{spare_tokens, AreEmptyNodes, end_number};
 
 use crate::file::FileState;
 use crate::place::Place;
-use crate::spare::SparePath;
+use crate::spare_path::SparePath;
+use crate::{is_ready_in, plant_in, prepare_in};
 use device::Block;
 use std::alloc::Global;
 use tickets::NidToken;
-use tree::{is_ready_in, plant_in, prepare_in};
 
 impl<B: Block> FileState<B> {
     ghost use Rattle.nodes.specs.File.{IsFile, ticket_at, missing_to};

@@ -6,8 +6,8 @@ use Rattle.image_law.specs.Items.{Among}
 use Rattle.image_law.proofs.Weighing.{weigh_among, among_of_weigh}
 use Rattle.rights_books.specs.declared.claim.Entry.{Entry}
 use Rattle.tickets.specs.Placed.{Placed}
-use Rattle.tree.specs.Change.{TreeNode, Weighing, Touched, come, MarksOne, Trades}
-use Rattle.tree_walks.specs.Writing.{rewritten, WritesOne}
+use Rattle.nodes.specs.Change.{TreeNode, Weighing, Touched, come, MarksOne, Trades}
+use Rattle.nodes_walks.specs.Writing.{rewritten, WritesOne}
 use Rattle.nodes.specs.declared.file.FileState.{FileState}
 use Rattle.nodes.specs.File.{inode_of, below_weight, weight_of}
 use Rattle.nodes.specs.Marks.{MarksNode}

@@ -7,11 +7,11 @@ use Rattle.geometry.specs.Shape.{block_bytes}
 use Rattle.rights_books.specs.declared.claim.Entry.{Entry}
 use Rattle.rights_books.specs.Rules.{bare_entry}
 use Rattle.tickets.specs.Placed.{Placed}
-use Rattle.tree.specs.declared.spare.Spare.{Spare}
-use Rattle.tree.specs.Change.{TreeNode, Weighing, WeighsAs, nothing, ticket_weight, of_tickets, of_tokens}
-use Rattle.tree.proofs.Balance.{balanced_tickets}
+use Rattle.nodes.specs.declared.spare.Spare.{Spare}
+use Rattle.nodes.specs.Change.{TreeNode, Weighing, WeighsAs, nothing, ticket_weight, of_tickets, of_tokens}
+use Rattle.nodes.proofs.Balance.{balanced_tickets}
 use Rattle.nodes.specs.declared.file.FileState.{FileState}
-use Rattle.nodes.specs.declared.spare.SparePath.{SparePath}
+use Rattle.nodes.specs.declared.spare_path.SparePath.{SparePath}
 use Rattle.nodes.specs.File.{IsBare, inode_of, below_weight}
 use Rattle.nodes.specs.Marks.{MarksNode, lengthened, shortened, unchanged}
 use Rattle.nodes.specs.Lacking.{spare_tokens}

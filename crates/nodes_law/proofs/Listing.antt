@@ -8,8 +8,8 @@ use Rattle.image_law.specs.Items.{Among}
 use Rattle.image_law.proofs.Weighing.{weigh-flat_map, weigh_among}
 use Rattle.rights_books.specs.declared.claim.Entry.{Entry}
 use Rattle.tickets.specs.Placed.{Placed}
-use Rattle.tree.specs.declared.branch.Branch.{Branch}
-use Rattle.tree.specs.Change.{TreeNode, ticket_weight, each_marked}
+use Rattle.nodes.specs.declared.branch.Branch.{Branch}
+use Rattle.nodes.specs.Change.{TreeNode, ticket_weight, each_marked}
 use Rattle.nodes.specs.declared.file.FileState.{FileState}
 use Rattle.nodes.specs.File.{weight_direct, weight_indirect, weight_double, below_weight, weight_of}
 use Rattle.nodes_law.specs.Nodes.{of_nodes, direct_nodes, indirect_nodes, double_nodes, nodes_below, nodes_of}

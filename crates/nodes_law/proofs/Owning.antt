@@ -8,8 +8,8 @@ use Rattle.image_law.specs.Items.{Among}
 use Rattle.geometry.specs.Shape.{block_bytes}
 use Rattle.rights_books.specs.declared.claim.Entry.{Entry}
 use Rattle.tickets.specs.Placed.{Placed}
-use Rattle.tree.specs.Change.{TreeNode, Weighing, of_tokens}
-use Rattle.tree.proofs.Balance.{balanced_tokens}
+use Rattle.nodes.specs.Change.{TreeNode, Weighing, of_tokens}
+use Rattle.nodes.proofs.Balance.{balanced_tokens}
 use Rattle.nodes.specs.declared.file.FileState.{FileState}
 use Rattle.nodes.specs.File.{below_weight, weight_of}
 use Rattle.nodes.specs.Marks.{MarksNode}

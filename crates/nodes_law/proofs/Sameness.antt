@@ -4,7 +4,7 @@ use Rattle.std.proofs.Common.{◌≡◌, ℕ, ◌==◌, ◌&&◌, Bool, true, fa
 use Rattle.std.proofs.lemmas.Bool.{and_parts, and_from}
 use Rattle.rights_books.specs.Sameness.{same_entry, kind_number}
 use Rattle.rights_books.proofs.Sameness.{entry_eq, entry_self, kind_eq}
-use Rattle.tree.specs.Change.{TreeNode}
+use Rattle.nodes.specs.Change.{TreeNode}
 
 abbrev pub same_numbers : List ℕ → List ℕ → Bool
 same_numbers [] [] = true

@@ -7,9 +7,9 @@ use Rattle.image.specs.Node.{Spells}
 use Rattle.image_law.specs.Items.{Among}
 use Rattle.rights_books.specs.declared.claim.Entry.{Entry}
 use Rattle.tickets.specs.Placed.{Placed}
-use Rattle.tree.specs.Change.{TreeNode, of_tickets, of_tokens}
+use Rattle.nodes.specs.Change.{TreeNode, of_tickets, of_tokens}
 use Rattle.nodes.specs.declared.file.FileState.{FileState}
-use Rattle.nodes.specs.declared.spare.SparePath.{SparePath}
+use Rattle.nodes.specs.declared.spare_path.SparePath.{SparePath}
 use Rattle.nodes.specs.Lacking.{spare_tokens}
 use Rattle.nodes.specs.File.{below_weight, weight_of}
 use Rattle.nodes_law.specs.Nodes.{nodes_of, node_in}

@@ -4,8 +4,8 @@ use Rattle.std.proofs.Common.{◌≡◌, ℕ, ◌+◌, ◌-◌, ◌*◌, ◌%◌
 use Rattle.std.proofs.lemmas.Bool.{cases_lt}
 use Rattle.geometry.specs.declared.owner.Owner.TheVariants.{Data}
 use Rattle.geometry.specs.Path.{inode_entries, node_entries, largest_length, path}
-use Rattle.tree.specs.Tree.{only_at_zero, find_in}
-use Rattle.tree_walks.proofs.Finding.{named_there}
+use Rattle.nodes.specs.Tree.{only_at_zero, find_in}
+use Rattle.nodes_walks.proofs.FindingBelow.{named_there}
 use Rattle.nodes.specs.declared.file.FileState.{FileState}
 use Rattle.nodes.specs.File.{IsFile, address_of, joined, in_tickets, in_direct, in_indirect, in_double, ticket_at}
 use Rattle.nodes.proofs.Joined.{at_first}

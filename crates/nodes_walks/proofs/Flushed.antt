@@ -7,8 +7,8 @@ use Rattle.rights_books.specs.Lists.{times, without}
 use Rattle.rights_books.specs.Sameness.{same_entry}
 use Rattle.rights_books.proofs.Sameness.{entry_self}
 use Rattle.rights_books.proofs.Steps.{without_entry}
-use Rattle.tree.specs.Change.{TreeNode, Weighing, of_tickets, of_tokens, each_marked}
-use Rattle.tree_walks.specs.Writing.{IsAmong, WritesOne}
+use Rattle.nodes.specs.Change.{TreeNode, Weighing, of_tickets, of_tokens, each_marked}
+use Rattle.nodes_walks.specs.Writing.{IsAmong, WritesOne}
 use Rattle.nodes.specs.declared.file.FileState.{FileState}
 use Rattle.nodes.specs.File.{weight_of}
 use Rattle.nodes.specs.Held.{Others, AreHeldBeside}

@@ -2,11 +2,11 @@
 use Rattle.std.proofs.Common.{◌≡◌, ℕ, Bool, false, Option, refl, ap, subst, sym, ◌∙◌}
 use Rattle.geometry.specs.Path.{node_entries}
 use Rattle.rights_books.specs.declared.claim.Entry.{Entry}
-use Rattle.tree.specs.declared.entries.Entries.{Entries}
+use Rattle.nodes.specs.declared.entries.Entries.{Entries}
 use Rattle.nodes.specs.declared.file.FileState.{FileState}
 use Rattle.nodes.specs.File.{IsFile}
 use Rattle.nodes.specs.Owners.{namer_at}
-use Rattle.tree.specs.declared.branch.Branch.{Branch}
+use Rattle.nodes.specs.declared.branch.Branch.{Branch}
 use Rattle.tickets.specs.Placed.{Placed}
 use Rattle.nodes.specs.Places.{OfDirect, OfIndirect, OfDouble}
 use Rattle.nodes.proofs.Walking.{StaysIn, Stays, stays}

@@ -1,3 +1,6 @@
+pub mod Results
+pub mod Walks
+pub mod FindingBelow
 pub mod Flushed
 pub mod Search
 pub mod Ranges

@@ -4,7 +4,7 @@ use Rattle.std.proofs.Common.{◌≡◌, ℕ, ◌+◌, ◌-◌, ◌*◌, ◌<◌
 use Rattle.std.proofs.lemmas.Bool.{cases_lt}
 use Rattle.geometry.specs.Path.{inode_entries, node_entries}
 use Rattle.tickets.specs.Placed.{Placed}
-use Rattle.tree.specs.Tree.{EmptyFrom, find_in}
+use Rattle.nodes.specs.Tree.{EmptyFrom, find_in}
 use Rattle.nodes.specs.declared.file.FileState.{FileState}
 use Rattle.nodes.specs.File.{joined, in_tickets, find_direct, find_indirect, find_double, ticket_at}
 use Rattle.nodes.proofs.Joined.{at_first, at_rest}

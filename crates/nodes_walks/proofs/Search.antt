@@ -3,7 +3,7 @@
 use Rattle.std.proofs.Common.{◌≡◌, ℕ, ◌+◌, ◌-◌, ◌*◌, ◌/◌, ◌%◌, ◌<◌, ◌≤◌, List, Option, Some, None, IsSome, is_some, refl, sym, ap, ◌∙◌, subst, inl, inr, arith}
 use Rattle.std.proofs.lemmas.Nat.{div-mul-add, mod-mul-add}
 use Rattle.std.proofs.lemmas.Bool.{cases_lt}
-use Rattle.tree.specs.Tree.{EmptyFrom, entry_at, find_in}
+use Rattle.nodes.specs.Tree.{EmptyFrom, entry_at, find_in}
 use Rattle.nodes_walks.specs.Data.{IsNextData}
 
 -- a map has something only where it is not past its width

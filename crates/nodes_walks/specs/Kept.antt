@@ -1,6 +1,6 @@
 -- What a file keeps while one of its nodes is written or moved.
 use Rattle.std.specs.Prelude.{◌≡◌, ℕ, Bool}
-use Rattle.tree.specs.Tree.{Same}
+use Rattle.nodes.specs.Tree.{Same}
 use Rattle.nodes.specs.declared.file.FileState.{FileState}
 use Rattle.nodes.specs.File.{IsFile, ticket_at}
 use Rattle.nodes.specs.Owners.{namer_at}

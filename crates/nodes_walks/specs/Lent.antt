@@ -1,6 +1,6 @@
 -- The next block of a map, lent: what a reader keeps of it (Linux lseek, SEEK_DATA, and a read).
 use Rattle.std.specs.Prelude.{◌≡◌, ℕ, List, Option, Some, None}
-use Rattle.tree.specs.Tree.{EmptyFrom}
+use Rattle.nodes.specs.Tree.{EmptyFrom}
 use Rattle.nodes_walks.specs.Data.{IsNextData}
 use Rattle.nodes_walks.specs.declared.data_walk.LentBlock.{LentBlock}
 

@@ -1,3 +1,5 @@
+pub mod Writing
+pub mod Moving
 pub mod Unmarked
 pub mod Data
 pub mod Lent

@@ -5,8 +5,8 @@ ghost use Rattle.nodes_walks.specs.Lent.{IsNextLent};
 
 use crate::entries::{lend_next_in, next_in};
 use device::{Block, DeviceError};
+use nodes::{Branch, Subtree};
 use tickets::Ticket;
-use tree::{Branch, Subtree};
 
 /// The bytes of a block as they were when they were lent, and where it stands: its index, and its address.
 #[derive(Drop)]

@@ -1,12 +1,12 @@
 //! The search below the entries of a node.
 ghost use Rattle.std.specs.Prelude.{◌≡◌, ◌*◌, ◌^◌, ◌<◌, length, MatchOption, IfOk, IfSome};
-ghost use Rattle.tree.specs.Tree.{ShapedIn, entry_at, find_in};
+ghost use Rattle.nodes.specs.Tree.{ShapedIn, entry_at, find_in};
 ghost use Rattle.nodes_walks.specs.Data.{IsNextData};
 ghost use Rattle.nodes_walks.specs.Lent.{IsNextLent};
 
 use crate::data_walk::{LentBlock, SeekData};
 use device::DeviceError;
-use tree::Entries;
+use nodes::Entries;
 
 // The search below one of the entries.
 fn next_at<C: SeekData>(

@@ -2,13 +2,13 @@
 ghost use Rattle.std.specs.Prelude.{◌≡◌, ◌<◌, true, false, Some, None, IfSome};
 ghost use Rattle.geometry.specs.declared.owner.Owner.TheVariants.{Data};
 ghost use Rattle.geometry.specs.Path.{largest_length, path};
-ghost use Rattle.tree.specs.Change.{names, each_naming};
+ghost use Rattle.nodes.specs.Change.{names, each_naming};
 ghost use Rattle.nodes.specs.File.{address_of, IsFile, ticket_at, inode_of, below_weight, weight_of};
 ghost use Rattle.nodes.specs.Owners.{owner_at};
 
+use crate::{index_in, is_named_at};
 use device::Block;
 use nodes::FileState;
-use tree_walks::{index_in, is_named_at};
 
 /// The index of the block whose address `from` the file's node of this number has at its entry `at`: that node names the
 /// index, by that entry. None: no node has it there, so that the block was moved or given back meanwhile.

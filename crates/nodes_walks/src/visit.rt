@@ -1,16 +1,16 @@
 //! The node of a number in a whole file.
 ghost use Rattle.std.specs.Prelude.{Bool, ℕ, ◌≡◌, true, false, OnOk, OnErr, IfOk, IfErr};
 ghost use Rattle.rights_books.specs.declared.claim.Entry.{Entry};
-ghost use Rattle.tree.specs.Change.{TreeNode};
-ghost use Rattle.tree_walks.specs.Writing.{IsAmong};
-ghost use Rattle.tree_walks.specs.Moving.{MovesOne, each_numbered};
+ghost use Rattle.nodes.specs.Change.{TreeNode};
+ghost use Rattle.nodes_walks.specs.Writing.{IsAmong};
+ghost use Rattle.nodes_walks.specs.Moving.{MovesOne, each_numbered};
 ghost use Rattle.nodes.specs.File.{IsFile, inode_of, below_weight, weight_of};
 ghost use Rattle.nodes_walks.specs.Kept.{KeepsFile};
 
+use crate::{NodeVisitor, visit_in};
 use device::Block;
 use geometry::{Class, Error};
 use nodes::FileState;
-use tree_walks::{NodeVisitor, visit_in};
 
 /// Lends the token of the file's node of this number to the visitor. Answers whether there is one. All else stays, the
 /// node's mark too, and after an error the token does as well; the file is as it was in each case.

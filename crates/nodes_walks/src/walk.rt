@@ -3,16 +3,16 @@ ghost use Rattle.std.specs.Prelude.{Bool, ℕ, ◌≡◌, ◌≤◌, ◌<◌, �
 ghost use Rattle.geometry.specs.Path.{node_entries};
 ghost use Rattle.rights_books.specs.declared.claim.Entry.{Entry};
 ghost use Rattle.tickets.specs.Placed.{Placed};
-ghost use Rattle.tree.specs.Change.{TreeNode, Weighing, each_marked};
-ghost use Rattle.tree_walks.specs.Writing.{IsAmong, WritesOne};
+ghost use Rattle.nodes.specs.Change.{TreeNode, Weighing, each_marked};
+ghost use Rattle.nodes_walks.specs.Writing.{IsAmong, WritesOne};
 ghost use Rattle.nodes.specs.File.{address_of, nid_of, IsFile, inode_of, below_weight, weight_of};
 ghost use Rattle.nodes_walks.specs.Kept.{KeepsFile};
 ghost use Rattle.nodes_walks.specs.Unmarked.{unmarked};
 
+use crate::{NodeBlock, NodeWriter, flush_entries, spell_entries};
 use device::Block;
 use geometry::{Class, Error};
 use nodes::FileState;
-use tree_walks::{NodeBlock, NodeWriter, flush_entries, spell_entries};
 
 // How many nodes an inode names.
 const CHILDREN: usize = 5;

@@ -21,6 +21,7 @@ use Rattle.packs.proofs.Keeping.{slots_torn_footer}
 use Rattle.packs_journal.specs.Places.{head_at, footer_at as foot_at, page_at, page_size}
 use Rattle.packs_journal.specs.Journal.{map_of, copy_in, is_head}
 use Rattle.packs_journal.specs.Reading.{head_in, rest_by, assembled as paged}
+use Rattle.packs_journal.specs.Staging.{body_page}
 use Rattle.packs_journal.proofs.Gathering.{gathered_same}
 use Rattle.packs_journal.proofs.Pieces.{part_long}
 use Rattle.packs_journal.proofs.Beside.{apart_same, assembled_same}
@@ -78,6 +79,10 @@ footer_known g slot other known c d le le' torn has = record {
       let same = apart_same (foot_at other) 4 (head_at slot) 3584 c d (heads_apart slot other le le') (subst (λ p. Torn (footer_by p (body_bytes g) other) 4 c d) is torn) in
       ap map_of same ∙ has.pages is (ap (is_head (body_bytes g)) (sym same) ∙ head);
   names = has.names;
+  noted = λ is k below out.
+      let written = subst (λ p. Torn (footer_by p (body_bytes g) other) 4 c d) is torn in
+      apart_same (foot_at other) 4 (page_at k (copy_in known.pages.map k)) (page_size (body_bytes g) k) c d (inr (omega (arith, le'))) written
+      ∙ has.noted is k below out ∙ ap (body_page (body_bytes g) k) (sym (body_stays (body_bytes g) slot other c d le le' written));
 }
 
 -- a pack begins with its version

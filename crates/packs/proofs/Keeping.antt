@@ -199,3 +199,8 @@ part_ends g b k c d le below torn = record {
   where
     behind : (len b p : ℕ) → 32 ≤ slot_at len b + p
     behind len b p = omega arith
+
+-- the same of a write that is told by its own place and length
+pub wrote_ends : (g : Geometry) (b k at n : ℕ) (c d : List ℕ) → b ≤ 1 → k < 66 → at ≡ slot_at (body_bytes g) b + place g k → n ≡ place g (suc k) - place g k → Torn at n c d → SameEnds g c d
+wrote_ends g b k at n c d le below there long torn =
+    part_ends g b k c d le below (subst (λ (a : ℕ). Torn a (place g (suc k) - place g k) c d) there (subst (λ (m : ℕ). Torn at m c d) long torn))

@@ -20,6 +20,7 @@ use Rattle.packs_journal.specs.Places.{page_count}
 use Rattle.packs_journal.specs.Journal.{map_of, names_pages, is_head}
 use Rattle.packs_journal.specs.Reading.{head_in, assembled as paged}
 use Rattle.packs_journal.specs.Staging.{IsMapOf, IsBeside, IsBesideOne}
+use Rattle.packs_journal.specs.Pages.{DiffersIn}
 
 same_front : (c d : List ℕ) → take 4096 d ≡ take 4096 c → take 32 d ≡ take 32 c
 same_front c d same = sym (take-take 32 4096 d (omega arith)) ∙ ap (take 32) same ∙ take-take 32 4096 c (omega arith)
@@ -49,27 +50,33 @@ module _ {D : Type 0} (seen : D → List ℕ) (may_leave : D → List ℕ → Ty
   }
 
   -- the map that the packs know is that of the pack that counts
-  pub known_map : Leaves may_leave packs.meta (IsMapOf (body_bytes packs.geometry) (slot_of packs.version) packs.known.pages)
+  pub known_map : Leaves may_leave packs.meta (IsMapOf (body_bytes packs.geometry) (slot_of packs.version) packs.known.pages.map)
   known_map c left = (settled.known c left).pages pages
 
-  pub known_names : names_pages (page_count (body_bytes packs.geometry)) packs.known.pages 4352 ≡ true
+  pub known_names : names_pages (page_count (body_bytes packs.geometry)) packs.known.pages.map 4352 ≡ true
   known_names = (settled.known (seen packs.meta) (seen_is_left packs.meta)).names pages
+
+  -- and so are the pages in which the body that counts may differ
+  pub known_noted : DiffersIn packs.known.pages.noted (body_bytes packs.geometry) packs.known.pages.map (paged (body_bytes packs.geometry) (slot_of packs.version) (seen packs.meta)) (seen packs.meta)
+  known_noted = (settled.known (seen packs.meta) (seen_is_left packs.meta)).noted pages
 
   pub paged_moments : (after : D) → LeavesOnly moment left_since packs.meta after (IsBesideOne may_leave (body_bytes packs.geometry) (slot_of packs.version) packs.meta) → LeavesOnly moment left_since packs.meta after S
   paged_moments after run = weaker moment left_since packs.meta after (IsBesideOne may_leave (body_bytes packs.geometry) (slot_of packs.version) packs.meta) S (λ d is. kept_beside is.0 d (settled.left is.0 is.1) is.2) run
 
-  pub paged_staged : (after : D) (body map : List ℕ) → IsBeside (body_bytes packs.geometry) (slot_of packs.version) (seen packs.meta) (seen after) → Only (seen after) (may_leave after)
-      → paged (body_bytes packs.geometry) (1 - slot_of packs.version) (seen after) ≡ body → map_of (head_in (1 - slot_of packs.version) (seen after)) ≡ map → names_pages (page_count (body_bytes packs.geometry)) map 4352 ≡ true
-      → (next : Known) → next.pages ≡ map → AreStaged (pages_reading packs.geometry) seen may_leave (record packs { meta = after }) old body next
-  paged_staged after body map beside only is mapped named next has =
+  pub paged_staged : (after : D) (body : List ℕ) (next : Known) → IsBeside (body_bytes packs.geometry) (slot_of packs.version) (seen packs.meta) (seen after) → Only (seen after) (may_leave after)
+      → paged (body_bytes packs.geometry) (1 - slot_of packs.version) (seen after) ≡ body → map_of (head_in (1 - slot_of packs.version) (seen after)) ≡ next.pages.map → names_pages (page_count (body_bytes packs.geometry)) next.pages.map 4352 ≡ true
+      → DiffersIn next.pages.noted (body_bytes packs.geometry) next.pages.map body (seen after) → AreStaged (pages_reading packs.geometry) seen may_leave (record packs { meta = after }) old body next
+  paged_staged after body next beside only is mapped named noted =
       let here = kept_beside (seen packs.meta) (seen after) (settled.left (seen packs.meta) (seen_is_left packs.meta)) beside in
       let other : 1 - slot_of (version_of old) ≡ 1 - slot_of packs.version = ap (λ (k : ℕ). 1 - k) (sym at) in
       let staged : IsStaged (pages_reading packs.geometry) old body (seen after) = record { settled = here.packs; body = ap (λ (k : ℕ). paged (body_bytes packs.geometry) k (seen after)) other ∙ is } in
+      let len = body_bytes packs.geometry in
+      let next_in = 1 - slot_of packs.version in
+      let differs : DiffersIn next.pages.noted len next.pages.map (paged len next_in (seen after)) (seen after) = subst (λ (b : List ℕ). DiffersIn next.pages.noted len next.pages.map b (seen after)) (sym is) noted in
       record {
         area = beside.long ∙ settled.area;
         version = settled.version;
         left = λ d left. kept_alone (IsStaged (pages_reading packs.geometry) old body) (seen after) d (only d left) (subst (IsStaged (pages_reading packs.geometry) old body) (sym (only d left)) staged);
-        known = λ d left. known_pages packs.geometry (1 - slot_of packs.version) next d pages
-            (λ _. ap (λ (l : List ℕ). map_of (head_in (1 - slot_of packs.version) l)) (only d left) ∙ mapped ∙ sym has)
-            (ap (λ (m : List ℕ). names_pages (page_count (body_bytes packs.geometry)) m 4352) has ∙ named);
+        known = λ d left. known_pages packs.geometry next_in next d pages (λ _. ap (λ (l : List ℕ). map_of (head_in next_in l)) (only d left) ∙ mapped) named
+            (subst (λ (l : List ℕ). DiffersIn next.pages.noted len next.pages.map (paged len next_in l) l) (sym (only d left)) differs);
       }

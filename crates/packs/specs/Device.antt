@@ -14,7 +14,8 @@ use Rattle.geometry.specs.Area.{meta_bytes}
 use Rattle.geometry.specs.declared.packing.Packing.TheVariants.{Slots, Pages}
 use Rattle.packs_journal.specs.Places.{page_count}
 use Rattle.packs_journal.specs.Journal.{map_of, names_pages, is_head}
-use Rattle.packs_journal.specs.Reading.{head_in}
+use Rattle.packs_journal.specs.Reading.{head_in, assembled}
+use Rattle.packs_journal.specs.Pages.{DiffersIn}
 use Rattle.packs.specs.declared.packs.Packs.{Packs}
 
 -- the bytes are those of an area for packs of this geometry
@@ -39,11 +40,12 @@ pub record KeepsArea (area : List ℕ) (P : List ℕ → Type 0) (c : List ℕ) 
   pub same : IsSameArea area c
 
 -- What is known of where the parts or the pages of a slot's pack lie: in slots its map, and in pages the copies that count, if its head
--- is one.
+-- is one, and a set of pages that has each in which its body differs from them.
 pub record IsKnown (geometry : Geometry) (slot : ℕ) (known : Known) (area : List ℕ) : Type 0 where
   pub map : geometry.packing ≡ Slots → map_in geometry slot area ≡ known.map
-  pub pages : geometry.packing ≡ Pages → is_head (body_bytes geometry) (head_in slot area) ≡ true → map_of (head_in slot area) ≡ known.pages
-  pub names : geometry.packing ≡ Pages → names_pages (page_count (body_bytes geometry)) known.pages 4352 ≡ true
+  pub pages : geometry.packing ≡ Pages → is_head (body_bytes geometry) (head_in slot area) ≡ true → map_of (head_in slot area) ≡ known.pages.map
+  pub names : geometry.packing ≡ Pages → names_pages (page_count (body_bytes geometry)) known.pages.map 4352 ≡ true
+  pub noted : geometry.packing ≡ Pages → DiffersIn known.pages.noted (body_bytes geometry) known.pages.map (assembled (body_bytes geometry) slot area) area
 
 -- in slots, old stands whole in an area like start, and this map in a slot
 pub record KeepsMapped (geometry : Geometry) (slot : ℕ) (map : Option Map) (start old c : List ℕ) : Type 0 where

@@ -1,9 +1,11 @@
 -- The parts of a pack on their way into the other slot.
 use Rattle.std.specs.Prelude.{◌≡◌, ◌≢◌, ◌⊎◌, ℕ, suc, ◌+◌, ◌-◌, ◌<◌, Bool, true, List, length, Some}
-use Rattle.device.specs.Disk.{part}
+use Rattle.device.specs.Disk.{part, Leaves, LeavesOnly}
 use Rattle.geometry.specs.declared.geometry.Geometry.{Geometry}
+use Rattle.image.specs.Slots.{slot_of, version_of}
 use Rattle.packs.specs.Area.{slots_reading}
-use Rattle.packs.specs.Device.{IsSameArea}
+use Rattle.packs.specs.Device.{IsSameArea, KeepsMapped}
+use Rattle.packs.specs.declared.packs.Packs.{Packs}
 use Rattle.packs.specs.Parts.{place, side, piece, are_parts, spelled_map, map_bytes}
 
 -- part k of a body
@@ -21,6 +23,13 @@ pub record IsPlan (geometry : Geometry) (slot : ℕ) (old sides : List Bool) (bo
 pub record SameEnds (geometry : Geometry) (old new : List ℕ) : Type 0 where
   pub area : IsSameArea old new
   pub footer : (slot : ℕ) → slot < 2 → (slots_reading geometry).footer slot new ≡ (slots_reading geometry).footer slot old
+
+-- at every moment of a call the picked pack stays, and the map that the packs know
+abbrev pub KeepsPicked : {D : Type 0} (moment : D → ℕ) (left_since : D → ℕ → List ℕ → Type 0) (may_leave : D → List ℕ → Type 0) → Packs D → D → Type 0
+KeepsPicked moment left_since may_leave packs meta = (start old : List ℕ) →
+    let settled = KeepsMapped packs.geometry (slot_of packs.version) packs.known.map start old in
+    Leaves may_leave packs.meta settled → slot_of packs.version ≡ slot_of (version_of old)
+    → LeavesOnly moment left_since packs.meta meta settled
 
 -- the map, the first n parts and each part that stays are there for the pack in the other slot
 pub record IsPut (geometry : Geometry) (slot : ℕ) (old sides : List Bool) (body : List ℕ) (n : ℕ) (start area : List ℕ) : Type 0 where

@@ -1,5 +1,5 @@
 //! The first pack of an area.
-ghost use Rattle.std.specs.Prelude.{ℕ, replicate, ◌≡◌, ◌≤◌, ◌<◌, ◌+◌, [], ◌∷◌, None, length, IfOk, IfErr, OnOk};
+ghost use Rattle.std.specs.Prelude.{ℕ, ◌≡◌, ◌≤◌, ◌<◌, ◌+◌, [], ◌∷◌, None, length, IfOk, IfErr, OnOk};
 ghost use Rattle.geometry.specs.Area.{meta_bytes};
 ghost use Rattle.device.specs.Disk.{Only, HasCause};
 ghost use Rattle.image.specs.Slots.{version_of};
@@ -9,10 +9,10 @@ ghost use Rattle.packs.specs.Parts.{body_bytes as bytes_of_body};
 ghost use Rattle.packs.specs.Device.{IsArea, IsSameArea, IsKnown, AreSettled, body_of};
 
 use crate::area::footer_at;
-use crate::map::Map;
 use crate::{Known, Packs, Stored};
 use device::{DeviceError, Meta};
 use geometry::{Geometry, Packing};
+use packs_journal::{KnownPages, PageSet};
 
 impl<M: Meta> Packs<M> {
     /// Writes version 1 into an area with any bytes in its slots. Answers DeviceError where the device failed, and hands
@@ -53,7 +53,7 @@ impl<M: Meta> Packs<M> {
     // Slot 0 has no sound pack once its footer is 0, and version 1 lies in slot 1.
     fn write_first(&mut self, body: &[u8]) -> Result<(), DeviceError>
         requires area { IsArea self.old.geometry (M.seen self.old.meta) }
-        requires fresh { (self.old.version ≡ 0) × (self.old.known.map ≡ None) × (self.old.known.pages ≡ replicate 544 0) }
+        requires fresh { (self.old.version ≡ 0) × (self.old.known.map ≡ None) }
         requires len { length body.now ≡ bytes_of_body self.old.geometry }
         requires first { version_of body.now ≡ 1 }
         ensures settled { OnOk result (AreSettled (reading_of self.new.geometry) M.seen M.may_leave self.new body.now) }
@@ -75,7 +75,7 @@ impl<M: Meta> Packs<M> {
     // Settles the first body, all but its footer.
     fn stage_first(&mut self, body: &[u8]) -> Result<Known, DeviceError>
         requires area { IsArea self.old.geometry (M.seen self.old.meta) }
-        requires fresh { (self.old.version ≡ 0) × (self.old.known.map ≡ None) × (self.old.known.pages ≡ replicate 544 0) }
+        requires fresh { (self.old.version ≡ 0) × (self.old.known.map ≡ None) }
         requires len { length body.now ≡ bytes_of_body self.old.geometry }
         ensures staged { OnOk result ((reading_of self.new.geometry).body 1 (M.seen self.new.meta) ≡ body.now) }
         ensures known { IfOk result (λ known. IsKnown self.new.geometry 1 known (M.seen self.new.meta)) }
@@ -105,16 +105,8 @@ impl<M: Meta> Packs<M> {
         ensures rest { self.new ≡ record self.old { meta = self.new.meta } }
         ensures cause { HasCause (M.failed self.old.meta) (M.failed self.new.meta) result }
     {
-        let sides = self.plan(body)?;
-        self.put(body, &sides)?;
-        self.meta.sync()?;
-        Ok(Known {
-            map: Some(Map {
-                in_parts: true,
-                sides,
-            }),
-            pages: self.known.pages,
-        })
+        let known = self.put_parts(body)?;
+        Ok(known)
     }
 
     // The same, of packs in pages.
@@ -133,8 +125,8 @@ impl<M: Meta> Packs<M> {
         // A head of zeros names the first copies.
         self.meta.write(packs_journal::head_at(0), &[0; 3584])?;
         self.meta.sync()?;
-        let mut pages = [0; 544];
-        packs_journal::stage(&mut self.meta, 0, &mut pages, body)?;
+        let mut pages = KnownPages::nothing();
+        packs_journal::stage(&mut self.meta, 0, &mut pages, &PageSet::all(), body)?;
         Ok(Known { map: None, pages })
     }
 }

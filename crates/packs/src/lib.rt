@@ -24,5 +24,6 @@ pub use choice::{Ends, pick};
 pub use law::crash_law;
 pub use map::Map;
 pub use packs::{Known, Packs};
+pub use packs_journal::PageSet;
 pub use reading::assemble;
 pub use stored::Stored;

@@ -142,8 +142,9 @@ fn find_known<M: Meta>(meta: &mut M, geometry: &Geometry, slot: u32) -> Result<K
     match geometry.packing {
         Packing::Slots => known.map = find_map(meta, geometry, slot)?,
         Packing::Pages => {
-            if let Some(pages) = packs_journal::find_map(meta, body_bytes(geometry), slot)? {
-                known.pages = pages;
+            // Any page may have a word in the journal.
+            if let Some(map) = packs_journal::find_map(meta, body_bytes(geometry), slot)? {
+                known.pages.map = map;
             }
         }
     }

@@ -1,5 +1,5 @@
 //! A pack is written where the picked one does not lie: all but its footer is settled before its footer is touched.
-ghost use Rattle.std.specs.Prelude.{◌≡◌, ◌+◌, [], ◌∷◌, None, replicate, length, OnOk, IfOk};
+ghost use Rattle.std.specs.Prelude.{◌≡◌, ◌<◌, ◌+◌, ℕ, [], ◌∷◌, None, true, replicate, length, OnOk, IfOk};
 ghost use Rattle.device.specs.Disk.{LeavesOnly, IsQuiet, HasCause};
 ghost use Rattle.image.specs.Slots.{version_of};
 ghost use Rattle.packs.specs.Pack.{IsSettled, Between};
@@ -7,6 +7,7 @@ ghost use Rattle.geometry.specs.declared.packing.Packing.TheVariants.{Slots, Pag
 ghost use Rattle.packs.specs.Area.{reading_of, slots_reading, pages_reading};
 ghost use Rattle.packs.specs.Parts.{body_bytes as bytes_of_body, format_of, newest_format};
 ghost use Rattle.packs.specs.Device.{IsSameArea, KeepsArea, AreSettled, AreStaged, body_of, staged_in};
+ghost use Rattle.packs_journal.specs.Pages.{has_page, ChangesIn};
 
 use crate::Stored;
 use crate::area::footer_at;
@@ -14,6 +15,7 @@ use crate::map::Map;
 use byteorder::{ByteOrder, LittleEndian};
 use device::{DeviceError, Meta};
 use geometry::{Geometry, Packing};
+use packs_journal::{KnownPages, PageSet};
 
 /// The two packs of a meta area, of which one counts.
 #[derive(Drop)]
@@ -32,19 +34,20 @@ pub struct Packs<M> {
 pub struct Known {
     /// The map of a pack in slots, if it is one.
     pub map: Option<Map>,
-    /// Which copy of each page counts, of a pack in pages.
-    pub pages: packs_journal::Map,
+    /// What is known of the pages of a pack in pages: which copy of each counts, and in which the body may differ from it.
+    pub pages: KnownPages,
 }
 
 impl Known {
     /// Nothing.
     pub(crate) fn nothing() -> Known
         ensures map { result.map ≡ None }
-        ensures pages { result.pages ≡ replicate 544 0 }
+        ensures pages { result.pages.map ≡ replicate 544 0 }
+        ensures noted { (k : ℕ) → k < 4352 → has_page result.pages.noted k ≡ true }
     {
         Known {
             map: None,
-            pages: [0; 544],
+            pages: KnownPages::nothing(),
         }
     }
 }
@@ -68,11 +71,16 @@ impl<M: Meta> Packs<M> {
     /// journal has no room each page that differs. After an Ok it is the one that counts whatever crash
     /// comes. Answers DeviceError where the device failed; then it is not known which of the two counts, and the area has
     /// to be opened again.
-    pub fn write(&mut self, body: &[u8]) -> Result<Stored<M>, DeviceError>
+    ///
+    /// Of packs in pages the body has to be that of the pack that counts in each page that is not touched; of the pages that are
+    /// neither touched nor in the journal of that pack nothing is read. Of packs in slots `touched` is not looked at.
+    pub fn write(&mut self, body: &[u8], touched: &PageSet) -> Result<Stored<M>, DeviceError>
         requires settled { let reading = reading_of self.old.geometry in
             AreSettled reading M.seen M.may_leave self.old (body_of reading M.seen self.old) }
         requires len { length body.now ≡ bytes_of_body self.old.geometry }
         requires next { version_of body.now ≡ self.old.version + 1 }
+        requires changes { self.old.geometry.packing ≡ Pages
+            → ChangesIn touched.now (bytes_of_body self.old.geometry) (body_of (reading_of self.old.geometry) M.seen self.old) body.now }
 
         ensures settled { OnOk result (AreSettled (reading_of self.new.geometry) M.seen M.may_leave self.new body.now) }
 
@@ -90,16 +98,18 @@ impl<M: Meta> Packs<M> {
         ensures cause { HasCause (M.failed self.old.meta) (M.failed self.new.meta) result }
     {
         let version = LittleEndian::read_u32(body);
-        let known = self.stage(body)?;
+        let known = self.stage(body, touched)?;
         self.commit(version, known)?;
         Ok(Stored::of(self))
     }
 
     // Settles a body as the other pack, and tells what is known of it. Both footers stay, and so does the picked pack.
-    fn stage(&mut self, body: &[u8]) -> Result<Known, DeviceError>
+    fn stage(&mut self, body: &[u8], touched: &PageSet) -> Result<Known, DeviceError>
         requires settled { let reading = reading_of self.old.geometry in
             AreSettled reading M.seen M.may_leave self.old (body_of reading M.seen self.old) }
         requires len { length body.now ≡ bytes_of_body self.old.geometry }
+        requires changes { self.old.geometry.packing ≡ Pages
+            → ChangesIn touched.now (bytes_of_body self.old.geometry) (body_of (reading_of self.old.geometry) M.seen self.old) body.now }
         ensures staged { IfOk result (λ known. AreStaged (reading_of self.new.geometry) M.seen M.may_leave self.new
             (body_of (reading_of self.old.geometry) M.seen self.old) body.now known) }
         ensures format { IfOk result (λ known. format_of self.old.geometry.packing known.map ≡ newest_format self.old.geometry.packing) }
@@ -112,7 +122,7 @@ impl<M: Meta> Packs<M> {
     {
         match self.geometry.packing {
             Packing::Slots => self.stage_parts(body),
-            Packing::Pages => self.stage_pages(body),
+            Packing::Pages => self.stage_pages(body, touched),
         }
     }
 
@@ -132,24 +142,21 @@ impl<M: Meta> Packs<M> {
         ensures rest { self.new ≡ record self.old { meta = self.new.meta } }
         ensures cause { HasCause (M.failed self.old.meta) (M.failed self.new.meta) result }
     {
-        let sides = self.plan(body)?;
-        self.put(body, &sides)?;
-        self.meta.sync()?;
-        Ok(Known {
-            map: Some(Map {
-                in_parts: true,
-                sides,
-            }),
-            pages: self.known.pages,
-        })
+        let known = self.put_parts(body)?;
+        Ok(known)
     }
 
     // The same, of packs in pages.
-    pub(crate) fn stage_pages(&mut self, body: &[u8]) -> Result<Known, DeviceError>
+    pub(crate) fn stage_pages(
+        &mut self,
+        body: &[u8],
+        touched: &PageSet,
+    ) -> Result<Known, DeviceError>
         requires pages { self.old.geometry.packing ≡ Pages }
         requires settled { let reading = pages_reading self.old.geometry in
             AreSettled reading M.seen M.may_leave self.old (body_of reading M.seen self.old) }
         requires len { length body.now ≡ bytes_of_body self.old.geometry }
+        requires changes { ChangesIn touched.now (bytes_of_body self.old.geometry) (body_of (pages_reading self.old.geometry) M.seen self.old) body.now }
         ensures staged { IfOk result (λ known. AreStaged (pages_reading self.new.geometry) M.seen M.may_leave self.new
             (body_of (pages_reading self.old.geometry) M.seen self.old) body.now known) }
         ensures any_moment { LeavesOnly M.moment M.left_since self.old.meta self.new.meta
@@ -160,7 +167,7 @@ impl<M: Meta> Packs<M> {
         ensures cause { HasCause (M.failed self.old.meta) (M.failed self.new.meta) result }
     {
         let mut pages = self.known.pages;
-        packs_journal::stage(&mut self.meta, self.version % 2, &mut pages, body)?;
+        packs_journal::stage(&mut self.meta, self.version % 2, &mut pages, touched, body)?;
         Ok(Known { map: None, pages })
     }
 

@@ -1,21 +1,48 @@
 //! All of a pack but its footer is put where the picked pack does not lie.
 ghost use Rattle.std.specs.Prelude.{◌≡◌, ◌≢◌, ◌⊎◌, ◌≤◌, ◌<◌, ◌+◌, ◌-◌, ◌^◌, suc, List, ℕ, true, false, length, OnOk, IfOk};
-ghost use Rattle.device.specs.Disk.{part, Leaves, LeavesOnly, IsQuiet, HasCause};
-ghost use Rattle.image.specs.Slots.{slot_of, version_of};
-ghost use Rattle.packs.specs.Parts.{body_bytes as bytes_of_body, known_sides, side as side_of_part, piece, place as place_of_part};
-ghost use Rattle.packs.specs.Device.{IsSlots, KeepsMapped};
-ghost use Rattle.packs.specs.Staging.{IsPlan, IsPut, SameEnds, body_piece};
+ghost use Rattle.device.specs.Disk.{part, Only, IsQuiet, HasCause};
+ghost use Rattle.image.specs.Slots.{slot_of};
+ghost use Rattle.geometry.specs.declared.packing.Packing.TheVariants.{Slots};
+ghost use Rattle.packs.specs.Parts.{body_bytes as bytes_of_body, known_sides, side as side_of_part, piece, place as place_of_part, map_in, assembled, format_of};
+ghost use Rattle.packs.specs.Device.{IsSlots};
+ghost use Rattle.packs.specs.Staging.{IsPlan, IsPut, KeepsPicked, SameEnds, body_piece};
 
-use crate::Packs;
 use crate::area::map_at;
-use crate::map::spell_map;
+use crate::map::{Map, spell_map};
 use crate::parts::{PARTS, part_at, part_of, side};
+use crate::{Known, Packs};
 use device::{DeviceError, Meta};
 
 // So many bytes are compared at once.
 const CHUNK: usize = 4096;
 
 impl<M: Meta> Packs<M> {
+    // Settles the next pack of slots, all but its footer, and tells what is then known of it. Both footers and the picked pack
+    // stay at every moment.
+    pub(crate) fn put_parts(&mut self, body: &[u8]) -> Result<Known, DeviceError>
+        requires area { IsSlots (bytes_of_body self.old.geometry) (M.seen self.old.meta) }
+        requires len { length body.now ≡ bytes_of_body self.old.geometry }
+        ensures body { OnOk result (assembled self.old.geometry (1 - slot_of self.old.version) (M.seen self.new.meta) ≡ body.now) }
+        ensures map { IfOk result (λ known. map_in self.old.geometry (1 - slot_of self.old.version) (M.seen self.new.meta) ≡ known.map) }
+        ensures format { IfOk result (λ known. format_of Slots known.map ≡ 2) }
+        ensures ends { SameEnds self.old.geometry (M.seen self.old.meta) (M.seen self.new.meta) }
+        ensures durable { OnOk result (Only (M.seen self.new.meta) (M.may_leave self.new.meta)) }
+        ensures any_moment { KeepsPicked M.moment M.left_since M.may_leave self.old self.new.meta }
+        ensures rest { self.new ≡ record self.old { meta = self.new.meta } }
+        ensures cause { HasCause (M.failed self.old.meta) (M.failed self.new.meta) result }
+    {
+        let sides = self.plan(body)?;
+        self.put(body, &sides)?;
+        self.meta.sync()?;
+        Ok(Known {
+            map: Some(Map {
+                in_parts: true,
+                sides,
+            }),
+            pages: self.known.pages,
+        })
+    }
+
     // Whether a part of the picked pack is known to lie in the other slot.
     fn known_side(&self, k: u32) -> bool
         requires { k < 66 }
@@ -30,7 +57,7 @@ impl<M: Meta> Packs<M> {
 
     // Where the parts of the next pack are to lie: a part that equals the picked pack's stays where that lies. The area stays
     // as it is.
-    pub(crate) fn plan(&mut self, body: &[u8]) -> Result<[bool; 64], DeviceError>
+    fn plan(&mut self, body: &[u8]) -> Result<[bool; 64], DeviceError>
         requires area { IsSlots (bytes_of_body self.old.geometry) (M.seen self.old.meta) }
         requires len { length body.now ≡ bytes_of_body self.old.geometry }
         ensures plan { IfOk result (λ sides. IsPlan self.old.geometry (slot_of self.old.version) (known_sides self.old.known.map) sides
@@ -73,7 +100,7 @@ impl<M: Meta> Packs<M> {
 
     // Puts the map of the next pack, its header and logs, each part that changes its bytes, and its summaries. Nothing of it is
     // settled yet. Both footers and the picked pack stay at every moment.
-    pub(crate) fn put(&mut self, body: &[u8], sides: &[bool; 64]) -> Result<(), DeviceError>
+    fn put(&mut self, body: &[u8], sides: &[bool; 64]) -> Result<(), DeviceError>
         requires area { IsSlots (bytes_of_body self.old.geometry) (M.seen self.old.meta) }
         requires len { length body.now ≡ bytes_of_body self.old.geometry }
         requires plan { IsPlan self.old.geometry (slot_of self.old.version) (known_sides self.old.known.map) sides.now
@@ -81,10 +108,7 @@ impl<M: Meta> Packs<M> {
         ensures put { OnOk result (IsPut self.old.geometry (slot_of self.old.version) (known_sides self.old.known.map) sides.now
             body.now 66 (M.seen self.old.meta) (M.seen self.new.meta)) }
         ensures ends { SameEnds self.old.geometry (M.seen self.old.meta) (M.seen self.new.meta) }
-        ensures any_moment { (start old : List ℕ) →
-            let settled = KeepsMapped self.old.geometry (slot_of self.old.version) self.old.known.map start old in
-            Leaves M.may_leave self.old.meta settled → slot_of self.old.version ≡ slot_of (version_of old)
-            → LeavesOnly M.moment M.left_since self.old.meta self.new.meta settled }
+        ensures any_moment { KeepsPicked M.moment M.left_since M.may_leave self.old self.new.meta }
         ensures rest { self.new ≡ record self.old { meta = self.new.meta } }
         ensures cause { HasCause (M.failed self.old.meta) (M.failed self.new.meta) result }
     {
@@ -105,10 +129,7 @@ impl<M: Meta> Packs<M> {
             body.now k start (M.seen self.old.meta) → IsPut self.old.geometry (slot_of self.old.version) (known_sides self.old.known.map) sides.now
             body.now (suc k) start (M.seen self.new.meta)) }
         ensures ends { SameEnds self.old.geometry (M.seen self.old.meta) (M.seen self.new.meta) }
-        ensures any_moment { (start old : List ℕ) →
-            let settled = KeepsMapped self.old.geometry (slot_of self.old.version) self.old.known.map start old in
-            Leaves M.may_leave self.old.meta settled → slot_of self.old.version ≡ slot_of (version_of old)
-            → LeavesOnly M.moment M.left_since self.old.meta self.new.meta settled }
+        ensures any_moment { KeepsPicked M.moment M.left_since M.may_leave self.old self.new.meta }
         ensures rest { self.new ≡ record self.old { meta = self.new.meta } }
         ensures cause { HasCause (M.failed self.old.meta) (M.failed self.new.meta) result }
     {

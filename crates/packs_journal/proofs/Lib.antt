@@ -2,6 +2,7 @@ pub mod Pieces
 pub mod Rising
 pub mod Patching
 pub mod Maps
+pub mod Sets
 pub mod Heads
 pub mod Gathering
 pub mod Beside

@@ -54,7 +54,7 @@ module _ (pages : ℕ) (map : List ℕ) where
       is_zero n behind is = eqb-true (copy_in map n) 0 (ap (λ b. b || (copy_in map n == 0)) (sym (le-ltb n pages behind)) ∙ is)
 
 -- a map of zeros names the first copies
-zero_copy : (k : ℕ) → copy_in (replicate 544 0) k ≡ 0
+pub zero_copy : (k : ℕ) → copy_in (replicate 544 0) k ≡ 0
 zero_copy k = ⊎_elim
     (λ (less : k / 8 < 544). ap (λ (x : ℕ). bit_at x (k % 8)) (get_or-replicate 544 (k / 8) 0 0 less) ∙ bit_at-zero (k % 8))
     (λ past. ap (λ (x : ℕ). bit_at x (k % 8)) (get_or_past (replicate 544 0) (k / 8) 0 (omega (arith, past))) ∙ bit_at-zero (k % 8))

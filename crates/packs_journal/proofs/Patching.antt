@@ -3,10 +3,10 @@
 use Rattle.std.proofs.Common.{◌≡◌, sym, ◌∙◌, ap, inl, inr, ◌⊎◌, ⊎_elim, ℕ, suc, ◌+◌, ◌-◌, ◌*◌, ◌<◌, ◌≤◌, List, ◌++◌, length, take, drop, arith, length-drop}
 use Rattle.std.proofs.lemmas.Bool.{cases_lt}
 use Rattle.device.specs.Disk.{part}
-use Rattle.packs_journal.specs.Places.{IsArea, page_count, page_size}
+use Rattle.packs_journal.specs.Places.{IsArea, page_count, page_start, page_size}
 use Rattle.packs_journal.specs.Reading.{page_in, gathered}
 use Rattle.packs_journal.specs.Staging.{body_page}
-use Rattle.packs_journal.proofs.Gathering.{start_of, start_end, in_rest, gathered_long, gathered_page}
+use Rattle.packs_journal.proofs.Gathering.{start_of, start_end, start_next, in_rest, gathered_long, gathered_page}
 use Rattle.packs_journal.specs.Journal.{place_of, word_of, with_word, patched, IsPatchedTo, ArePages}
 use Rattle.packs_journal.proofs.Pieces.{part_part, part_long, grown, word_put}
 use Rattle.packs_journal.proofs.Rising.{patched_more}
@@ -64,3 +64,13 @@ whole_pages len k map body area old new is full below was now size =
       within = omega (arith, size, rest, start, below);
       last = λ less. omega (arith, size, rest, start, below, less);
     }
+
+-- a page that is the body's needs no change
+pub page_kept : (len k : ℕ) (map body area changes : List ℕ) (count : ℕ) → IsArea len area → k < page_count len → page_in len map k area ≡ body_page len k body
+    → IsPatchedTo changes count (gathered len map (page_count len) area) (drop 56 body) (page_start len k)
+    → IsPatchedTo changes count (gathered len map (page_count len) area) (drop 56 body) (page_start len (suc k))
+page_kept len k map body area changes count is below same first =
+    let whole = gathered len map (page_count len) area in
+    first
+    ∙ grown (page_start len k) (page_size len k) whole (drop 56 body) (gathered_page len map (page_count len) k area is (omega arith) below ∙ same ∙ in_rest len k body)
+    ∙ ap (λ (i : ℕ). take i (drop 56 body) ++ drop i whole) (start_next len k)

@@ -3,6 +3,7 @@ ghost use Rattle.std.specs.Prelude.{◌≡◌, ◌≤◌, ◌<◌, ◌+◌, ◌*
 ghost use Rattle.packs_journal.specs.Journal.{place_of as place_in, word_of, rises as rises_in, patched, with_word};
 
 use crate::bytes::{put_bytes, put_number};
+use crate::page_set::PageSet;
 use byteorder::{ByteOrder, LittleEndian};
 
 /// The most changes that a head has.
@@ -16,6 +17,8 @@ pub(crate) const CHANGES: usize = 2976;
 pub(crate) struct Changes {
     pub bytes: [u8; CHANGES],
     pub count: u32,
+    /// The pages of the words that have changed.
+    pub pages: PageSet,
 }
 
 impl Changes {
@@ -25,6 +28,7 @@ impl Changes {
         Changes {
             bytes: [0; CHANGES],
             count: 0,
+            pages: PageSet::new(),
         }
     }
 
@@ -33,6 +37,7 @@ impl Changes {
         ensures { self.new.count ≡ 0 }
     {
         self.count = 0;
+        self.pages = PageSet::new();
     }
 
     /// All bytes of the changes, and those that are not used.
@@ -53,6 +58,7 @@ impl Changes {
         ensures place { result ≡ true → place_in self.new.bytes self.old.count ≡ place }
         ensures word { result ≡ true → take (length word.now) (word_of self.new.bytes self.old.count) ≡ word.now }
         ensures long { length self.new.bytes ≡ 2976 }
+        ensures pages { self.new.pages ≡ self.old.pages }
         ensures others { take (12 * self.old.count) self.new.bytes ≡ take (12 * self.old.count) self.old.bytes }
     {
         if self.count == MOST {

@@ -12,14 +12,18 @@ mod bytes;
 mod changes;
 mod difference;
 mod head;
+mod known;
 mod map;
+mod page_set;
 mod pages;
 mod places;
 mod reading;
 mod staging;
 mod turning;
 
+pub use known::KnownPages;
 pub use map::Map;
+pub use page_set::PageSet;
 pub use places::{footer_at, head_at};
 pub use reading::{assemble, find_map, read_body};
 pub use staging::stage;

@@ -1,29 +1,33 @@
 //! Pages are written over the copies that do not count.
-ghost use Rattle.std.specs.Prelude.{◌≡◌, ◌≢◌, ◌≤◌, ◌<◌, ℕ, List, true, length, drop, OnOk};
+ghost use Rattle.std.specs.Prelude.{◌≡◌, ◌≢◌, ◌≤◌, ◌<◌, ℕ, List, true, false, length, drop, OnOk};
 ghost use Rattle.device.specs.Disk.{part, Leaves, LeavesOnly, HasCause};
 ghost use Rattle.packs_journal.specs.Places.{IsArea, page_count as pages_of, page_at as place_of_page, page_size};
 ghost use Rattle.packs_journal.specs.Journal.{copy_in, names_pages};
 ghost use Rattle.packs_journal.specs.Reading.{page_in, gathered};
-ghost use Rattle.packs_journal.specs.Staging.{IsMapOf, IsBeside, IsBesideOne, body_page};
+ghost use Rattle.packs_journal.specs.Staging.{IsMapOf, IsMapped, IsBeside, IsBesideOne, body_page};
+ghost use Rattle.packs_journal.specs.Pages.{has_page, DiffersIn};
 
 use crate::bytes::are_same;
 use crate::map::{Map, copy_of, turn_page};
+use crate::page_set::PageSet;
 use crate::pages::{page_of, read_page};
 use crate::places::{PAGE, page_at, page_count};
 use device::{DeviceError, Meta};
 
 /// Writes each page in which a body differs from those that a map names over its copy that does not count, and turns its
-/// bit. Nothing of it is settled yet. The pack of the slot that has this map stays at every moment, and so do both footers.
+/// bit. Only pages that may differ are read and compared. Nothing of it is settled yet. The pack of the slot that has this map
+/// stays at every moment, and so do both footers.
 pub(crate) fn turn_pages<M: Meta>(
     meta: &mut M,
     slot: u32,
     map: &mut Map,
+    may_differ: &PageSet,
     body: &[u8],
 ) -> Result<(), DeviceError>
-    requires area { IsArea (length body.now) (M.seen meta.old) }
-    requires slot { slot ≤ 1 }
-    requires mapped { Leaves M.may_leave meta.old (IsMapOf (length body.now) slot map.old) }
-    requires named { names_pages (pages_of (length body.now)) map.old 4352 ≡ true }
+    requires mapped { IsMapped M.seen M.may_leave (length body.now) slot map.old meta.old }
+    requires differs { DiffersIn may_differ.now (length body.now) map.old body.now (M.seen meta.old) }
+    ensures pages { OnOk result ((k : ℕ) → k < pages_of (length body.now)
+        → page_in (length body.now) map.new k (M.seen meta.new) ≡ body_page (length body.now) k body.now) }
     ensures turned { OnOk result (gathered (length body.now) map.new (pages_of (length body.now)) (M.seen meta.new) ≡ drop 56 body.now) }
     ensures named { names_pages (pages_of (length body.now)) map.new 4352 ≡ true }
     ensures beside { IsBeside (length body.now) slot (M.seen meta.old) (M.seen meta.new) }
@@ -31,7 +35,7 @@ pub(crate) fn turn_pages<M: Meta>(
     ensures cause { HasCause (M.failed meta.old) (M.failed meta.new) result }
 {
     for k in 0..page_count(body.len() as u64) {
-        put_page(meta, slot, map, body, k)?;
+        put_page(meta, slot, map, may_differ, body, k)?;
     }
     Ok(())
 }
@@ -41,12 +45,14 @@ fn put_page<M: Meta>(
     meta: &mut M,
     slot: u32,
     map: &mut Map,
+    may_differ: &PageSet,
     body: &[u8],
     k: u32,
 ) -> Result<(), DeviceError>
     requires area { IsArea (length body.now) (M.seen meta.old) }
     requires slot { slot ≤ 1 }
     requires within { k < pages_of (length body.now) }
+    requires differs { has_page may_differ.now k ≡ false → page_in (length body.now) map.old k (M.seen meta.old) ≡ body_page (length body.now) k body.now }
     ensures page { OnOk result (page_in (length body.now) map.new k (M.seen meta.new) ≡ body_page (length body.now) k body.now) }
     ensures others { (j : ℕ) → j ≢ k → copy_in map.new j ≡ copy_in map.old j }
     ensures pages { (j : ℕ) → j < pages_of (length body.now) → j ≢ k
@@ -58,6 +64,9 @@ fn put_page<M: Meta>(
         → LeavesOnly M.moment M.left_since meta.old meta.new (IsBesideOne M.may_leave (length body.now) slot meta.old) }
     ensures cause { HasCause (M.failed meta.old) (M.failed meta.new) result }
 {
+    if !may_differ.contains(k) {
+        return Ok(());
+    }
     let len = body.len() as u64;
     let new = page_of(body, k);
     let mut held = [0u8; PAGE];

@@ -2,7 +2,7 @@
 use crate::slip::StoredSlip;
 use crossbeam_queue::protocol::{Join, Lesson, Outcome, Protocol, Split};
 use crossbeam_queue::{Pass, RuledArrayQueue};
-use rights_names::WordsName;
+use rights_permits::WordsName;
 use std::collections::LinkedList;
 
 /// What a pass has put into a queue and taken out of it, by the segments' numbers, and its parts of the right to know the

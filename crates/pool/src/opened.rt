@@ -7,7 +7,7 @@ use crate::law::{Queue, QueuePass};
 use crate::pass::PoolPass;
 use crate::pool::Pool;
 use geometry::Error;
-use rights_names::{PoolName, WordsName};
+use rights_permits::{PoolName, WordsName};
 use std::alloc::Global;
 use std::marker::{Model, PhantomData};
 

@@ -2,7 +2,7 @@
 ghost use Rattle.std.specs.Prelude.{◌≡◌, ◌<◌};
 
 use crate::law::QueuePass;
-use rights_names::{PoolName, WordsName};
+use rights_permits::{PoolName, WordsName};
 use std::marker::{Model, PhantomData};
 
 /// Lists what was put into each queue through it and taken, `{ ordinary; reserve }` to contracts, each with its parts of

@@ -7,7 +7,7 @@ ghost use Rattle.pool.specs.Pools.{queue_id, split_account, shared_account, join
 use crate::law::{Part, Put, Queue, Taken, Whole};
 use crate::pass::PoolPass;
 use crate::slip::StoredSlip;
-use rights_names::{PoolName, WordsName};
+use rights_permits::{PoolName, WordsName};
 use std::marker::PhantomData;
 use std::sync::Wait;
 use std::sync::atomic::{AtomicU32, Ordering};

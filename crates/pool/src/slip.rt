@@ -2,7 +2,7 @@
 ghost use Rattle.std.specs.Prelude.{◌≡◌};
 ghost use Rattle.words.specs.Tokens.{fresh_slip};
 
-use rights_names::WordsName;
+use rights_permits::WordsName;
 use std::marker::{Model, PhantomData};
 use words::FreeSlip;
 

@@ -13,7 +13,7 @@ use Rattle.file_cells.specs.Pass.{Pass}
 use Rattle.image.specs.Files.{files as files_of}
 use Rattle.image.specs.Rules.{IsLawful}
 use Rattle.image_codec.specs.Blocks.{bytes_at}
-use Rattle.packs_format.specs.OneImage.{OneImageLaw}
+use Rattle.pack_tables.specs.OneImage.{OneImageLaw}
 use Rattle.program_script.specs.declared.script.Step.{Step}
 use Rattle.program_run.specs.Ending.{HoldsFiles, LeftScript, RanSteps, ToldParts, WasLeft}
 use Rattle.program_run.specs.Files.{passes_among}

@@ -6,11 +6,11 @@ use Rattle.std.proofs.lemmas.List.{length-take, take-take}
 use Rattle.geometry.specs.declared.geometry.Geometry.{Geometry}
 use Rattle.geometry.specs.declared.error.Error.{Error}
 use Rattle.geometry.specs.declared.error.Error.TheVariants.{NoMemory, Device, NoSpace, NoFile, NoNode, TooFar, BadLength, Wounded, BadGeometry, NoPack, BadImage, PassesOut, SeatsOut, Exhausted}
-use Rattle.packs_format.specs.File.{IsFileRefusal, file_bytes}
+use Rattle.pack_tables.specs.File.{IsFileRefusal, file_bytes}
 use Rattle.image.specs.Image.{Image}
-use Rattle.packs_format.specs.Grammar.{HasSuper}
+use Rattle.pack_tables.specs.Grammar.{HasSuper}
 use Rattle.std.proofs.lemmas.Bool.{cases_lt}
-use Rattle.packs_format.proofs.Same.{one_geometry}
+use Rattle.pack_tables.proofs.Same.{one_geometry}
 use Rattle.program_run.specs.Checking.{HoldsLawfulImage}
 use Rattle.program_run.specs.Reading.{IsEnoughOf, IsTooLong, IsWhole}
 

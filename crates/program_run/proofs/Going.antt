@@ -13,14 +13,14 @@ use Rattle.geometry.specs.Shape.{block_bytes}
 use Rattle.geometry.specs.declared.geometry.Geometry.{Geometry}
 use Rattle.image.specs.Files.{files as files_of}
 use Rattle.image.specs.Rules.{IsLawful}
-use Rattle.file_readers.specs.Reader.{SnapshotOf}
+use Rattle.file_cells.specs.Reader.{SnapshotOf}
 use Rattle.program_script.specs.declared.command.Command.TheVariants.{Work as WorkOf, Now, Create, Delete, Status as TellStatus, Snap, Done, Fail, Remount}
 use Rattle.program_script.specs.declared.script.Step.{Step}
 use Rattle.program_script.specs.declared.script.Step.TheVariants.{Command as CommandStep, Part}
 use Rattle.program_run.specs.Files.{ArePlaced, Files, IsOpened, no_files, open_count, passes_among}
 use Rattle.program_run.proofs.Placing.{nothing_there}
-use Rattle.packs_format.specs.Grammar.{HasSuper}
-use Rattle.packs_format.proofs.Same.{one_geometry}
+use Rattle.pack_tables.specs.Grammar.{HasSuper}
+use Rattle.pack_tables.proofs.Same.{one_geometry}
 use Rattle.program_run.specs.Ending.{AreLeft, LeftScript, LeftSome, WasLeft, WentOn}
 use Rattle.program_run.specs.Run.{IsHalted, IsRemounted, StepWrites, StepsWrite, WroteSteps, first_opening, format_line, is_remount, mount_line, mounted_of, opening_line}
 use Rattle.image_codec.specs.Blocks.{bytes_at}

@@ -5,7 +5,7 @@ use Rattle.std.specs.declared.alloc.Global.{Global}
 use Rattle.std.proofs.lemmas.Bool.{false≢true}
 use Rattle.std.proofs.lemmas.List.{get_or-drop, length-drop}
 use Rattle.std.proofs.lemmas.Option.{get_or_from_slice_get, slice_get-get_or, slice_get_read}
-use Rattle.file_readers.specs.Reader.{SnapshotOf}
+use Rattle.file_cells.specs.Reader.{SnapshotOf}
 use Rattle.flash_volume.specs.Turns.{Held, Lot}
 use Rattle.flash_volume.specs.declared.leave.Leave.{Leave}
 use Rattle.geometry.specs.declared.geometry.Geometry.{Geometry}

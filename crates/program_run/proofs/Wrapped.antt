@@ -8,7 +8,7 @@ use Rattle.device.specs.declared.parts.Parts.{Parts}
 use Rattle.device.specs.Parts.{HasSize, IsBlockRun}
 use Rattle.geometry.specs.declared.geometry.Geometry.{Geometry}
 use Rattle.image_codec.specs.Blocks.{bytes_at}
-use Rattle.packs_format.specs.OneImage.{HoldVolume}
+use Rattle.pack_tables.specs.OneImage.{HoldVolume}
 use Rattle.program_run.specs.Lines.{image_lines}
 use Rattle.program_run.specs.Ending.{ToldParts}
 use Rattle.std.specs.Io.KnownBytes.{Appends}

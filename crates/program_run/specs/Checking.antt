@@ -7,8 +7,8 @@ use Rattle.geometry.specs.declared.geometry.Geometry.{Geometry}
 use Rattle.geometry.specs.declared.error.Error.{Error}
 use Rattle.image.specs.Image.{Image}
 use Rattle.image.specs.Rules.{IsLawful}
-use Rattle.packs_format.specs.Grammar.{HasSuper}
-use Rattle.packs_format.specs.File.{HoldsImage, IsFileRefusal}
+use Rattle.pack_tables.specs.Grammar.{HasSuper}
+use Rattle.pack_tables.specs.File.{HoldsImage, IsFileRefusal}
 use Rattle.program_run.specs.Lines.{image_line, refusal_line}
 use Rattle.program_run.specs.Ending.{ToldParts}
 

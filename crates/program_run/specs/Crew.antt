@@ -3,7 +3,7 @@ use Rattle.std.specs.Prelude.{◌≡◌, ◌⊎◌, ◌<◌, ◌≤◌, ℕ, ◌
 use Rattle.std.specs.declared.alloc.Global.{Global}
 use Rattle.std.specs.Io.KnownBytes.{Appends}
 use Rattle.file_cells.specs.Pass.{Pass}
-use Rattle.file_readers.specs.Reader.{SnapshotOf}
+use Rattle.file_cells.specs.Reader.{SnapshotOf}
 use Rattle.flash_volume.specs.Turns.{Held, Lot}
 use Rattle.flash_volume.specs.declared.leave.Leave.{Leave}
 use Rattle.flash_volume.specs.declared.leave.Leave.TheVariants.{Close, Discard}

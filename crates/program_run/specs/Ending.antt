@@ -12,13 +12,13 @@ use Rattle.image.specs.Files.{files as files_of}
 use Rattle.image.specs.Image.{Image}
 use Rattle.image.specs.Rules.{IsLawful}
 use Rattle.image_codec.specs.Blocks.{bytes_at}
-use Rattle.packs_format.specs.OneImage.{HoldVolume}
+use Rattle.pack_tables.specs.OneImage.{HoldVolume}
 use Rattle.program_script.specs.declared.script.Step.{Step}
 use Rattle.program_run.specs.Files.{ArePlaced, Files, no_files, passes_among}
 use Rattle.program_run.specs.Lines.{image_lines, unsynced_line}
 use Rattle.program_run.specs.Run.{RanSome, WroteSteps, format_line, mounted_of}
 use Rattle.mount_reading.specs.Held.{HoldsImage}
-use Rattle.packs_format.specs.Grammar.{HasSuper}
+use Rattle.pack_tables.specs.Grammar.{HasSuper}
 use Rattle.program_run.specs.declared.remounting.Left.{Left}
 use Rattle.program_run.specs.declared.steps.Carried.{Carried}
 use Rattle.program_run.specs.declared.steps.Opening.{Opening}

@@ -13,7 +13,7 @@ use Rattle.image.specs.Image.{Image}
 use Rattle.image.specs.Free.{free_count}
 use Rattle.image.specs.Files.{files as files_of}
 use Rattle.program_script.specs.Numeral.{hex_text}
-use Rattle.file_readers.specs.declared.status.Status.{Status}
+use Rattle.file_cells.specs.declared.status.Status.{Status}
 use Rattle.cleaning.specs.declared.section.Cleaned.{Cleaned}
 use Rattle.program_run.specs.declared.content.Content.{Content}
 use Rattle.program_run.specs.declared.synced.Synced.{Synced}

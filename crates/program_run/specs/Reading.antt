@@ -1,8 +1,8 @@
 -- Which front of an image file tells whether it is refused, and why.
 use Rattle.std.specs.Prelude.{◌≡◌, ◌<◌, ◌≤◌, ◌⊎◌, ℕ, List, length, take}
 use Rattle.geometry.specs.declared.geometry.Geometry.{Geometry}
-use Rattle.packs_format.specs.File.{file_bytes}
-use Rattle.packs_format.specs.Grammar.{HasSuper}
+use Rattle.pack_tables.specs.File.{file_bytes}
+use Rattle.pack_tables.specs.Grammar.{HasSuper}
 
 -- there are the bytes of a superblock, and more than that tells, if it is one
 abbrev pub IsTooLong : List ℕ → Type 0

@@ -11,9 +11,9 @@ use Rattle.file_cells.specs.Pass.{Pass}
 use Rattle.image.specs.Files.{files as files_of}
 use Rattle.image.specs.Image.{Image}
 use Rattle.image.specs.Rules.{IsLawful}
-use Rattle.file_readers.specs.Reader.{SnapshotOf}
-use Rattle.file_readers.specs.Status.{all}
-use Rattle.file_readers.specs.declared.status.Status.{Status}
+use Rattle.file_cells.specs.Reader.{SnapshotOf}
+use Rattle.file_cells.specs.Status.{all}
+use Rattle.file_cells.specs.declared.status.Status.{Status}
 use Rattle.program_script.specs.declared.command.Command.{Command}
 use Rattle.program_script.specs.declared.command.Command.TheVariants.{Work as WorkOf, Now, Create, Delete, Status as TellStatus, Snap, Done, Fail, Remount}
 use Rattle.program_script.specs.declared.script.Step.{Step}

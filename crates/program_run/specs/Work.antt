@@ -18,7 +18,7 @@ use Rattle.cleaning.specs.Cleaning.{IsCleaned}
 use Rattle.cleaning.specs.declared.policy.Policy.{Policy}
 use Rattle.cleaning.specs.declared.policy.Policy.TheVariants.{Foreground as PolicyForeground, Background as PolicyBackground}
 use Rattle.cleaning.specs.declared.section.Cleaned.{Cleaned}
-use Rattle.file_readers.specs.Reader.{IsPinned, SnapshotOf}
+use Rattle.file_cells.specs.Reader.{IsPinned, SnapshotOf}
 use Rattle.program_run.specs.Files.{AreAllTaken, Files, HasFile, HasReader, IsLeastFree, file_at, reader_at, shown_by, with_file, with_reader, without_file, without_reader}
 use Rattle.program_run.specs.declared.content.Content.{Content}
 use Rattle.program_run.specs.declared.synced.Synced.{Synced}

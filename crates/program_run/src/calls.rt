@@ -8,7 +8,7 @@ use cleaning::Cleaned;
 use device::{Block, Meta};
 use geometry::Error;
 use program_script::Cleaning;
-use rights_names::VolumeName;
+use rights_permits::VolumeName;
 use std::sync::Wait;
 
 /// A worker with the number of the calls that it has made.

@@ -9,7 +9,7 @@ use crate::reading::read_image;
 use crate::status::{DONE, REFUSED};
 use crate::stop::tell_io_failure;
 use image::Image;
-use packs_format::ReadImage;
+use pack_tables::ReadImage;
 use std::alloc::Global;
 use std::io;
 use std::io::{Read, Write};

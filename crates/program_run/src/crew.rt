@@ -17,7 +17,7 @@ use device::{Block, Meta};
 use flash_volume::{Crew, Duty, Ended, Leave, Lent, Turn};
 use geometry::Error;
 use program_script::{Step, Worker};
-use rights_names::VolumeName;
+use rights_permits::VolumeName;
 use std::alloc::Global;
 use std::io::Write;
 use std::sync::Wait;

@@ -5,7 +5,7 @@ ghost use Rattle.device.specs.Parts.{IsBlockRun};
 ghost use Rattle.program_run.specs.Checking.{IsDeviceOf, TellsFiles};
 ghost use Rattle.program_run.specs.Reading.{IsWhole};
 ghost use Rattle.program_run.specs.Run.{names_line};
-ghost use Rattle.packs_format.specs.File.{IsFileRefusal};
+ghost use Rattle.pack_tables.specs.File.{IsFileRefusal};
 
 use crate::reading::read_image;
 use crate::status::DONE;
@@ -14,7 +14,7 @@ use crate::telling::tell_parts;
 use device::{Block, MemBlock, MemMeta, Meta, Parts};
 use geometry::Error;
 use image::Image;
-use packs_format::ReadImage;
+use pack_tables::ReadImage;
 use std::alloc::{AllocError, Global};
 use std::io::{Read, Write};
 use std::sync::Wait;

@@ -11,7 +11,7 @@ use device::{Block, Meta};
 use flash_volume::{Lent, Part};
 use geometry::Error;
 use program_script::Task;
-use rights_names::VolumeName;
+use rights_permits::VolumeName;
 use std::alloc::Global;
 use std::io;
 use std::io::ErrorKind;

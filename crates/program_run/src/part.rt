@@ -12,7 +12,7 @@ use crate::worker_lines::tell_end;
 use device::{Block, Meta};
 use flash_volume::{Duty, Ended, Lent};
 use program_script::Worker;
-use rights_names::VolumeName;
+use rights_permits::VolumeName;
 use std::alloc::Global;
 use std::io;
 use std::io::Write;

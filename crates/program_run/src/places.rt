@@ -5,10 +5,9 @@ ghost use Rattle.geometry.specs.declared.error.Error.TheVariants.{NoFile, NoMemo
 ghost use Rattle.program_run.specs.Files.{AreAllTaken, AreInOrder, IsFirstFree, StandInPlace, passes_among};
 
 use device::Block;
-use file_cells::FilePass;
-use file_readers::{Reader, Seat};
+use file_cells::{FilePass, Reader, Seat};
 use geometry::Error;
-use rights_names::VolumeName;
+use rights_permits::VolumeName;
 use std::alloc::Global;
 
 /// Closes the readers that are open, and adds their seats to these. The only error is NoMemory.

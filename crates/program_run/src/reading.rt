@@ -1,11 +1,11 @@
 //! Inputs that are read: to their end, or as far as an image file tells.
 ghost use Rattle.std.specs.Prelude.{◌≡◌, ◌<◌, ◌≤◌, ◌++◌, length, IfOk, IfSome, OnOk, OnErr};
 ghost use Rattle.std.specs.Io.KnownBytes.{Consumes, IsAtEnd, Keeps};
-ghost use Rattle.packs_format.specs.Grammar.{HasSuper};
+ghost use Rattle.pack_tables.specs.Grammar.{HasSuper};
 ghost use Rattle.program_run.specs.Reading.{IsEnoughOf};
 
 use geometry::Geometry;
-use packs_format::{file_bytes, read_super};
+use pack_tables::{file_bytes, read_super};
 use std::alloc::Global;
 use std::io;
 use std::io::{ErrorKind, Read};

@@ -17,7 +17,7 @@ use crate::telling::tell_parts;
 use device::{Block, MemDevice, Meta, Parts};
 use flash_volume::SharedBlock;
 use geometry::Geometry;
-use packs_format::one_image_law;
+use pack_tables::one_image_law;
 use program_script::{Numbers, Script, Step};
 use std::alloc::Global;
 use std::io::{Read, Write};

@@ -4,7 +4,7 @@ ghost use Rattle.geometry.specs.declared.error.Error.TheVariants.{NoFile, NoMemo
 ghost use Rattle.geometry.specs.File.{bytes_at};
 ghost use Rattle.geometry.specs.Shape.{block_bytes};
 ghost use Rattle.cleaning.specs.Cleaning.{IsCleaned};
-ghost use Rattle.file_readers.specs.Status.{all};
+ghost use Rattle.file_cells.specs.Status.{all};
 ghost use Rattle.program_run.specs.Contents.{content_of};
 ghost use Rattle.program_run.specs.Files.{AreInOrder, ArePlaced, HasFile, HasReader, Lends, file_at, open_count, reader_at, shown_by};
 ghost use Rattle.program_run.specs.Work.{IsClosed, IsCreated, IsCut, IsDeleted, IsFilled, IsFound, IsSynced, IsTaken, IsWritten};
@@ -19,11 +19,10 @@ use crate::places::{
 use crate::synced::Synced;
 use cleaning::{Cleaned, Policy};
 use device::{Block, Meta};
-use file_cells::FilePass;
-use file_readers::{Reader, Seat, Status};
+use file_cells::{FilePass, Reader, Seat, Status};
 use flash_volume::{Lent, Rights};
 use geometry::{Error, Kind};
-use rights_names::VolumeName;
+use rights_permits::VolumeName;
 use std::alloc::Global;
 use std::marker::Model;
 use std::sync::Wait;
@@ -54,7 +53,7 @@ impl<'a, V: VolumeName, M: Meta, B: Block + Drop> Model for Session<'a, V, M, B>
     ghost use Rattle.std.specs.Coded.{codes};
     ghost use Rattle.geometry.specs.File.{blocks_code};
     ghost use Rattle.geometry.specs.Shape.{block_bytes};
-    ghost use Rattle.file_readers.specs.Reader.{segments_code};
+    ghost use Rattle.file_cells.specs.Reader.{segments_code};
     ghost use Rattle.program_run.specs.Files.{Files, ArePlaced};
 
     ghost Value = { Files };

@@ -13,7 +13,7 @@ use crate::{Session, run_work};
 use device::{Block, Meta};
 use geometry::Error;
 use program_script::{Command, Step};
-use rights_names::VolumeName;
+use rights_permits::VolumeName;
 use std::io;
 use std::io::Write;
 use std::sync::Wait;

@@ -9,7 +9,7 @@ use crate::worker_lines::{tell_done, tell_read, tell_refusal};
 use crate::{Session, run_work};
 use device::{Block, Meta};
 use program_script::{Task, Work};
-use rights_names::VolumeName;
+use rights_permits::VolumeName;
 use std::io;
 use std::io::Write;
 use std::sync::Wait;

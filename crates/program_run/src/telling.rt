@@ -14,7 +14,7 @@ use device::{Block, Meta, Parts};
 use file_cells::FilePass;
 use flash_volume::{Done, Leave, Rights, Threading, Visit, visit_volume};
 use geometry::Error;
-use rights_names::VolumeName;
+use rights_permits::VolumeName;
 use std::alloc::Global;
 use std::io::Write;
 use std::sync::Wait;

@@ -10,7 +10,7 @@ use crate::session::Session;
 use cleaning::Policy;
 use device::{Block, Meta};
 use program_script::{Cleaning, Work};
-use rights_names::VolumeName;
+use rights_permits::VolumeName;
 use std::io;
 use std::io::Write;
 use std::sync::Wait;

@@ -1,8 +1,7 @@
 //! Lawful images that are damaged.
 use crate::play::play;
 use flash_volume::{Geometry, Packing};
-use image_reading::{ReadFault, read_image};
-use image_upgrade::upgrade;
+use image_reading::{ReadFault, read_image, upgrade};
 use program_run::OpenGate;
 use program_trials::Fault;
 use std::alloc::Global;

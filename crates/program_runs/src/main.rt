@@ -16,6 +16,7 @@ mod play;
 mod races;
 mod replaying;
 mod room;
+mod room_left;
 mod scene;
 mod schedules;
 mod sweep;

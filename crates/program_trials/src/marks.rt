@@ -6,7 +6,7 @@ use crate::scripts::FILES;
 use crate::ways::find_way;
 use geometry::{Owner, Summary};
 use image::Image;
-use packs_format::ReadImage;
+use pack_tables::ReadImage;
 use std::alloc::Global;
 
 impl Machine {

@@ -3,7 +3,7 @@
 use Rattle.std.proofs.Common.{◌≡◌, ℕ, zero, suc, ◌+◌, ◌<◌, ◌≤◌, ◌==◌, Bool, true, false, List, [], ◌∷◌, if◌then◌else◌, refl, ◌∙◌, arith, eq-eqb, ne_eqb, Option}
 use Rattle.geometry.specs.Weights.{weigh}
 use Rattle.geometry.proofs.Weighing.{weigh-same}
-use Rattle.rights_claims.specs.Rules.{together, Follows}
+use Rattle.rights_books.specs.ClaimRules.{together, Follows}
 use Rattle.geometry.specs.declared.owner.Mark.{Mark}
 use Rattle.rights_books.specs.declared.claim.Entry.{Entry}
 use Rattle.rights_books.specs.declared.claim.Content.{Content}

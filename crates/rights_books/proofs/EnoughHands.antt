@@ -2,9 +2,9 @@
 -- the last hand may have the ticket of a mark that no account has lodged.
 use Rattle.std.proofs.Common.{List, [], ◌∷◌, ◌++◌, refl, arith, None}
 use Rattle.geometry.specs.Weights.{weigh}
-use Rattle.rights_claims.specs.Rules.{together}
+use Rattle.rights_books.specs.ClaimRules.{together}
 use Rattle.geometry.proofs.Weighing.{weigh-append}
-use Rattle.rights_claims.proofs.Keeping.{same_weights}
+use Rattle.rights_books.proofs.Keeping.{same_weights}
 use Rattle.geometry.specs.declared.owner.Owner.TheVariants.{Node}
 use Rattle.geometry.specs.declared.owner.Mark.{Mark}
 use Rattle.rights_books.specs.declared.claim.Layout.{Layout}

@@ -2,7 +2,7 @@
 -- of its own segment, within the volume, whatever others hold.
 use Rattle.std.proofs.Common.{ℕ, ◌-◌, ◌/◌, ◌<◌, List, [], ◌∷◌, Option, inl, inr, arith}
 use Rattle.std.proofs.lemmas.Bool.{cases_lt}
-use Rattle.rights_claims.specs.Rules.{Follows}
+use Rattle.rights_books.specs.ClaimRules.{Follows}
 use Rattle.geometry.specs.declared.owner.Mark.{Mark}
 use Rattle.geometry.specs.Mark.{same_mark}
 use Rattle.rights_books.specs.declared.claim.Entry.{Entry}

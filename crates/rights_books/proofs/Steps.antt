@@ -2,7 +2,7 @@
 -- it whatever the others have.
 use Rattle.std.proofs.Common.{◌≡◌, ◌≢◌, ℕ, zero, suc, ◌+◌, ◌-◌, ◌/◌, ◌%◌, ◌<◌, ◌≤◌, ◌==◌, Bool, true, false, List, [], ◌∷◌, if◌then◌else◌, refl, sym, ap, ◌∙◌, subst, arith, eqb-true, eq-eqb, ne_eqb, Option, Some, None}
 use Rattle.geometry.specs.Weights.{weigh}
-use Rattle.rights_claims.specs.Rules.{together, Follows, Tells}
+use Rattle.rights_books.specs.ClaimRules.{together, Follows, Tells}
 use Rattle.geometry.specs.declared.owner.Mark.{Mark}
 use Rattle.rights_books.specs.declared.claim.Entry.{Entry}
 use Rattle.rights_books.specs.declared.claim.Content.{Content}

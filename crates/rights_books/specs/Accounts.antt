@@ -1,7 +1,7 @@
 -- What contracts see of the accounts.
 use Rattle.std.specs.Prelude.{◌≡◌, ℕ, ◌+◌, List, [], ◌∷◌, slice_get, Option, Some, None}
 use Rattle.atomic_table.specs.Seated.{TableId}
-use Rattle.rights_claims.specs.Rules.{Held}
+use Rattle.rights_books.specs.ClaimRules.{Held}
 use Rattle.rights_books.specs.Rules.{each_below}
 use Rattle.geometry.specs.declared.owner.Mark.{Mark}
 use Rattle.rights_books.specs.declared.claim.Entry.{Entry}

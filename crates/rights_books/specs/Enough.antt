@@ -1,7 +1,7 @@
 -- How many permits show that nothing is in flight.
 use Rattle.std.specs.Prelude.{◌≡◌, ℕ, List, ◌++◌}
 use Rattle.geometry.specs.Weights.{weigh}
-use Rattle.rights_claims.specs.Rules.{Follows}
+use Rattle.rights_books.specs.ClaimRules.{Follows}
 use Rattle.rights_books.specs.declared.claim.Layout.{Layout}
 use Rattle.rights_books.specs.declared.claim.Claim.{Claim}
 use Rattle.rights_books.specs.Weights.{segment_in, hand_in, file_in, shard_in}

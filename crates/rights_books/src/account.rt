@@ -3,8 +3,8 @@
 ghost use Rattle.std.specs.Prelude.{◌≡◌};
 
 use crate::claim::Claim;
+use crate::{Holder, Remembered};
 use geometry::Mark;
-use rights_claims::{Holder, Remembered};
 use std::marker::Model;
 
 /// A segment's account, `{ book; segment; marks }` to contracts: it lies in the segment's lock, and has the segment's
@@ -202,7 +202,7 @@ pub struct Dealer {
 }
 
 impl Model for Dealer {
-    ghost use Rattle.rights_claims.specs.Rules.{Held};
+    ghost use Rattle.rights_books.specs.ClaimRules.{Held};
     ghost use Rattle.rights_books.specs.declared.claim.Claim.{Claim};
 
     ghost Value = { Held Claim };

@@ -1,13 +1,13 @@
 //! The books, and the one step that all others are made of.
 ghost use Rattle.std.specs.Prelude.{◌≡◌, [], ◌∷◌, ◌++◌};
-ghost use Rattle.rights_claims.specs.Rules.{Ruled, Follows};
+ghost use Rattle.rights_books.specs.ClaimRules.{Ruled, Follows};
 ghost use Rattle.rights_books.specs.declared.claim.Layout.{Layout};
 ghost use Rattle.rights_books.specs.declared.claim.Claim.{Claim};
 ghost use Rattle.rights_books.specs.declared.claim.Claim.TheVariants.{Hand};
 ghost use Rattle.rights_books.specs.Rules.{Lawful, opening};
 
 use crate::claim::{Claim, Layout};
-use rights_claims::{Book, Change, Holder, Law};
+use crate::{Book, Change, Holder, Law};
 use std::marker::{Brand, Model, PhantomData};
 
 /// The law of the books.
@@ -85,9 +85,7 @@ impl Books {
         ensures claims { (one.new.claims ≡ X.one ∷ []) × (other.new.claims ≡ X.other ∷ []) }
         ensures told { X.told }
     {
-        self.book.give(other, one, 0);
-        self.book.step::<Exchanged<X>>(one);
-        self.book.give(one, other, 1);
+        self.book.exchange::<T, Exchanged<X>>(one, other, 1, about);
     }
 
     // One step in which the second account goes into the first.

@@ -4,10 +4,10 @@ ghost use Rattle.rights_books.specs.declared.claim.Claim.TheVariants as claim;
 ghost use Rattle.rights_books.specs.Rules.{opening, each_from};
 ghost use Rattle.rights_books.specs.Accounts.{first_of, number_of, hands_claims, AreEmptySegments, AreEmptyFiles, AreEmptyShards};
 
+use crate::Book;
 use crate::account::{Dealer, FileAccount, Permits, SegmentAccount, ShardAccount};
 use crate::books::Books;
 use crate::claim::Layout;
-use rights_claims::Book;
 use std::alloc::{AllocError, Global};
 
 /// The books of an empty volume, and all its accounts.

@@ -1,17 +1,17 @@
 //! Looks, which change nothing: what the law of the books says of passes and of tickets.
 ghost use Rattle.std.specs.Prelude.{◌≡◌, ◌≢◌, ◌-◌, ◌/◌, ◌<◌, ◌%◌, [], ◌∷◌, Some};
-ghost use Rattle.rights_claims.specs.Rules.{Follows};
+ghost use Rattle.rights_books.specs.ClaimRules.{Follows};
 ghost use Rattle.geometry.specs.Mark.{same_mark};
 ghost use Rattle.rights_books.specs.Lists.{times};
 ghost use Rattle.rights_books.specs.Rules.{Lawful};
 ghost use Rattle.rights_books.specs.Lodged.{AreMarked, AreWithin};
 ghost use Rattle.rights_books.specs.Sameness.{same_entry};
 
+use crate::Holder;
 use crate::account::{FileAccount, PassAccount, Permit, SegmentAccount, ShardAccount, Token};
 use crate::books::{Absorbed, Books, Exchange};
 use crate::claim::Claim;
 use geometry::Mark;
-use rights_claims::Holder;
 use std::marker::Brand;
 
 impl Books {

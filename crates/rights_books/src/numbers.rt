@@ -7,10 +7,10 @@ ghost use Rattle.rights_books.specs.Lists.{times, without};
 ghost use Rattle.rights_books.specs.Sameness.{same_entry};
 ghost use Rattle.rights_books.specs.Rules.{bare_entry, moved_to, with_lodged, lodged_of};
 
+use crate::Remembered;
 use crate::account::{FileAccount, Permit, ShardAccount, Ticket, Token};
 use crate::books::Books;
 use geometry::{Mark, Owner};
-use rights_claims::Remembered;
 use std::marker::Brand;
 use std::snapshot::Snapshot;
 

@@ -2,7 +2,7 @@
 use Rattle.std.proofs.Common.{◌≡◌, ℕ, ◌+◌, ◌-◌, ◌<◌, [], ◌∷◌, length-append, set, refl, arith}
 use Rattle.crossbeam_channel.specs.Fifo.{Pushes, Pops, Forks, Merges, Learns}
 use Rattle.geometry.proofs.Weighing.{weigh-append}
-use Rattle.rights_claims.proofs.Weighing.{weigh-set_found}
+use Rattle.rights_books.proofs.Weighing.{weigh-set_found}
 use Rattle.rights_books.specs.Accounts.{HandView}
 use Rattle.rights_permits.specs.declared.law.Turn.{Turn}
 use Rattle.rights_permits.specs.Turns.{all_permits, turn, out_of, Counted, AtMost}

@@ -3,8 +3,8 @@ ghost use Rattle.std.specs.Prelude.{◌≡◌, []};
 ghost use Rattle.rights_permits.specs.Turns.{all_permits, at_home};
 
 use crate::token::Token;
+use crate::{BooksName, TurnName};
 use rights_books::{Audit, Books, Permits};
-use rights_names::{BooksName, TurnName};
 
 /// All 64 permits in one. They must be given back together, by `Turnstile::scatter`, or end with the turnstile. They take
 /// no memory.

@@ -1,8 +1,8 @@
 //! The law of the channel: each permit is in it or out of it, and they are 64.
+use crate::BooksName;
 use crate::permit::Card;
 use crossbeam_channel::protocol::{Join, Lesson, Outcome, Protocol, Split};
 use crossbeam_channel::{Pass, RuledReceiver, RuledSender};
-use rights_names::BooksName;
 
 /// How many permits a pass has out of the channel. No value of it is made.
 pub struct Turn {

@@ -1,4 +1,5 @@
-//! The turnstile: the 64 permits of a volume's books, in a channel that threads share.
+//! The turnstile: the 64 permits of a volume's books, in a channel that threads share. And the names of a volume's tables, in
+//! types that have no values: for the proofs alone.
 //!
 //! Each call that changes the volume holds a permit for its whole length, with what it has in hand: tickets of marked
 //! blocks, and tokens of node numbers. A permit that lies in the channel has nothing in hand. So who has gathered all 64
@@ -13,15 +14,19 @@
 
 mod all;
 mod law;
+mod names;
 mod opened;
 mod permit;
 mod rest;
 mod rests;
+mod table_names;
 mod token;
 mod turnstile;
 
 pub use all::{AllPermits, Auditing};
 pub use law::Turn;
+pub use names::{BooksName, GeometryName, Named, PoolName, TurnName, VolumeName, WordsName};
 pub use opened::OpenedTurnstile;
 pub use permit::Permit;
+pub use table_names::{BooksOf, NumbersOf, TablesName, WordsOf};
 pub use turnstile::Turnstile;

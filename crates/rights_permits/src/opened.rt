@@ -7,10 +7,10 @@ use crate::all::AllPermits;
 use crate::law::{Receives, Sends, TurnPass};
 use crate::token::{IdleToken, Token};
 use crate::turnstile::Turnstile;
+use crate::{BooksName, TurnName};
 use crossbeam_channel::bounded_with;
 use geometry::Error;
 use rights_books::{Books, Permits};
-use rights_names::{BooksName, TurnName};
 use std::alloc::Global;
 use std::marker::Model;
 

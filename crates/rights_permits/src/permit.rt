@@ -3,7 +3,7 @@ ghost use Rattle.std.specs.Prelude.{◌≡◌, []};
 ghost use Rattle.rights_permits.specs.Turns.{at_home};
 
 use crate::token::Token;
-use rights_names::{BooksName, TurnName};
+use crate::{BooksName, TurnName};
 use std::marker::{Model, PhantomData};
 
 /// A permit as it lies in the channel, with nothing in hand. It may be dropped with the channel.

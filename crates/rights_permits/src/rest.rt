@@ -4,7 +4,7 @@ ghost use Rattle.rights_permits.specs.Turns.{at_home};
 
 use crate::permit::{Card, Permit};
 use crate::token::Token;
-use rights_names::{BooksName, TurnName};
+use crate::{BooksName, TurnName};
 
 /// A rest, as it lies under its lock. While it is open a permit may lie there, with nothing in hand.
 pub(crate) struct Rest<B: BooksName, J: TurnName> {

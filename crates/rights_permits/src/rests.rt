@@ -7,7 +7,7 @@ use crate::law::Sends;
 use crate::permit::Permit;
 use crate::rest::Rest;
 use crate::token::Token;
-use rights_names::{BooksName, TurnName};
+use crate::{BooksName, TurnName};
 use std::sync::{Mutex, Wait};
 
 const ROW: u32 = 8;

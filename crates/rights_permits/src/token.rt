@@ -5,7 +5,7 @@ ghost use Rattle.rights_permits.specs.Turns.{all_permits, IsRing, IsTurnAt, coun
 
 use crate::law::{Comes, Goes, Receives, Sends, TurnPass, Whole};
 use crate::permit::Card;
-use rights_names::{BooksName, TurnName};
+use crate::{BooksName, TurnName};
 use std::marker::{Model, PhantomData};
 use std::sync::Wait;
 

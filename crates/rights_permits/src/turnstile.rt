@@ -9,9 +9,9 @@ use crate::law::{Receives, Sends};
 use crate::permit::{Card, Permit};
 use crate::rests::Rests;
 use crate::token::{IdleToken, Token};
+use crate::{BooksName, TurnName};
 use geometry::Error;
 use rights_books::{Books, Permits};
-use rights_names::{BooksName, TurnName};
 use std::sync::atomic::{AtomicBool, Ordering};
 use std::sync::{Mutex, Wait};
 

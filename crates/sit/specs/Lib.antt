@@ -10,6 +10,7 @@ pub mod NextValid
 pub mod Room
 pub mod Valid
 pub mod Registered
+pub mod Noted
 pub mod Threaded
 pub mod Learned
 pub mod Loading

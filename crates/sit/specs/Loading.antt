@@ -6,7 +6,7 @@ use Rattle.geometry.specs.declared.owner.Owner.{Owner}
 use Rattle.geometry.specs.Shape.{segment_blocks, block_bytes}
 use Rattle.geometry.specs.Address.{address_of}
 use Rattle.geometry.specs.Weights.{SameItems}
-use Rattle.rights_claims.specs.Rules.{Ruled}
+use Rattle.rights_books.specs.ClaimRules.{Ruled}
 use Rattle.rights_books.specs.declared.claim.Layout.{Layout}
 use Rattle.rights_books.specs.Accounts.{SegmentView}
 use Rattle.geometry.specs.declared.state.State.{State}

@@ -5,21 +5,23 @@ use Rattle.geometry.specs.declared.state.State.{State}
 use Rattle.geometry.specs.declared.state.State.TheVariants.{Free, Open, Sealed, Prefree}
 use Rattle.geometry.specs.Shape.{segment_blocks}
 use Rattle.geometry.specs.Weights.{SameItems}
-use Rattle.rights_claims.specs.Rules.{Ruled}
+use Rattle.rights_books.specs.ClaimRules.{Ruled}
 use Rattle.rights_books.specs.declared.claim.Layout.{Layout}
 use Rattle.rights_books.specs.Accounts.{SegmentView}
+use Rattle.rights_books.specs.PartRow.{PartName}
 use Rattle.words.specs.declared.claim.Life.{Life}
 use Rattle.words.specs.Tokens.{Post, OpenSegment, IsSealed, IsRetired}
 use Rattle.sit.specs.declared.segment.Released.{Released}
 use Rattle.sit.specs.declared.segment.Released.TheVariants.{Kept, Retired}
 use Rattle.sit.specs.Segment.{Segment, marks_of}
 
--- the segment, the books and the words that it is of, and what its standing knows of its life
+-- the segment, the books and the words that it is of, what its standing knows of its life, and which part its row is of, where it has an account of it
 pub record Registered : Type 0 where
   pub segment : Segment
   pub book : TableId
   pub table : TableId
   pub life : Life
+  pub part : Option PartName
 
 -- The books have its valid blocks, each with who names it, and the words have its state.
 pub record IsRegistered (segment : Segment) (account : SegmentView) (life : Life) : Type 0 where
@@ -40,9 +42,9 @@ post_of r = record { table = r.table; life = r.life }
 abbrev pub slip_of : Registered → OpenSegment
 slip_of r = record { table = r.table; segment = r.segment.number }
 
--- it is of the same books and words
+-- it is of the same books and words, and the same part
 abbrev pub IsSameBook : Registered → Registered → Type 0
-IsSameBook old new = (new.book ≡ old.book) × (new.table ≡ old.table)
+IsSameBook old new = (new.book ≡ old.book) × (new.table ≡ old.table) × (new.part ≡ old.part)
 
 -- A standing after a block was placed, by the state that the segment has then: it is sealed, or nothing has changed.
 abbrev pub HasLivedOn : State → Post → Post → Type 0

@@ -135,30 +135,23 @@ impl<B: Block + Drop> Body<B> {
 
     /// Writes the block at the next place of an open segment, which leaves home and is valid from then on. Where it was the
     /// last place, the segment is sealed. Where the device fails, and counts it, nothing is marked and the place stays.
-    pub(crate) fn place(
-        &mut self,
-        offset: u32,
-        owner: Owner,
-        now: u64,
-        bytes: &[u8],
-    ) -> Result<B, DeviceError>
+    pub(crate) fn place(&mut self, owner: Owner, now: u64, bytes: &[u8]) -> Result<B, DeviceError>
         requires open { self.old.state ≡ Open }
-        requires place { offset ≡ self.old.next }
         requires owner { IsOwner owner }
         requires bytes { length bytes.now ≡ block_bytes self.old.shape }
-        ensures address { IfOk result (λ block. B.address_of block ≡ address_of self.old.shape self.old.number offset) }
+        ensures address { IfOk result (λ block. B.address_of block ≡ address_of self.old.shape self.old.number self.old.next) }
         ensures content { IfOk result (λ block. B.content_of block ≡ bytes.now) }
         ensures room { self.old.next < segment_blocks self.old.shape }
         ensures sized { length self.old.summaries ≡ segment_blocks self.old.shape }
-        ensures clear { slice_index_or self.old.summaries offset None ≡ None }
+        ensures clear { slice_index_or self.old.summaries self.old.next None ≡ None }
         ensures segment { OnOk result (HasPlaced (placed self.old owner now self.new.failed) self.new) }
         ensures count { OnOk result (count_of self.new.summaries ≡ count_of self.old.summaries + 1) }
         ensures failures { IfOk result (λ block. self.new.failed + B.failed block ≡ self.old.failed) }
         ensures err { OnErr result (HasSpoiled self.old self.new) }
         ensures failure { OnErr result (self.old.failed < self.new.failed) }
     {
-        let block = self.blocks.write_out(offset as usize, bytes)?;
-        self.valid.set(offset, owner);
+        let block = self.blocks.write_out(self.next as usize, bytes)?;
+        self.valid.set(self.next, owner);
         self.mtime = self.mtime.max(now);
         self.next += 1;
         self.state = state_at(self.next, self.shape.segment_blocks());

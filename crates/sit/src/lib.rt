@@ -8,6 +8,7 @@ mod blocks;
 mod body;
 mod lent;
 pub mod loading;
+mod noted;
 pub mod room;
 pub mod segment;
 mod standing;

@@ -15,7 +15,7 @@ use crate::thread::Threading;
 use crate::valid::ValidBlocks;
 use device::Block;
 use geometry::{Mark, Owner, Shape, State};
-use rights_books::{Books, Permit, SegmentAccount};
+use rights_books::{Books, PartRow, Permit, SegmentAccount};
 use std::marker::Model;
 use tickets::Ticket;
 use words::{FreeSlip, OpenSlip, Standing, Words};
@@ -150,6 +150,7 @@ impl<B: Block + Drop> Loading<B> {
             body,
             account,
             standing,
+            row: PartRow::new(),
         }
     }
 
@@ -179,6 +180,7 @@ impl<B: Block + Drop> Loading<B> {
             body,
             account,
             standing,
+            row: PartRow::new(),
         };
         (segment, opened)
     }
@@ -207,6 +209,7 @@ impl<B: Block + Drop> Loading<B> {
             body,
             account,
             standing,
+            row: PartRow::new(),
         }
     }
 }

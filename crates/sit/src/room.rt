@@ -13,7 +13,7 @@ use crate::thread::Threading;
 use crate::valid::ValidBlocks;
 use device::Block;
 use geometry::{Error, Geometry, Shape, State};
-use rights_books::SegmentAccount;
+use rights_books::{PartRow, SegmentAccount};
 use std::alloc::Global;
 use std::marker::Model;
 use words::Standing;
@@ -86,6 +86,7 @@ impl<B: Block + Drop> Room<B> {
             body: self.fill_body(all),
             account,
             standing,
+            row: PartRow::new(),
         }
     }
 

@@ -20,7 +20,7 @@ use crate::body::Body;
 use crate::standing::{retire_empty, seal_full, show_open};
 use device::Block;
 use geometry::{Error, Mark, Owner, State};
-use rights_books::{Audit, Books, FileAccount, Permit, SegmentAccount};
+use rights_books::{Audit, Books, FileAccount, PartRow, Permit, SegmentAccount};
 use std::marker::Model;
 use tickets::Ticket;
 use words::{CheckpointSeat, FreeSlip, OpenSlip, Seat, Standing, StoredOpenSlip, Words};
@@ -29,22 +29,26 @@ use words::{CheckpointSeat, FreeSlip, OpenSlip, Seat, Standing, StoredOpenSlip, 
 /// the lock is free: a block's bit is set exactly where the block is not at home; each set bit has one ticket out, whose
 /// owner the summary names; the count is that of the set bits; an open segment has a next place, and no valid block at or
 /// past it; a sealed one has some valid block; a retired or free one has none; its state is that of its word; and each hole that
-/// a log is to fill is neither valid nor in the last completed checkpoint, and only a sealed segment has some.
+/// a log is to fill is neither valid nor in the last completed checkpoint, and only a sealed segment has some. The
+/// row that is noted of it is its own.
 #[derive(Drop)]
 pub struct SegmentState<B: Block + Drop> {
     pub(crate) body: Body<B>,
     pub(crate) account: SegmentAccount,
     pub(crate) standing: Standing,
+    pub(crate) row: PartRow,
 }
 
 impl<B: Block + Drop> Model for SegmentState<B> {
+    ghost use Rattle.std.specs.Prelude.{◌≡◌, IfSome};
     ghost use Rattle.sit.specs.Registered.{Registered, IsRegistered};
+    ghost use Rattle.sit.specs.Noted.{segment_row};
 
     ghost Value = { Registered };
 
-    ghost view = { λ s. record { segment = s.body; book = s.account.book; table = s.standing.table; life = s.standing.life } };
+    ghost view = { λ s. record { segment = s.body; book = s.account.book; table = s.standing.table; life = s.standing.life; part = s.row.part } };
 
-    ghost invariant = { λ s. IsRegistered s.body s.account s.standing.life };
+    ghost invariant = { λ s. IsRegistered s.body s.account s.standing.life × IfSome s.row.noted (λ row. row ≡ segment_row s.body) };
 }
 
 /// What became of a segment that lost a valid block.
@@ -169,7 +173,6 @@ impl<B: Block + Drop> SegmentState<B> {
         words: &Words,
         permit: &mut Permit,
         slip: &mut Option<StoredOpenSlip>,
-        offset: u32,
         owner: Owner,
         now: u64,
         bytes: &[u8],
@@ -178,10 +181,9 @@ impl<B: Block + Drop> SegmentState<B> {
         requires permit { permit.old.book ≡ self.old.book }
         requires words { words.now.table ≡ self.old.table }
         requires slip { slip.old ≡ Some (slip_of self.old) }
-        requires place { offset ≡ self.old.segment.next }
         requires owner { IsOwner owner }
         requires bytes { length bytes.now ≡ block_bytes self.old.segment.shape }
-        ensures mark { IfOk result (λ ticket. ticket.mark ≡ record { address = address_of self.old.segment.shape self.old.segment.number offset; owner = owner }) }
+        ensures mark { IfOk result (λ ticket. ticket.mark ≡ record { address = address_of self.old.segment.shape self.old.segment.number self.old.segment.next; owner = owner }) }
         ensures content { IfOk result (λ ticket. ticket.content ≡ bytes.now) }
         ensures segment { OnOk result (HasPlaced (placed self.old.segment owner now self.new.segment.failed) self.new.segment) }
         ensures life { OnOk result (HasLivedOn self.new.segment.state (post_of self.old) (post_of self.new)) }
@@ -195,12 +197,13 @@ impl<B: Block + Drop> SegmentState<B> {
         ensures failure { OnErr result (self.old.segment.failed < self.new.segment.failed) }
         ensures err { OnErr result (self.new ≡ record self.old { segment = self.new.segment }) }
         ensures spoiled { OnErr result (HasSpoiled self.old.segment self.new.segment) }
-        ensures err_blocks { OnErr result ((bytes : List ℕ) × FollowsBlocks (λ blocks. changed blocks (address_of self.old.segment.shape self.old.segment.number offset) bytes) self.old.segment self.new.segment) }
+        ensures err_blocks { OnErr result ((bytes : List ℕ) × FollowsBlocks (λ blocks. changed blocks (address_of self.old.segment.shape self.old.segment.number self.old.segment.next) bytes) self.old.segment self.new.segment) }
         ensures err_slip { OnErr result (slip.new ≡ slip.old) }
         ensures err_hand { OnErr result (permit.new ≡ permit.old) }
     {
         show_open(words, &mut self.standing, slip);
-        let block = self.body.place(offset, owner, now, bytes)?;
+        self.row.change();
+        let block = self.body.place(owner, now, bytes)?;
         let address = block.address();
         let claimed = books.mark(&mut self.account, permit, Mark { address, owner });
         seal_full(words, &mut self.standing, slip, self.body.state());
@@ -295,6 +298,7 @@ impl<B: Block + Drop> SegmentState<B> {
         ensures spoiled { OnErr result (HasSpoiledAt offset self.old.segment self.new.segment) }
         ensures err_hand { OnErr result (permit.new ≡ permit.old) }
     {
+        self.row.change();
         let block = self.body.fill(offset, owner, now, bytes)?;
         let address = block.address();
         let claimed = books.mark(&mut self.account, permit, Mark { address, owner });
@@ -350,6 +354,7 @@ impl<B: Block + Drop> SegmentState<B> {
         ensures hand { permit.new ≡ record permit.old { tickets = without same_mark ticket.mark permit.old.tickets } }
         ensures book { IsSameBook self.old self.new }
     {
+        self.row.change();
         let (claimed, block) = ticket.into_parts();
         books.clear(&mut self.account, permit, claimed);
         let released = self.body.release(block);

@@ -6,11 +6,11 @@ use crate::disk_parts::PutParts;
 use crate::fault::DiskFault;
 use crate::stripes::{STRIPES, blocks_in, stripe_name, stripes_of};
 use flash_volume::{Block, Leave, Meta, Parts, work_on};
+use named_files::{FolderRows, NewFile, ReadFolder, work_making_room};
+use named_folder::{is_name, row_at};
+use named_reading::Refusal;
 use std::alloc::{AllocError, Global};
 use std::sync::Wait;
-use tool_files::{FolderRows, NewFile, ReadFolder, work_making_room};
-use tool_folder::{is_name, row_at};
-use tool_reading::Refusal;
 
 /// The files of a disk by their numbers, in the order in which blocks are dealt to them, and how many blocks the disk has.
 #[derive(Drop)]

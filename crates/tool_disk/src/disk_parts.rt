@@ -2,11 +2,11 @@
 use device::{Block, Meta};
 use flash_volume::{Rights, Work};
 use geometry::Error;
-use rights_names::VolumeName;
+use named_files::{NewFile, PutAll};
+use rights_permits::VolumeName;
 use std::alloc::Global;
 use std::cell::Cell;
 use std::sync::Wait;
-use tool_files::{NewFile, PutAll};
 use volume::Volume;
 
 /// Puts the files of a new disk. Where one is refused, the work fails with NoSpace, and then, as after each other error, the volume is given

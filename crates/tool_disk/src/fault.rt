@@ -1,8 +1,8 @@
 //! Why a disk is not served.
 use flash_volume::{Error, Fault as VolumeFault, Stage};
+use named_reading::Refusal;
 use std::alloc::{AllocError, AllocFailed};
 use std::io;
-use tool_reading::Refusal;
 
 /// Why a disk is not served, or not to the end.
 #[derive(Debug, Drop)]

@@ -8,12 +8,12 @@ use disk_service::{
     Counts, DiskLayout, DiskService, DiskSettings, Export, Farewell, Greeted, LONGEST_NAME, greet,
 };
 use flash_volume::{Block, Error, Leave, Meta, Parts, SharedBlock, Stage, serve_volume};
+use named_reading::Refusal;
 use std::io;
 use std::io::{Read, Write};
 use std::sync::Wait;
 use std::thread::Threads;
 use std::time::Clock;
-use tool_reading::Refusal;
 
 /// Which disk is served, and how.
 #[derive(Clone, Copy, Debug)]

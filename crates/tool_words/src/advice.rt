@@ -1,7 +1,7 @@
 //! What can be done about a fault.
 use flash_volume::Error;
+use named_reading::Refusal;
 use std::io;
-use tool_reading::Refusal;
 
 /// What can be done about a file or a stream that failed so; nothing where the failure says it.
 pub fn file_advice(kind: io::ErrorKind) -> &'static str {

@@ -3,11 +3,11 @@
 //! The works refuse the same. They decide, since the image may change before it is locked.
 use crate::fault::Fault;
 use crate::image_run::open_volume;
+use named_files::{Taken, has_room};
+use named_folder::{Entry, FOLDER, is_name, row_at};
+use named_reading::{Listing, Refusal};
 use std::fs::{File, Files};
 use std::time::Clock;
-use tool_files::{Taken, has_room};
-use tool_folder::{Entry, FOLDER, is_name, row_at};
-use tool_reading::{Listing, Refusal};
 use tool_syntax::ImageFile;
 
 /// Refuses to put files where the folder tells of one that is not there, since a new file would get its number; and where this name is

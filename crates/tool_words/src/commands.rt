@@ -18,12 +18,12 @@ use crate::shown::Shown;
 use crate::stat::{list, stat};
 use crate::upgrading::upgrade_image;
 use flash_volume::{Geometry, Leave, Policy};
+use named_files::{Clean, Remove, Rename};
 use std::fs::{File, Files};
 use std::io::{Read, Write};
 use std::rt::Runtime;
 use std::sync::Wait;
 use std::thread::Threads;
-use tool_files::{Clean, Remove, Rename};
 use tool_syntax::{ImageFile, Task, Words, write_completions, write_manual};
 
 /// Does what the words ask for, and answers the exit status.

@@ -3,10 +3,10 @@ use crate::limits::Beyond;
 use file_device::FileFault;
 use flash_volume::{Error, Fault as VolumeFault, Stage};
 use image_reading::ReadFault;
+use named_reading::Refusal;
 use std::alloc::{AllocError, AllocFailed, Global};
 use std::io;
 use tool_disk::DiskFault;
-use tool_reading::Refusal;
 use tool_syntax::Unwritten;
 
 /// Why the program stops.

@@ -6,12 +6,12 @@ use crate::new_file::{keep_whole, make_new};
 use crate::screen::Screen;
 use crate::shown::Shown;
 use image_reading::FileSource;
+use named_folder::{Entry, FOLDER, is_name};
+use named_reading::{Listing, OpenVolume};
 use std::fs;
 use std::fs::{File, Files};
 use std::io::Write;
 use std::rt::Runtime;
-use tool_folder::{Entry, FOLDER, is_name};
-use tool_reading::{Listing, OpenVolume};
 use tool_syntax::ImageFile;
 
 /// Writes each file of a volume into a folder, which is made where there is none: under its name, or as `file-N` where the folder

@@ -4,11 +4,11 @@ use crate::image_run::open_volume;
 use crate::new_file::{keep_whole, make_new};
 use crate::window::Window;
 use image_reading::{FileSource, ReadFault};
+use named_reading::{OpenVolume, Refusal};
 use std::alloc::Global;
 use std::fs::{File, Files};
 use std::io::Write;
 use std::time::Clock;
-use tool_reading::{OpenVolume, Refusal};
 use tool_syntax::{ImageFile, Part};
 
 /// Which file is got: by name, or where there is none by number.

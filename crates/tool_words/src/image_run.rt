@@ -8,11 +8,11 @@ use file_device::FileFault;
 use flash_volume::{Block, Geometry, Leave, Parts, Work, work_on};
 use image::Image;
 use image_reading::FileSource;
+use named_reading::OpenVolume;
 use std::fs::{File, Files};
 use std::sync::Wait;
 use std::time::{Clock, Duration, SystemTime};
 use std::{fs, thread};
-use tool_reading::OpenVolume;
 use tool_syntax::ImageFile;
 
 // How often a second an image file is asked for that another program has open.

@@ -12,6 +12,9 @@ use crate::screen::Screen;
 use crate::shown::Shown;
 use crate::window::Patient;
 use flash_volume::{Block, Error, Leave, Meta, Parts, Stage, work_on};
+use named_files::{NewFile, Put, PutAll};
+use named_folder::is_name;
+use named_reading::Refusal;
 use std::alloc::{AllocError, Global};
 use std::cell::Cell;
 use std::fs::{File, FileType, Files};
@@ -19,9 +22,6 @@ use std::io::Write;
 use std::rt::Runtime;
 use std::sync::Wait;
 use std::{fs, io};
-use tool_files::{NewFile, Put, PutAll};
-use tool_folder::is_name;
-use tool_reading::Refusal;
 use tool_syntax::ImageFile;
 
 /// Puts each ordinary file of a folder of the system under its name, in the order of the names, and tells on `out` which were put.

@@ -4,10 +4,10 @@ use crate::limits::ask_numbers;
 use crate::opener::Opener;
 use file_device::FileFault;
 use flash_volume::{Geometry, Leave, Packing, Shape, work_on_new};
+use named_files::MakeFolder;
 use std::fs;
 use std::fs::{File, Files};
 use std::sync::Wait;
-use tool_files::MakeFolder;
 use tool_syntax::Numbers;
 
 /// Makes an image file with a volume without files. Where that fails, no file is left.

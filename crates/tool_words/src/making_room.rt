@@ -4,9 +4,9 @@ ghost use Rattle.device.specs.Parts.{IsBlockRun};
 
 use crate::fault::Fault;
 use flash_volume::{Block, Error, Leave, Meta, Parts, work_on};
+use named_files::{Append, DeleteFile, Put, Remove, Rename, work_making_room};
+use named_reading::Refusal;
 use std::sync::Wait;
-use tool_files::{Append, DeleteFile, Put, Remove, Rename, work_making_room};
-use tool_reading::Refusal;
 
 /// Puts a file. Where there is no room, room is made, and then it is tried once more. The parts come back.
 pub fn put_making_room<M: Meta + Drop, B: Block + Drop, R: AllocGlobal + Wait>(

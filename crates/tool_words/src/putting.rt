@@ -6,14 +6,14 @@ use crate::making_room::{append_making_room, put_making_room};
 use crate::opener::Opener;
 use flash_volume::Error;
 use image_reading::ReadFault;
+use named_files::{Append, Put};
+use named_folder::is_name;
+use named_reading::Refusal;
 use std::fs::{File, Files};
 use std::io::Read;
 use std::rt::Runtime;
 use std::sync::Wait;
 use std::time::Clock;
-use tool_files::{Append, Put};
-use tool_folder::is_name;
-use tool_reading::Refusal;
 use tool_syntax::ImageFile;
 
 /// A file that was put: its number, and how many bytes it has.

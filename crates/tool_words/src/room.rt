@@ -6,12 +6,12 @@ use crate::shown::Shown;
 use flash_volume::{Geometry, usable_blocks};
 use image::Image;
 use image_reading::length_of;
+use named_files::kept_for_folder;
+use named_folder::FOLDER;
 use serde::Serialize;
 use std::fs::{File, Files};
 use std::io::Write;
 use std::time::Clock;
-use tool_files::kept_for_folder;
-use tool_folder::FOLDER;
 use tool_syntax::ImageFile;
 
 /// The room of a volume in bytes.

@@ -7,13 +7,13 @@ use crate::room::{bytes_of, room_of};
 use crate::shown::Shown;
 use flash_volume::{Geometry, Packing};
 use image::Image;
+use named_folder::{Entry, FOLDER};
+use named_reading::Listing;
 use serde::Serialize;
 use std::alloc::Global;
 use std::fs::{File, Files};
 use std::io::Write;
 use std::time::Clock;
-use tool_folder::{Entry, FOLDER};
-use tool_reading::Listing;
 use tool_syntax::ImageFile;
 use unicode_width::UnicodeWidthStr;
 

@@ -3,10 +3,10 @@ use crate::fault::Fault;
 use crate::image_run::open_volume;
 use crate::new_file::NewFile;
 use flash_volume::Geometry;
-use image_upgrade::upgrade;
+use image_reading::upgrade;
+use named_reading::OpenVolume;
 use std::fs::{File, Files};
 use std::time::Clock;
-use tool_reading::OpenVolume;
 use tool_syntax::ImageFile;
 
 /// Writes the volume of an image file, which is not changed, into a new image file of format 3, and answers the new volume's numbers.

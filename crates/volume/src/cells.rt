@@ -4,7 +4,7 @@ ghost use Rattle.std.specs.Prelude.{◌≡◌, ◌≤◌, vec_len, vec_capacity}
 use area_emptying::Spare;
 use device::Block;
 use rights_books::FileAccount;
-use rights_names::VolumeName;
+use rights_permits::VolumeName;
 
 /// Room for all that lies in a volume's locks.
 pub struct SpareCell<V: VolumeName, B: Block + Drop> {

@@ -8,10 +8,10 @@ ghost use Rattle.rights_permits.specs.Turns.{at_home};
 
 use crate::volume::Volume;
 use device::{Block, Meta};
-use file_cells::FilePass;
+use file_cells::{FilePass, NewBlock};
 use geometry::{Error, Kind};
 use rights_books::Permit;
-use rights_names::VolumeName;
+use rights_permits::VolumeName;
 use std::sync::Wait;
 
 impl<V: VolumeName, M: Meta, B: Block + Drop> Volume<V, M, B> {
@@ -76,7 +76,12 @@ impl<V: VolumeName, M: Meta, B: Block + Drop> Volume<V, M, B> {
         }
         let number = pass.number();
         let mut permit = self.area.turnstile().enter_by(rt, number)?;
-        let done = self.write_by(rt, &mut permit.hand, pass, index, bytes, now);
+        let block = NewBlock {
+            index,
+            bytes,
+            time: now,
+        };
+        let done = self.write_by(rt, &mut permit.hand, pass, &block);
         self.area.turnstile().leave_by(rt, number, permit);
         done
     }
@@ -86,20 +91,18 @@ impl<V: VolumeName, M: Meta, B: Block + Drop> Volume<V, M, B> {
         rt: &R,
         hand: &mut Permit,
         pass: &mut FilePass<V>,
-        index: u32,
-        bytes: &[u8],
-        now: u64,
+        block: &NewBlock<'_>,
     ) -> Result<(), Error>
         requires hand { hand.old ≡ at_home V.Books.books.book }
-        requires inside { index < largest_length V.Numbers.geometry.shape }
-        requires bytes { length bytes.now ≡ block_bytes V.Numbers.geometry.shape }
+        requires inside { block.now.index < largest_length V.Numbers.geometry.shape }
+        requires bytes { length block.now.bytes.now ≡ block_bytes V.Numbers.geometry.shape }
         ensures hand { hand.new ≡ hand.old }
-        ensures file { OnOk result (pass.new ≡ record pass.old { file = written pass.old.file index bytes.now }) }
+        ensures file { OnOk result (pass.new ≡ record pass.old { file = written pass.old.file block.now.index block.now.bytes.now }) }
         ensures err { OnErr result (pass.new ≡ pass.old) }
         ensures error { IfErr result (λ error. (error ≡ NoMemory) ⊎ ((error ≡ NoNode) ⊎ ((error ≡ NoSpace) ⊎ (error ≡ Device)))) }
     {
         let mut cell = self.lock_file(rt, pass.number());
-        cell.write(rt, self.alloc, &self.area, hand, pass, index, bytes, now)
+        cell.write(rt, self.alloc, &self.area, hand, pass, block)
     }
 
     /// Cuts a file: its length becomes the lesser of `length`, in blocks, and itself, and what stood at or past it is given

@@ -10,7 +10,7 @@ use cleaning::{Cleaned, Fate, Files, Policy, clean};
 use device::{Block, Meta};
 use geometry::{Error, Owner};
 use rights_books::Permit;
-use rights_names::VolumeName;
+use rights_permits::VolumeName;
 use std::sync::Wait;
 
 impl<V: VolumeName, M: Meta, B: Block + Drop> Files<V> for Volume<V, M, B> {

@@ -15,9 +15,8 @@ use crate::volume::Volume;
 use checkpoint_image::TakenImage;
 use close_area::{Last, close_area, write_last};
 use device::{Block, Meta, Parts};
-use file_cells::FilePass;
-use file_readers::Seat;
-use rights_names::VolumeName;
+use file_cells::{FilePass, Seat};
+use rights_permits::VolumeName;
 use std::sync::{Mutex, Wait};
 
 /// What a close hands back: the parts of the device, and the image that stands on them.

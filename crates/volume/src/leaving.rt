@@ -12,14 +12,13 @@ ghost use Rattle.volume.specs.Leaving.{IsLeftOut};
 use crate::cells::SpareCell;
 use crate::volume::Volume;
 use area::MainArea;
-use area_emptying::empty_area;
+use area_emptying::OwnedArea;
 use close_area::own_file;
 use device::{Block, Meta, Parts};
-use file_cells::{FileCell, FilePass};
-use file_readers::{Seat, seats_out};
+use file_cells::{FileCell, FilePass, Seat, seats_out};
 use geometry::Error;
 use rights_books::{FileAccount, Permit};
-use rights_names::VolumeName;
+use rights_permits::VolumeName;
 use std::sync::{Mutex, Wait};
 
 /// Why a volume was not left, with all that was handed in.
@@ -146,7 +145,7 @@ pub fn empty_files<V: VolumeName, B: Block + Drop, R: Wait>(
     let SpareCell { rows, accounts } = spare;
     let mut all = area.turnstile().gather(rt);
     let accounts = give_up_files(rt, &area, &mut all.hand, files, accounts);
-    empty_area(rt, area, rows, all, accounts)
+    OwnedArea::own(rt, area, rows).empty(all, accounts)
 }
 
 // All that the files have is given back: their accounts, which have lodged nothing, in the order of their numbers. There is

@@ -1,16 +1,15 @@
 //! The calls that look at the volume and change nothing in it.
 ghost use Rattle.std.specs.Prelude.{◌≡◌, ◌⊎◌, IfOk, IfErr};
 ghost use Rattle.geometry.specs.declared.error.Error.TheVariants.{NoMemory, Device};
-ghost use Rattle.file_readers.specs.Reader.{IsPinned};
-ghost use Rattle.file_readers.specs.Status.{all};
+ghost use Rattle.file_cells.specs.Reader.{IsPinned};
+ghost use Rattle.file_cells.specs.Status.{all};
 
 use crate::volume::Volume;
 use area::CheckpointRoom;
 use device::{Block, Meta};
-use file_cells::FilePass;
-use file_readers::{Reader, Seat, Status, count_states, count_valid};
+use file_cells::{FilePass, Reader, Seat, Status, count_states, count_valid};
 use geometry::Error;
-use rights_names::VolumeName;
+use rights_permits::VolumeName;
 use std::sync::Wait;
 
 impl<V: VolumeName, M: Meta, B: Block + Drop> Volume<V, M, B> {

@@ -3,8 +3,7 @@ ghost use Rattle.std.specs.Prelude.{◌≡◌, ◌<◌, IfOk, IfErr};
 ghost use Rattle.geometry.specs.declared.error.Error.TheVariants.{NoMemory};
 
 use geometry::Error;
-use rights_names::{BooksName, WordsName};
-use rights_permits::OpenedTurnstile;
+use rights_permits::{BooksName, OpenedTurnstile, WordsName};
 use std::alloc::Global;
 
 /// The channel of permits, and the two queues for the slips of so many segments. The only error is NoMemory, and then nothing is

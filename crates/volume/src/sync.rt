@@ -15,8 +15,7 @@ use checkpoint_sync::{HeldFile, flush_files, take_volume};
 use device::{Block, Meta};
 use file_cells::FilePass;
 use geometry::Error;
-use rights_names::VolumeName;
-use rights_permits::Auditing;
+use rights_permits::{Auditing, VolumeName};
 use std::sync::Wait;
 
 impl<V: VolumeName, M: Meta, B: Block + Drop> Volume<V, M, B> {
@@ -98,7 +97,14 @@ impl<V: VolumeName, M: Meta, B: Block + Drop> Volume<V, M, B> {
         ensures error { IfErr result (λ error. (error ≡ NoMemory) ⊎ (error ≡ Device)) }
     {
         let taken = take_volume(
-            rt, self.alloc, &self.area, files, auditing, version, passes, unsettled,
+            rt,
+            &self.area,
+            files,
+            auditing,
+            version,
+            passes,
+            &mut packs.body,
+            unsettled,
         )?;
         match packs.store(self.area.words(), taken) {
             Ok(stored) => {

@@ -11,7 +11,7 @@ use checkpoint::PacksCell;
 use device::{Block, Meta};
 use file_cells::{FileCell, FilePass};
 use geometry::{Error, Geometry};
-use rights_names::VolumeName;
+use rights_permits::VolumeName;
 use std::alloc::Global;
 use std::sync::{Mutex, MutexGuard, Wait};
 

@@ -2,7 +2,7 @@
 //!
 //! A volume may go to other threads where each of its five names may: a function that starts threads asks for a `SharedName`. The
 //! names that are picked last are those of the queues and the channel that were just made, which `HaveNames` says in one clause.
-use rights_names::VolumeName;
+use rights_permits::VolumeName;
 /// Names all tables of one volume, and is one that threads may tell each other.
 pub trait SharedName: VolumeName<
     Books: Send + Sync,

@@ -1,6 +1,9 @@
 -- The settled pack spells the tables of the empty image, whose node table names nothing to read: so whatever a crash
 -- leaves, the pack counts and the superblock in front stands.
-use Rattle.std.proofs.Common.{◌≡◌, refl, sym, ◌∙◌, ap, subst, ℕ, zero, suc, List, ◌∷◌, map, length, replicate, arith}
+use Rattle.std.proofs.Common.{◌≡◌, refl, sym, ◌∙◌, ap, subst, ℕ, zero, suc, List, ◌∷◌, map, length, replicate, Bool, true, arith}
+use Rattle.std.proofs.lemmas.Bool.{false≢true}
+use Rattle.std.specs.Prelude.{Result, Ok, Err, OnOk}
+use Rattle.std.specs.Result.{is_ok}
 use Rattle.device.specs.Disk.{Leaves}
 use Rattle.geometry.specs.declared.geometry.Geometry.{Geometry}
 use Rattle.geometry.specs.declared.shape.Shape.{Shape}
@@ -13,12 +16,12 @@ use Rattle.packs.specs.Parts.{body_bytes}
 use Rattle.packs.specs.Device.{AreSettled, IsSameArea}
 use Rattle.packs.specs.Pack.{IsSettled}
 use Rattle.packs.specs.declared.packs.Packs.{Packs}
-use Rattle.packs_format.proofs.Bodies.{body_version, settled_area_holds}
-use Rattle.packs_format.proofs.Parts.{long_as_a_body}
-use Rattle.packs_format.proofs.SuperLemmas.{super_stays}
+use Rattle.pack_tables.proofs.Bodies.{body_version, settled_area_holds}
+use Rattle.pack_tables.proofs.Parts.{long_as_a_body}
+use Rattle.pack_tables.proofs.SuperLemmas.{super_stays}
 use Rattle.image.specs.Slots.{version_of}
-use Rattle.packs_format.specs.Grammar.{HasSuper, SpellsTables}
-use Rattle.packs_format.specs.Holding.{HoldsTables}
+use Rattle.pack_tables.specs.Grammar.{HasSuper, SpellsTables}
+use Rattle.pack_tables.specs.Holding.{HoldsTables}
 
 -- a table of zeros names no node
 none_read : (shape : Shape) (blocks : ℕ → Block) (n : ℕ) → replicate n no_node ≡ read_nodes shape blocks (replicate n no_entry)
@@ -34,6 +37,11 @@ first_version geometry body spelled = ap version_of spelled.1 ∙ body_version g
 
 pub first_long : (geometry : Geometry) (body : List ℕ) → SpellsTables geometry body (empty_image geometry) → length body ≡ body_bytes geometry
 first_long geometry body spelled = long_as_a_body geometry body (empty_image geometry) spelled
+
+-- what an answer says of Ok holds where it is none
+pub where_ok : {T E P : Type 0} (r : Result T E) → is_ok r ≡ true → OnOk r P → P
+where_ok (Ok x) is said = said
+where_ok (Err e) is said = absurd (false≢true is)
 
 -- whatever a crash leaves of settled packs, the superblock in front of them stands
 pub front_left : {D : Type 0} (seen : D → List ℕ) (may_leave : D → List ℕ → Type 0) (geometry : Geometry) (packs : Packs D) (body area : List ℕ)

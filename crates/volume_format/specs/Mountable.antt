@@ -7,9 +7,9 @@ use Rattle.geometry.specs.declared.geometry.Geometry.{Geometry}
 use Rattle.image.specs.Image.{Image}
 use Rattle.image.specs.Reading.{read_nodes}
 use Rattle.image.specs.Rules.{IsLawful}
-use Rattle.packs_format.specs.Holding.{HoldsTables}
+use Rattle.pack_tables.specs.Holding.{HoldsTables}
 use Rattle.image_codec.specs.Blocks.{bytes_at}
-use Rattle.packs_format.specs.Grammar.{HasSuper}
+use Rattle.pack_tables.specs.Grammar.{HasSuper}
 
 -- The parts have the size of the geometry. Whatever crash comes, the superblock spells the geometry, and the pack that counts
 -- spells the image's tables. The nodes that the tables name in the main blocks are the image's, and it keeps all ten rules.

@@ -2,11 +2,11 @@
 ghost use Rattle.std.specs.Prelude.{◌≡◌, ◌≤◌, length, OnOk};
 ghost use Rattle.geometry.specs.Area.{meta_bytes};
 ghost use Rattle.device.specs.Disk.{HasCause};
-ghost use Rattle.packs_format.specs.Grammar.{HasSuper};
+ghost use Rattle.pack_tables.specs.Grammar.{HasSuper};
 
 use device::{DeviceError, Meta};
 use geometry::Geometry;
-use packs_format::write_super;
+use pack_tables::write_super;
 
 // So many zeros are written at once.
 const CHUNK: u64 = 4096;

@@ -6,15 +6,15 @@ ghost use Rattle.volume_format.specs.Mountable.{IsMountable};
 ghost use Rattle.geometry.specs.Area.{meta_bytes};
 ghost use Rattle.geometry.specs.declared.error.Error.TheVariants.{NoMemory, Device};
 ghost use Rattle.image.specs.Empty.{empty_image};
-ghost use Rattle.packs_format.specs.Grammar.{HasSuper, SpellsTables};
-ghost use Rattle.packs_format.specs.Holding.{HoldsTables};
+ghost use Rattle.pack_tables.specs.Grammar.{HasSuper, SpellsTables};
+ghost use Rattle.pack_tables.specs.Holding.{HoldsTables};
 
 use crate::front::write_front;
 use device::{Block, Meta, Parts};
 use geometry::{Error, Geometry};
 use image::Image;
+use pack_tables::encode;
 use packs::Packs;
-use packs_format::encode;
 use std::alloc::Global;
 
 /// Why a device was not formatted, with the device.

@@ -10,10 +10,10 @@ use Rattle.image.specs.Rules.{IsLawful, IsLeastFault}
 use Rattle.packs.specs.Area.{reading_of}
 use Rattle.packs.specs.Pack.{picked}
 use Rattle.image_codec.specs.Blocks.{bytes_at}
-use Rattle.packs_format.specs.Holding.{HoldsTables}
+use Rattle.pack_tables.specs.Holding.{HoldsTables}
 use Rattle.mount_reading.specs.Held.{IsPartsRefusal, IsPartsFault, IsBodyFault}
-use Rattle.packs_format.specs.OneImage.{HoldVolume}
-use Rattle.packs_format.proofs.Same.{one_geometry, one_image}
+use Rattle.pack_tables.specs.OneImage.{HoldVolume}
+use Rattle.pack_tables.proofs.Same.{one_geometry, one_image}
 use Rattle.volume_law.specs.Lawful.{HoldsLawfulVolume}
 
 some_same : {A : Type 0} (x y : A) → Some x ≡ Some y → x ≡ y
@@ -30,7 +30,7 @@ module _ {M B : Type 0} (seen : M → List ℕ) (address_of : B → ℕ) (conten
   no_body_fault : (body : List ℕ) (fault : ℕ) → picked (reading_of geometry) (seen parts.meta) ≡ Some body
       → IsBodyFault geometry body (bytes_at content_of parts.blocks.items) fault → ⊥
   no_body_fault body fault counts (inl (one, none)) =
-      none image (subst (λ b. Rattle.packs_format.specs.Grammar.SpellsTables geometry b image) (some_same is.held.tables.body body (sym is.held.tables.picked ∙ counts)) is.held.tables.spelled)
+      none image (subst (λ b. Rattle.pack_tables.specs.Grammar.SpellsTables geometry b image) (some_same is.held.tables.body body (sym is.held.tables.picked ∙ counts)) is.held.tables.spelled)
   no_body_fault body fault counts (inr (other, spelled, nodes, least)) =
       let tables : HoldsTables geometry other (seen parts.meta) = record { body = body; picked = counts; spelled = spelled } in
       let held : HoldVolume geometry other (seen parts.meta) (bytes_at content_of parts.blocks.items) = record { front = is.held.front; tables = tables; nodes = nodes } in

@@ -9,9 +9,9 @@ use Rattle.image.specs.Reading.{image_in, read_nodes}
 use Rattle.image.specs.Rules.{IsLawful}
 use Rattle.image.proofs.Frame.{same_image, same_files}
 use Rattle.image_codec.specs.Blocks.{bytes_at}
-use Rattle.packs_format.specs.Holding.{HoldsTables}
-use Rattle.packs_format.specs.OneImage.{HoldVolume}
-use Rattle.packs_format.proofs.RoundTrip.{spelled_back}
+use Rattle.pack_tables.specs.Holding.{HoldsTables}
+use Rattle.pack_tables.specs.OneImage.{HoldVolume}
+use Rattle.pack_tables.proofs.RoundTrip.{spelled_back}
 use Rattle.volume_format.specs.Mountable.{IsMountable}
 use Rattle.volume_law.specs.Lawful.{HoldsLawfulVolume}
 use Rattle.volume_law.specs.Found.{IsFound}

@@ -5,7 +5,7 @@ use Rattle.device.specs.declared.parts.Parts.{Parts}
 use Rattle.geometry.specs.declared.geometry.Geometry.{Geometry}
 use Rattle.image.specs.Image.{Image, is_marked}
 use Rattle.image_codec.specs.Blocks.{bytes_at}
-use Rattle.packs_format.specs.Holding.{HoldsTables}
+use Rattle.pack_tables.specs.Holding.{HoldsTables}
 
 -- A meta area with bytes that a crash may have left, and blocks of which each that its tables mark as valid holds what it held.
 -- Of the others nothing is asked: whoever opens an image file need not read them.

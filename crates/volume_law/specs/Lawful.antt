@@ -6,7 +6,7 @@ use Rattle.geometry.specs.declared.geometry.Geometry.{Geometry}
 use Rattle.image.specs.Image.{Image}
 use Rattle.image.specs.Rules.{IsLawful}
 use Rattle.image_codec.specs.Blocks.{bytes_at}
-use Rattle.packs_format.specs.OneImage.{HoldVolume}
+use Rattle.pack_tables.specs.OneImage.{HoldVolume}
 
 -- The parts have the size of a volume, the image that they hold is lawful, and its nodes stand in the blocks.
 pub record HoldsLawfulVolume {M B : Type 0} (seen : M → List ℕ) (address_of : B → ℕ) (content_of : B → List ℕ) (geometry : Geometry) (image : Image) (parts : Parts M B) : Type 0 where

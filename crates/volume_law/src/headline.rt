@@ -8,7 +8,7 @@ ghost use Rattle.mount_reading.specs.Held.{HoldsImage};
 ghost use Rattle.file_cells.specs.Pass.{Pass};
 ghost use Rattle.volume_format.specs.Mountable.{IsMountable};
 ghost use Rattle.image_codec.specs.Blocks.{bytes_at};
-ghost use Rattle.packs_format.specs.Grammar.{HasSuper};
+ghost use Rattle.pack_tables.specs.Grammar.{HasSuper};
 ghost use Rattle.close_area.specs.Shown.{AreShown};
 ghost use Rattle.volume_law.specs.Found.{IsFound};
 

@@ -11,7 +11,7 @@ ghost use Rattle.image.specs.Files.{files};
 ghost use Rattle.image.specs.Image.{Image};
 ghost use Rattle.volume_law.specs.Found.{IsFound};
 ghost use Rattle.image_codec.specs.Blocks.{bytes_at};
-ghost use Rattle.packs_format.specs.Grammar.{HasSuper};
+ghost use Rattle.pack_tables.specs.Grammar.{HasSuper};
 
 use device::{Block, Meta};
 

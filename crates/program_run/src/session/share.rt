@@ -11,7 +11,7 @@ use device::{Block, Meta};
 use flash_volume::Lent;
 use geometry::Error;
 use program_script::Task;
-use rights_names::VolumeName;
+use rights_permits::VolumeName;
 
 impl<'a, V: VolumeName, M: Meta, B: Block + Drop> Session<'a, V, M, B> {
     /// A session over the same volume at the same time, to which the passes of the files and the readers move that these tasks

@@ -1,4 +1,5 @@
 //! What is done on the threads of a race, and the look at what it left.
+use crate::room_left::write_if_room;
 use device::{Block, Meta};
 use flash_volume::{FilePass, Kind, Rights, Volume, VolumeName, Work};
 use geometry::Error;
@@ -147,11 +148,10 @@ fn write_once<V: VolumeName, M: Meta, B: Block + Drop, R: Wait>(
     block: &[u8],
 ) -> Result<bool, Error> {
     for _look in 0..LIMIT {
-        match volume.write(rt, pass, index, block, 0) {
-            Ok(()) => return Ok(true),
-            Err(Error::NoSpace) => thread::yield_now(),
-            Err(error) => return Err(error),
+        if write_if_room(rt, volume, pass, index, block)? {
+            return Ok(true);
         }
+        thread::yield_now();
     }
     Ok(false)
 }

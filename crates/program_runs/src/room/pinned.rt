@@ -1,6 +1,7 @@
 //! A volume whose segments are held by readers: a write is refused by name, a checkpoint and a clean are not, nothing is lost, and writing
 //! goes on once the readers are done.
 use crate::room::filled::Filled;
+use crate::room_left::write_if_room;
 use crate::users::held::Held;
 use crate::users::player::Player;
 use device::{Block, Meta};
@@ -188,10 +189,8 @@ pub fn write<V: VolumeName, M: Meta, B: Block + Drop, R: Wait>(
         let Some(pass) = rights.passes.get_mut(file) else {
             return Ok(false);
         };
-        match volume.write(rt, pass, index, block.as_slice(), 0) {
-            Ok(()) => return Ok(true),
-            Err(Error::NoSpace) => {}
-            Err(error) => return Err(error),
+        if write_if_room(rt, volume, pass, index, block.as_slice())? {
+            return Ok(true);
         }
         let wanted = volume.status(rt).free.saturating_add(1);
         let _stored = volume.sync(rt, &[])?;

@@ -1,4 +1,5 @@
 //! What a user does on a volume between two mounts.
+use crate::room_left::write_if_room;
 use crate::users::held::{Held, has_tags};
 use device::{Block, Meta};
 use flash_volume::{
@@ -49,6 +50,15 @@ impl Counts {
         self.mounts = self.mounts.saturating_add(others.mounts);
         self.wrong = self.wrong.saturating_add(others.wrong);
     }
+}
+
+// Blocks of a file that a user writes, one after another from an index on, with the tag that they show.
+#[derive(Clone, Copy)]
+struct BlockRun {
+    file: usize,
+    index: u32,
+    count: u32,
+    tag: u32,
 }
 
 /// A user with what it came to. It is a work on a volume, up to the next mount, that answers itself.
@@ -185,7 +195,13 @@ impl Player {
                 count,
                 tag,
             } => {
-                let written = self.write(rt, alloc, volume, rights, held, file, index, count, tag)?;
+                let run = BlockRun {
+                    file,
+                    index,
+                    count,
+                    tag,
+                };
+                let written = self.write(rt, alloc, volume, rights, held, run)?;
                 return Ok(Deed::Write {
                     file,
                     index,
@@ -234,25 +250,20 @@ impl Player {
         volume: &'v Volume<V, M, B>,
         rights: &mut Rights<V>,
         held: &mut Vec<Held<'v, V, B>>,
-        file: usize,
-        index: u32,
-        most: u32,
-        tag: u32,
+        run: BlockRun,
     ) -> Result<u32, Error> {
-        let size = volume.geometry().shape.block_bytes() as usize;
-        for done in 0..most {
-            let at = index.saturating_add(done);
-            let block = tagged_block(alloc, tag, at, size)?;
+        for done in 0..run.count {
+            let index = run.index.saturating_add(done);
             increment(&mut self.counts.writes);
-            if !self.write_one(rt, alloc, volume, rights, held, file, at, block.as_slice())? {
+            if !self.write_one(rt, alloc, volume, rights, held, run, index)? {
                 increment(&mut self.counts.refused);
                 return Ok(done);
             }
         }
-        Ok(most)
+        Ok(run.count)
     }
 
-    // Writes a block, and answers whether it found room. Where it finds none, some is made.
+    // Writes the block of a run at an index, and answers whether it found room. Where it finds none, some is made.
     fn write_one<'v, V: VolumeName, M: Meta, B: Block + Drop, R: Wait>(
         &mut self,
         rt: &R,
@@ -260,18 +271,17 @@ impl Player {
         volume: &'v Volume<V, M, B>,
         rights: &mut Rights<V>,
         held: &mut Vec<Held<'v, V, B>>,
-        file: usize,
+        run: BlockRun,
         index: u32,
-        block: &[u8],
     ) -> Result<bool, Error> {
+        let size = volume.geometry().shape.block_bytes() as usize;
+        let block = tagged_block(alloc, run.tag, index, size)?;
         for try_number in 0..TRIES {
-            let Some(pass) = rights.passes.get_mut(file) else {
+            let Some(pass) = rights.passes.get_mut(run.file) else {
                 return Ok(false);
             };
-            match volume.write(rt, pass, index, block, 0) {
-                Ok(()) => return Ok(true),
-                Err(Error::NoSpace) => {}
-                Err(error) => return Err(error),
+            if write_if_room(rt, volume, pass, index, block.as_slice())? {
+                return Ok(true);
             }
             match try_number {
                 0 => {

@@ -8,9 +8,9 @@ use flash_volume::{
     Block, Geometry, Leave, MemBlock, MemDevice, MemMeta, Packing, Parts, Shape, work_on,
     work_on_new,
 };
+use named_files::MakeFolder;
 use std::io::Write;
 use std::sync::{Arc, Wait};
-use tool_files::MakeFolder;
 use tool_words::Fault;
 
 // The bytes that are put.

@@ -4,11 +4,11 @@ use super::scene::{
     FILE, OLD_BYTES, OTHER, OTHER_BYTES, Recording, Scene, is, mounted, read, worked,
 };
 use flash_volume::{Leave, Packing, work_on};
+use named_files::{DeleteFile, Remove};
+use named_folder::row_at;
+use named_reading::OpenVolume;
 use std::alloc::Global;
 use std::sync::Wait;
-use tool_files::{DeleteFile, Remove};
-use tool_folder::row_at;
-use tool_reading::OpenVolume;
 use tool_words::Fault;
 
 /// How many states have the file, how many its name alone, which a next removal takes away, how many neither, and how many are bad: the

@@ -9,10 +9,10 @@ use flash_volume::{
     Block, Error, Geometry, Leave, MemDevice, Packing, Parts, Policy, Shape, Work, work_on,
     work_on_new,
 };
+use named_files::{Clean, MakeFolder, Put};
+use named_reading::OpenVolume;
 use std::alloc::{AllocError, Global};
 use std::sync::Wait;
-use tool_files::{Clean, MakeFolder, Put};
-use tool_reading::OpenVolume;
 use tool_words::Fault;
 
 /// The file that nobody touches.

@@ -4,6 +4,7 @@ use super::output::{Limit, Output};
 use super::text::{word_at, words_of};
 use file_device::open_image;
 use flash_volume::{Leave, work_on};
+use named_files::DeleteFile;
 use std::alloc::Global;
 use std::fs::{File, Files, OpenOptions, Permissions};
 use std::io::Write;
@@ -12,7 +13,6 @@ use std::rt::Runtime;
 use std::sync::Wait;
 use std::thread::Threads;
 use std::{fs, io};
-use tool_files::DeleteFile;
 use tool_words::{FileOpener, Screen, run_words};
 
 /// The input of the next words, and the file that is locked.

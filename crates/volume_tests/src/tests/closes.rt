@@ -9,7 +9,7 @@ use super::watched::{Watch, watch_device};
 use device::Fuse;
 use flash_volume::{Block, Error, FilePass, Kind, Meta, Parts, Seat, Volume, VolumeName};
 use mount::{Mounted, MountedQueues, mount};
-use rights_names::{BooksOf, NumbersOf, PoolName, TablesName, TurnName, WordsOf};
+use rights_permits::{BooksOf, NumbersOf, PoolName, TablesName, TurnName, WordsOf};
 use std::alloc::Global;
 use std::marker::Brand;
 use std::process::Abort;
@@ -101,6 +101,7 @@ fn on_mounted<K: TablesName, M: Meta, B: Block + Drop, R: Wait + Abort>(
     fuse: &Fuse,
 ) -> Parts<M, B>
     requires books { mounted.books ≡ K.books }
+    requires rows { mounted.rows ≡ K.rows }
     requires words { mounted.words ≡ K.words }
     requires geometry { mounted.geometry ≡ K.geometry }
 {

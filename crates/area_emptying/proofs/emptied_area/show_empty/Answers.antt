@@ -17,6 +17,7 @@ use Rattle.nat.specs.Shard.{ShardNodes}
 use Rattle.sit.specs.Registered.{Registered}
 use Rattle.sit.specs.Segment.{marks_of}
 use Rattle.sit.proofs.Marks.{marks_count}
+use Rattle.checkpoint_image.proofs.Learned.{no_files_yet}
 use Rattle.area_emptying.specs.Rows.{AreSegments}
 use Rattle.area_emptying.proofs.Nothing.{stands_at, weigh_none, lodged_few}
 use Rattle.area_emptying.proofs.emptied_area.show_empty.Goals as goal
@@ -39,11 +40,8 @@ learn_shards-requires-clause-shards g c =
 
 pub learn_files-requires-clause-none : goal.learn_files-requires-clause-none
 learn_files-requires-clause-none g c =
-    let shards : List ShardNodes = map (λ s. s) c.args.shards.now.items in
-    let empty : weigh (file_copy (λ n. 1)) c.args.audit.now.copies ≡ 0 = ap (λ (v : CensusView). weigh (file_copy (λ n. 1)) v.copies) c.requires.audit in
-    let a = c.learn_segments.ensures.audit.others (file_copy (λ n. 1)) (λ n marks. refl) in
-    let b = c.learn_shards.ensures.audit.copies (file_copy (λ n. 1)) in
-    let none = weigh_nothing shards in omega arith
+    no_files_yet (map (λ s. s) c.args.segments.now.items) (map (λ s. s) c.args.shards.now.items) c.args.audit.now c.learn_segments.new.audit c.learn_shards.new.audit
+    c.learn_segments.ensures.audit c.learn_shards.ensures.audit (ap (λ (v : CensusView). weigh (file_copy (λ n. 1)) v.copies) c.requires.audit)
 
 pub settle-requires-clause-complete : goal.settle-requires-clause-complete
 settle-requires-clause-complete g c =

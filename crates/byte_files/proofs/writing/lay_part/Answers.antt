@@ -1,4 +1,4 @@
-use Rattle.std.proofs.Common.{◌≡◌, ◌∙◌, ◌+◌, ◌*◌, ℕ, length, ap, sym, subst, arith}
+use Rattle.std.proofs.Common.{◌∙◌, ◌+◌, ◌*◌, ℕ, ap, sym, subst}
 use Rattle.geometry.specs.File.{File, written}
 use Rattle.geometry.specs.Shape.{block_bytes}
 use Rattle.file_cells.specs.Pass.{Pass}
@@ -6,22 +6,11 @@ use Rattle.flash_volume.specs.Answers.{laid_over}
 use Rattle.byte_files.specs.Calls.{IsWrittenAt}
 use Rattle.byte_files.proofs.Blocks.{block_of_is}
 use Rattle.byte_files.proofs.Results.{on_ok}
-use Rattle.byte_files.proofs.Writes.{part_written, whole_written}
+use Rattle.byte_files.proofs.Writes.{part_written}
 use Rattle.byte_files.proofs.writing.lay_part.Goals as goal
 
-pub returns-then-bytes-block-clause-written : goal.returns-then-bytes-block-clause-written
-returns-then-bytes-block-clause-written g c =
-    let size : ℕ = block_bytes g.V.Numbers.GeometryName.geometry.shape in
-    let old : File = c.args.pass.now.file in
-    let law = c.blocks_law.ensures in
-    let all : length c.args.bytes.now ≡ size = let same = c.if-bytes-block.true in let block = c.requires.block in omega (arith, same, block) in
-    on_ok c.write.result _ _
-    (λ is. subst (λ (f : File). IsWrittenAt size (c.args.index * size + c.args.from) c.args.bytes.now old f) (sym (ap (λ (p : Pass). p.file) is))
-    (whole_written size old c.args.index c.args.from c.args.bytes.now law.whole law.within c.requires.within c.requires.some all))
-    c.write.ensures.file
-
-pub returns-else-bytes-block-clause-written : goal.returns-else-bytes-block-clause-written
-returns-else-bytes-block-clause-written g c =
+pub returns-clause-written : goal.returns-clause-written
+returns-clause-written g c =
     let size : ℕ = block_bytes g.V.Numbers.GeometryName.geometry.shape in
     let old : File = c.args.pass.now.file in
     let law = c.blocks_law.ensures in

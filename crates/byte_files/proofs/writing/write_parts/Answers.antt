@@ -24,8 +24,8 @@ parts-preserved g c =
       search rules,
       more_written size c.args.at done part.size (part.index * size + part.from) bytes c.args.pass.now.file now new c.parts.invariant.2 (length-take-le done bytes low) here
           (subst (λ n. IsWrittenAt size (part.index * size + part.from) (take n (drop done bytes)) now new) count step),
-      search rules,
-      search rules,
+      c.lay_part.ensures.same.0 ∙ c.parts.invariant.3,
+      c.lay_part.ensures.same.1 ∙ c.parts.invariant.4,
     )
   where
     behind : (a b : ℕ) → a + b - a ≡ b

@@ -7,15 +7,13 @@ use Rattle.rights_books.specs.Weights.{segment_copy, file_copy, shard_copy, mark
 use Rattle.rights_books.specs.Accounts.{CensusView}
 use Rattle.rights_books.specs.declared.claim.Copied.{Copied}
 use Rattle.rights_books.proofs.Learning.{weigh_nothing, weigh_ones}
+use Rattle.checkpoint_image.proofs.Learned.{no_files_yet}
 use Rattle.checkpoint_image.proofs.audit.learn_all.Goals as goal
 
 pub learn_files-requires-clause-none : goal.learn_files-requires-clause-none
 learn_files-requires-clause-none g c =
-    let shards = map g.H.HoldsShard.shown c.args.shards.now.items in
-    let empty : weigh (file_copy (λ n. 1)) c.args.audit.now.copies ≡ 0 = ap (λ (v : CensusView). weigh (file_copy (λ n. 1)) v.copies) c.requires.audit in
-    let a = c.learn_segments.ensures.audit.others (file_copy (λ n. 1)) (λ n marks. refl) in
-    let b = c.learn_shards.ensures.audit.copies (file_copy (λ n. 1)) in
-    let none = weigh_nothing shards in omega arith
+    no_files_yet (map g.S.HoldsSegment.shown c.args.segments.now.items) (map g.H.HoldsShard.shown c.args.shards.now.items) c.args.audit.now c.learn_segments.new.audit c.learn_shards.new.audit
+    c.learn_segments.ensures.audit c.learn_shards.ensures.audit (ap (λ (v : CensusView). weigh (file_copy (λ n. 1)) v.copies) c.requires.audit)
 
 pub settle-requires-clause-complete : goal.settle-requires-clause-complete
 settle-requires-clause-complete g c =

@@ -1,7 +1,7 @@
 -- What is lodged is in hand for the flush, which leaves there what the file has then: lodged again it is the file's,
 -- and the hand is as empty as it came.
 use Rattle.std.proofs.Common.{ap, sym, ◌∙◌}
-use Rattle.rights_claims.specs.Rules.{Ruled}
+use Rattle.rights_books.specs.ClaimRules.{Ruled}
 use Rattle.rights_books.specs.declared.claim.Layout.{Layout}
 use Rattle.rights_books.specs.Accounts.{FileView, HandView}
 use Rattle.nodes.specs.Held.{no_others}

@@ -1,7 +1,18 @@
-use Rattle.std.proofs.Common.{◌≡◌, length, arith}
+use Rattle.std.proofs.Common.{◌≡◌, ℕ, ◌+◌, length, arith}
+use Rattle.std.specs.Prelude.{Some}
+use Rattle.atomic_table.specs.Seated.{TableId}
+use Rattle.rights_books.specs.PartRow.{PartName}
+use Rattle.sit.specs.Registered.{Registered}
 use Rattle.checkpoint_sync.specs.LocksHeld.{IsHeldSegment}
 use Rattle.checkpoint_sync.proofs.Turns.{push_more}
 use Rattle.checkpoint_sync.proofs.locking.lock_segments.Goals as goal
+
+abbrev part_of : TableId → ℕ → PartName
+part_of rows number = record { book = rows; number = number }
+
+-- a segment of this part of the rows
+abbrev IsPart : TableId → ℕ → Registered → Type 0
+IsPart rows k r = r.part ≡ Some (part_of rows k)
 
 pub loop-number-preserved : goal.loop-number-preserved
 loop-number-preserved g c =
@@ -13,5 +24,6 @@ loop-number-preserved g c =
       count = (let more = c.push_reserved.ensures.len in omega arith);
       room = (let same = c.push_reserved.ensures.capacity in let room = c.loop-number.invariant.room in omega arith);
       are = push_more (IsHeldSegment g.V.Numbers.GeometryName.geometry g.V.Books.BooksName.books.book g.V.Words.WordsName.words) old c.push_reserved.new.self.items c.lock.result c.loop-number.number
-          c.push_reserved.ensures.items as_long c.loop-number.invariant.are c.lock.ensures;
+          c.push_reserved.ensures.items as_long c.loop-number.invariant.are c.lock.ensures.held;
+      parts = push_more (IsPart g.V.Books.BooksName.rows) old c.push_reserved.new.self.items c.lock.result c.loop-number.number c.push_reserved.ensures.items as_long c.loop-number.invariant.parts c.lock.ensures.part;
     }

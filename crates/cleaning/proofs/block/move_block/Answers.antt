@@ -10,7 +10,7 @@ use Rattle.nodes.proofs.Files.{shows_file_of}
 use Rattle.nodes.proofs.Useful.{useful_some}
 use Rattle.nodes_law.specs.Law.{FileStateLaw}
 use Rattle.nodes_law.proofs.Lasting.{law_put}
-use Rattle.file_calls.specs.Contents.{IsStored, InHand, Serves}
+use Rattle.nodes_law.specs.Contents.{IsStored, InHand, Serves}
 use Rattle.cleaning.specs.Moves.{MovesAt}
 use Rattle.cleaning.proofs.Served.{served_stays}
 use Rattle.cleaning.proofs.Moving.{block_serves, block_file, block_there, block_moved, read_there, some_ticket, way_there, valid_owner}

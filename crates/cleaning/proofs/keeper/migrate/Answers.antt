@@ -1,6 +1,6 @@
 use Rattle.std.proofs.Common.{◌≡◌, ap, sym, subst}
 use Rattle.std.specs.Prelude.{IfOk}
-use Rattle.tree.proofs.Results.{if_ok}
+use Rattle.nodes.proofs.TreeResults.{if_ok}
 use Rattle.nodes.specs.File.{weight_of}
 use Rattle.cleaning.specs.Moves.{HasMoved, IsGone}
 use Rattle.cleaning.specs.declared.fate.Fate.TheVariants.{Moved}

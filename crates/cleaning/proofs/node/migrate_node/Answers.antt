@@ -5,7 +5,7 @@ use Rattle.std.proofs.lemmas.Bool.{cases_Bool}
 use Rattle.geometry.specs.Shape.{block_bytes}
 use Rattle.nodes.specs.File.{weight_of}
 use Rattle.nodes.specs.Useful.{each_node}
-use Rattle.file_calls.proofs.Serving.{same_file}
+use Rattle.nodes_law.proofs.Serving.{same_file}
 use Rattle.cleaning.specs.Moves.{IsMovable}
 use Rattle.cleaning.proofs.Lawful.{law_moved}
 use Rattle.cleaning.proofs.Served.{served_stays}

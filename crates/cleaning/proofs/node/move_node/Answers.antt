@@ -1,5 +1,5 @@
 use Rattle.std.proofs.Common.{length, ap, sym, ◌∙◌, arith}
-use Rattle.file_calls.proofs.Serving.{with_ticket}
+use Rattle.nodes_law.proofs.Serving.{with_ticket}
 use Rattle.cleaning.proofs.Moving.{node_there, node_bytes, node_moves}
 use Rattle.cleaning.proofs.node.move_node.Goals as goal
 

@@ -2,7 +2,7 @@ use Rattle.std.proofs.Common.{ℕ, List}
 use Rattle.checkpoint.specs.Files.{HoldContents}
 use Rattle.nodes.specs.File.{count_of}
 use Rattle.nodes_law.specs.Law.{FileStateLaw}
-use Rattle.file_calls.specs.Contents.{Serves}
+use Rattle.nodes_law.specs.Contents.{Serves}
 use Rattle.area_emptying.specs.Home.{AreAtHome}
 use Rattle.close_area.specs.HeldTokens.{HoldTokens}
 use Rattle.close_area.proofs.file.return_entries.Given as goal

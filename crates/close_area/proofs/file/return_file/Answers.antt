@@ -8,7 +8,7 @@ use Rattle.nodes.specs.Held.{no_others}
 use Rattle.nodes.proofs.Held.{root_there}
 use Rattle.geometry.specs.Shape.{block_bytes}
 use Rattle.nodes_law.specs.Law.{ragged}
-use Rattle.file_calls.proofs.Serving.{less_token, root_whole}
+use Rattle.nodes_law.proofs.Serving.{less_token, root_whole}
 use Rattle.close_area.proofs.Holding.{hold_last, empty_hand}
 use Rattle.close_area.proofs.file.return_file.Goals as goal
 

@@ -1,6 +1,6 @@
 use Rattle.std.proofs.Common.{sym, subst, ◌∙◌}
 use Rattle.geometry.specs.Shape.{block_bytes}
-use Rattle.file_calls.proofs.Serving.{given_there, given_whole, given_none, given_some}
+use Rattle.nodes_law.proofs.Serving.{given_there, given_whole, given_none, given_some}
 use Rattle.area_emptying.specs.Home.{AreAtHome}
 use Rattle.close_area.proofs.Holding.{hold_node, hold_no_node}
 use Rattle.close_area.proofs.node.return_node.Goals as goal

@@ -27,7 +27,7 @@ into_account-requires g c =
     let all : List (CellView g.row.B.Denot g.row.B-Lease.Denot) = c.files.files.items in
     let rest : List (CellView g.row.B.Denot g.row.B-Lease.Denot) = c.pop.new.self.items in
     let n : ℕ = vec_len c.reverse.new.self in
-    record { none = (bare_last n all rest c.in-Some.file c.in-Some.ensures.items c.files.invariant.3).1 }
+    record { none = ap (λ (v : CellView g.row.B.Denot g.row.B-Lease.Denot). v.state) c.into_cell.ensures ∙ (bare_last n all rest c.in-Some.file c.in-Some.ensures.items c.files.invariant.3).1 }
 
 pub files-preserved : goal.files-preserved
 files-preserved g c =
@@ -47,7 +47,7 @@ files-preserved g c =
     let gave = c.into_account.ensures in
     let place : c.in-Some.file.number ≡ length at.accounts.items + 1 = omega arith in
     let here : HasNothing book (length at.accounts.items + 1) c.into_account.result = record {
-      inode_is = gave.inode ∙ place;
+      inode_is = gave.inode ∙ (ap (λ (v : CellView g.row.B.Denot g.row.B-Lease.Denot). v.number) c.into_cell.ensures ∙ place);
       book_is = gave.book;
       no_tickets = gave.tickets;
       no_tokens = gave.tokens;

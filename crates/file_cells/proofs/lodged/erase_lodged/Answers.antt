@@ -1,15 +1,12 @@
 use Rattle.std.proofs.Common.{ap}
-use Rattle.rights_claims.specs.Rules.{Ruled}
+use Rattle.rights_books.specs.ClaimRules.{Ruled}
 use Rattle.rights_books.specs.declared.claim.Layout.{Layout}
-use Rattle.nodes.specs.Held.{no_others}
-use Rattle.file_cells.proofs.Lodging.{lent_book, lent_all, books_again, home_again, account_kept, lodged_again}
+use Rattle.file_cells.proofs.Lodging.{lent_file, books_again, home_again, account_kept, lodged_again}
 use Rattle.file_cells.proofs.lodged.erase_lodged.Goals as goal
 
-pub erase_blocks-requires-clause-book : goal.erase_blocks-requires-clause-book
-erase_blocks-requires-clause-book g c = lent_book g.V.Books.BooksName.books.book c.args.account.now c.args.hand.now c.unlodge_all.new.permit c.requires.hand c.unlodge_all.ensures.permit
-
-pub erase_blocks-requires-clause-held : goal.erase_blocks-requires-clause-held
-erase_blocks-requires-clause-held g c = (no_others, lent_all g.V.Books.BooksName.books.book c.args.account.now c.args.hand.now c.unlodge_all.new.permit c.requires.hand c.unlodge_all.ensures.permit c.args.file.now c.requires.lodged.lodged)
+pub erase_blocks-requires : goal.erase_blocks-requires
+erase_blocks-requires g c =
+    record { file = lent_file g.V.Books.BooksName.books.book c.args.account.now c.args.hand.now c.unlodge_all.new.permit c.requires.hand c.unlodge_all.ensures.permit g.V.Numbers.GeometryName.geometry c.args.file.now c.requires.lodged }
 
 pub lodge_all-requires : goal.lodge_all-requires
 lodge_all-requires g c =

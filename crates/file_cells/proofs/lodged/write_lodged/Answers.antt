@@ -3,7 +3,7 @@
 use Rattle.std.proofs.Common.{◌<◌, ap, sym, subst, ◌∙◌}
 use Rattle.geometry.specs.Path.{largest_length}
 use Rattle.geometry.specs.Shape.{block_bytes}
-use Rattle.rights_claims.specs.Rules.{Ruled}
+use Rattle.rights_books.specs.ClaimRules.{Ruled}
 use Rattle.rights_books.specs.declared.claim.Layout.{Layout}
 use Rattle.nodes.specs.Held.{no_others}
 use Rattle.file_cells.proofs.Lodging.{lent_book, lent_all, books_again, home_again, account_kept, lodged_again}
@@ -13,7 +13,7 @@ pub write_block-done-requires-clause-book : goal.write_block-done-requires-claus
 write_block-done-requires-clause-book g c = lent_book g.V.Books.BooksName.books.book c.args.account.now c.args.hand.now c.unlodge_all.new.permit c.requires.hand c.unlodge_all.ensures.permit
 
 pub write_block-done-requires-clause-inside : goal.write_block-done-requires-clause-inside
-write_block-done-requires-clause-inside g c = subst (λ s. c.args.index < largest_length s) (sym c.requires.lodged.shape_is) c.requires.inside
+write_block-done-requires-clause-inside g c = subst (λ s. c.args.block.now.index < largest_length s) (sym c.requires.lodged.shape_is) c.requires.inside
 
 pub write_block-done-requires-clause-bytes : goal.write_block-done-requires-clause-bytes
 write_block-done-requires-clause-bytes g c = c.requires.bytes ∙ ap block_bytes (sym c.requires.lodged.shape_is)

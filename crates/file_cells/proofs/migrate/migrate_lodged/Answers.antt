@@ -2,9 +2,9 @@
 -- moved in the file was moved in the account.
 use Rattle.std.proofs.Common.{ap, sym, ◌∙◌}
 use Rattle.geometry.specs.Shape.{block_bytes}
-use Rattle.rights_claims.specs.Rules.{Ruled}
+use Rattle.rights_books.specs.ClaimRules.{Ruled}
 use Rattle.rights_books.specs.declared.claim.Layout.{Layout}
-use Rattle.tree.proofs.Results.{if_ok, on_err}
+use Rattle.nodes.proofs.TreeResults.{if_ok, on_err}
 use Rattle.nodes.specs.File.{weight_of}
 use Rattle.nodes.specs.Held.{AreHeld, no_others}
 use Rattle.file_cells.proofs.Lodging.{lent_book, lent_all, books_again, home_again, account_kept, lodged, lodged_again}
@@ -44,7 +44,7 @@ pub migrate-done-requires-clause-bytes : goal.migrate-done-requires-clause-bytes
 migrate-done-requires-clause-bytes g c = c.requires.bytes ∙ ap block_bytes (sym c.requires.lodged.shape_is)
 
 -- what the file holds after the move is lodged
-held_again : (g : given.Over) (c : goal.After-recount_unless g) → AreHeld c.migrate-done.new.file c.lodge_all.new.file.tickets c.lodge_all.new.file.tokens
+held_again : (g : given.Over) (c : goal.After-lodge_all g) → AreHeld c.migrate-done.new.file c.lodge_all.new.file.tickets c.lodge_all.new.file.tokens
 held_again g c =
     let book = g.V.Books.BooksName.books.book in
     let a = c.args.account.now in
@@ -56,7 +56,7 @@ held_again g c =
 pub returns-clause-moved : goal.returns-clause-moved
 returns-clause-moved g c =
     if_ok c.migrate-done.result c.migrate-done.ensures.moved (λ fate moves is.
-    moved_lodged c.args.file.now c.migrate-done.new.file c.args.account.now c.lodge_all.new.file c.requires.lodged.lodged (held_again g c) c.args.address c.args.owner (moves is))
+    moved_lodged c.args.file.now c.migrate-done.new.file c.args.account.now c.lodge_all.new.file c.requires.lodged.lodged (held_again g c) c.args.mark.address c.args.mark.owner (moves is))
 
 pub returns-clause-gone : goal.returns-clause-gone
 returns-clause-gone g c =

@@ -1,5 +1,5 @@
 use Rattle.std.proofs.Common.{◌∙◌, map, subst, sym}
-use Rattle.packs_format.specs.Grammar.{HasSuper}
+use Rattle.pack_tables.specs.Grammar.{HasSuper}
 use Rattle.file_device.specs.Blocks.{is_kept}
 use Rattle.file_device.specs.Named.{FlagNamed}
 use Rattle.file_device.proofs.image_file.open_image.Goals as goal

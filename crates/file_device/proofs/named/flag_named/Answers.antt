@@ -1,7 +1,7 @@
 use Rattle.std.proofs.Common.{◌≡◌, ◌∙◌, ◌-◌, ◌++◌, ap, arith, drop, length, subst, sym, take}
 use Rattle.image.specs.Image.{Image}
 use Rattle.packs.specs.Area.{reading_of}
-use Rattle.packs_format.specs.Grammar.{SpellsTables}
+use Rattle.pack_tables.specs.Grammar.{SpellsTables}
 use Rattle.file_device.specs.Named.{FlagAll, IsSet}
 use Rattle.file_device.proofs.Flags.{of_slots, written_back}
 use Rattle.file_device.proofs.named.flag_named.Goals as goal

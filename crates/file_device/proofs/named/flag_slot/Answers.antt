@@ -1,9 +1,9 @@
 use Rattle.std.proofs.Common.{◌∙◌, subst, OnOk}
 use Rattle.image.specs.Image.{Image}
-use Rattle.packs_format.specs.Grammar.{SpellsTables}
+use Rattle.pack_tables.specs.Grammar.{SpellsTables}
 use Rattle.file_device.specs.Named.{FlagAll}
 use Rattle.packs.specs.Area.{reading_of}
-use Rattle.packs_format.proofs.Parts.{long_as_a_body}
+use Rattle.pack_tables.proofs.Parts.{long_as_a_body}
 use Rattle.file_device.proofs.named.flag_slot.Goals as goal
 
 pub returns-in-None-clause-named : goal.returns-in-None-clause-named

@@ -5,7 +5,7 @@ use Rattle.std.specs.Io.KnownBytes.{Consumes}
 use Rattle.device.specs.declared.memory.block.MemBlock.{MemBlock}
 use Rattle.device.specs.declared.parts.Parts.{Parts}
 use Rattle.device.specs.declared.memory.meta.MemMeta.{MemMeta}
-use Rattle.packs_format.specs.Grammar.{HasSuper}
+use Rattle.pack_tables.specs.Grammar.{HasSuper}
 use Rattle.file_device.proofs.Consuming.{consumes_more}
 use Rattle.file_device.proofs.reading.read_device.Goals as goal
 use Rattle.file_device.proofs.reading.read_device.Given as given

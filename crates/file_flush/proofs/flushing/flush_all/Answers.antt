@@ -1,7 +1,7 @@
 -- Each node that is written leaves one mark less, and the file as it was; so both walks end, and what the first did the second adds to.
 use Rattle.std.proofs.Common.{◌≡◌, ◌+◌, refl, subst, sym, arith}
 use Rattle.rights_books.specs.Accounts.{HandView}
-use Rattle.tree.specs.Change.{each_marked}
+use Rattle.nodes.specs.Change.{each_marked}
 use Rattle.nodes.specs.File.{weight_of}
 use Rattle.nodes_walks.proofs.Flushed.{fewer_marked}
 use Rattle.file_flush.proofs.Steps.{flushed_none, flushed_more, still_flushable}

@@ -1,5 +1,5 @@
 use Rattle.std.proofs.Common.{◌≡◌}
-use Rattle.tree.specs.Change.{each_marked}
+use Rattle.nodes.specs.Change.{each_marked}
 use Rattle.nodes.specs.File.{weight_of}
 use Rattle.file_flush.specs.Flushed.{HasFlushed}
 use Rattle.file_flush.proofs.flushing.flush_all.Given as goal

@@ -1,4 +1,4 @@
-use Rattle.tree.proofs.Results.{on_ok}
+use Rattle.nodes.proofs.TreeResults.{on_ok}
 use Rattle.nodes_law.proofs.Listing.{written_where_clean}
 use Rattle.file_flush.proofs.Steps.{still_held, still_shown}
 use Rattle.file_flush.proofs.flushing.flush_file.Goals as goal

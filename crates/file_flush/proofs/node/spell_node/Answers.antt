@@ -5,7 +5,7 @@ use Rattle.std.specs.Prelude.{All}
 use Rattle.geometry.specs.declared.shape.Shape.{Shape}
 use Rattle.image.specs.Node.{node_bytes, IsNode}
 use Rattle.geometry.specs.Class.{class_code}
-use Rattle.tree.specs.Change.{TreeNode}
+use Rattle.nodes.specs.Change.{TreeNode}
 use Rattle.nodes_law.specs.Nodes.{node_in}
 use Rattle.file_flush.specs.Written.{IsWritable}
 use Rattle.file_flush.proofs.node.spell_node.Goals as goal

@@ -10,8 +10,8 @@ pub take_turns_and_leave-requires-after_bounds : goal.take_turns_and_leave-requi
 take_turns_and_leave-requires-after_bounds g c κs within =
     let mounted = c.args.opened.named.mounted in
     let passes = c.in-Ok.passes.items in
-    subst (λ (n : ℕ). g.X.Crew.fits c.args.crew g.K.TablesName.geometry (record { passes = passes; seats = n; readers = [] }) []) (sym c.in-Ok.ensures.seats)
-    (subst (λ (geometry : Geometry). g.X.Crew.fits c.args.crew geometry (at_first passes) []) c.args.opened.named.of_geometry
+    subst (λ (n : ℕ). g.X.Crew.fits c.args.crewing.crew g.K.TablesName.geometry (record { passes = passes; seats = n; readers = [] }) []) (sym c.in-Ok.ensures.seats)
+    (subst (λ (geometry : Geometry). g.X.Crew.fits c.args.crewing.crew geometry (at_first passes) []) c.args.opened.named.of_geometry
     (c.requires.fits mounted.geometry mounted.image (bytes_at g.B.Block.content_of mounted.parts.blocks.items) passes c.in-Ok.ensures.passes))
 
 pub returns-in-Ok-clause-done : goal.returns-in-Ok-clause-done
@@ -22,10 +22,10 @@ returns-in-Ok-clause-done g c =
     let base = c.with_threading-volume.result.base in
     let left = c.take_turns_and_leave.result in
     visited_from
-    (λ geometry base before left. WasCrewed g.M.Meta.seen g.M.Meta.may_leave g.B.Block.address_of g.B.Block.content_of (crew.did c.args.crew geometry base (at_first before) [])
-    (crew.failed c.args.crew geometry base (at_first before) []) geometry left)
+    (λ geometry base before left. WasCrewed g.M.Meta.seen g.M.Meta.may_leave g.B.Block.address_of g.B.Block.content_of (crew.did c.args.crewing.crew geometry base (at_first before) [])
+    (crew.failed c.args.crewing.crew geometry base (at_first before) []) geometry left)
     mounted.geometry g.K.TablesName.geometry mounted.image (bytes_at g.B.Block.content_of mounted.parts.blocks.items) passes base left c.args.opened.named.of_geometry
     (c.with_threading-volume.ensures.base ∙ c.in-Ok.ensures.base) c.in-Ok.ensures.passes
     (subst (λ (n : ℕ). let held : Held = record { passes = passes; seats = n; readers = [] } in
-    WasCrewed g.M.Meta.seen g.M.Meta.may_leave g.B.Block.address_of g.B.Block.content_of (crew.did c.args.crew g.K.TablesName.geometry base held [])
-    (crew.failed c.args.crew g.K.TablesName.geometry base held []) g.K.TablesName.geometry left) c.in-Ok.ensures.seats c.take_turns_and_leave.ensures)
+    WasCrewed g.M.Meta.seen g.M.Meta.may_leave g.B.Block.address_of g.B.Block.content_of (crew.did c.args.crewing.crew g.K.TablesName.geometry base held [])
+    (crew.failed c.args.crewing.crew g.K.TablesName.geometry base held []) g.K.TablesName.geometry left) c.in-Ok.ensures.seats c.take_turns_and_leave.ensures)

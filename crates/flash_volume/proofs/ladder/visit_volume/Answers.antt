@@ -2,30 +2,15 @@
 use Rattle.flash_volume.specs.Worked.{WasWorked}
 use Rattle.flash_volume.proofs.Visiting.{visited_on}
 use Rattle.flash_volume.proofs.Refused.{found_back}
-use Rattle.flash_volume.proofs.Results.{ok_then}
 use Rattle.flash_volume.proofs.ladder.visit_volume.Goals as goal
 
 pub returns-in-Ok-clause-done : goal.returns-in-Ok-clause-done
 returns-in-Ok-clause-done g c =
     let mounted = c.in-Ok.mounted in
-    let found = c.in-Ok.ensures in
-    ok_then c.on_mounted.result _ _
-    (λ left from. visited_on g.M.Meta.seen g.B.Block.address_of g.B.Block.content_of (λ geometry base before left. WasWorked g.M.Meta.seen g.M.Meta.may_leave g.B.Block.address_of g.B.Block.content_of (λ output after. g.X.Visit.did c.args.visit geometry base before output after) (λ error. g.X.Visit.failed c.args.visit geometry base before error) c.args.leave geometry left)
-    mounted.geometry mounted.image mounted.parts.blocks.items c.args.parts left
-    (record { size = found.size; held = record { front = found.front; tables = found.image.tables; nodes = found.image.nodes }; lawful = found.lawful })
-    found.parts.contents from)
-    c.on_mounted.ensures.done
+    visited_on g.M.Meta.seen g.B.Block.address_of g.B.Block.content_of (λ geometry base before left. WasWorked g.M.Meta.seen g.M.Meta.may_leave g.B.Block.address_of g.B.Block.content_of (λ output after. g.X.Visit.did c.args.visit geometry base before output after) (λ error. g.X.Visit.failed c.args.visit geometry base before error) c.args.leave geometry left)
+    mounted.geometry mounted.image mounted.parts.blocks.items c.args.parts c.on_mounted.result c.in-Ok.ensures.held c.in-Ok.ensures.contents c.on_mounted.ensures.done
 
 pub returns-in-Ok-clause-handed_back : goal.returns-in-Ok-clause-handed_back
 returns-in-Ok-clause-handed_back g c =
-    let meta = g.M.Meta in
-    let block = g.B.Block in
-    let mounted = c.in-Ok.mounted in
-    let found = c.in-Ok.ensures in
-    found_back meta.seen meta.may_leave meta.moment meta.left_since meta.failed block.address_of block.content_of block.failed c.args.parts mounted.parts c.on_mounted.result mounted.geometry mounted.image
-    c.on_mounted.ensures.back c.on_mounted.ensures.error found.parts found.front found.image.tables (found.held (meta.seen mounted.parts.meta) (g.met.M.Meta.seen_is_left mounted.parts.meta)) found.any_moment
-
-pub returns-in-Err-clause-handed_back : goal.returns-in-Err-clause-handed_back
-returns-in-Err-clause-handed_back g c =
-    let fault = c.in-Err.ensures in
-    record { refused = fault.refused; same = fault.back; kept = fault.kept; any_moment = fault.any_moment_err; device = fault.device }
+    found_back g.M.Meta.seen g.M.Meta.may_leave g.M.Meta.moment g.M.Meta.left_since g.M.Meta.failed g.B.Block.address_of g.B.Block.content_of g.B.Block.failed c.args.parts c.in-Ok.mounted.parts c.on_mounted.result
+    c.in-Ok.ensures.back c.on_mounted.ensures.back c.on_mounted.ensures.error

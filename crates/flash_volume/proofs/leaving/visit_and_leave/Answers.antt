@@ -1,7 +1,10 @@
-use Rattle.std.proofs.Common.{inr}
+use Rattle.flash_volume.proofs.Working.{was_given_up, was_left}
 use Rattle.flash_volume.proofs.leaving.visit_and_leave.Goals as goal
 
-pub returns-in-Err-leave_volume : goal.returns-in-Err-leave_volume
-returns-in-Err-leave_volume g c =
-    let left = c.in-Err-leave_volume.ensures in
-    record { done = tt; given_up = left.given_up; cause = inr (left.stage, left.error) }
+pub returns-in-Ok : goal.returns-in-Ok
+returns-in-Ok g c =
+    was_left g.M.Meta.seen g.M.Meta.may_leave g.B.Block.address_of g.B.Block.content_of _ _ c.args.leave g.V.Numbers.GeometryName.geometry c.in-Ok.output c.visit.new.rights.passes.items c.leave_with.result c.in-Ok.ensures.done c.leave_with.ensures.output c.leave_with.ensures.left
+    c.leave_with.ensures.given_up c.leave_with.ensures.stage c.leave_with.ensures.error
+
+pub returns-in-Err : goal.returns-in-Err
+returns-in-Err g c = was_given_up g.M.Meta.seen g.M.Meta.may_leave g.B.Block.address_of g.B.Block.content_of _ _ c.args.leave g.V.Numbers.GeometryName.geometry c.in-Err.error c.give_up.result c.in-Err.ensures.refused c.give_up.ensures.given_up c.give_up.ensures.stage c.give_up.ensures.error

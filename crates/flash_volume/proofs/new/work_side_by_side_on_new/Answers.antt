@@ -45,10 +45,8 @@ returns-in-Ok-clause-failed g c =
 
 pub returns-in-Ok-clause-size_back : goal.returns-in-Ok-clause-size_back
 returns-in-Ok-clause-size_back g c =
-    let seen = g.M.Meta.seen in
-    let parts = c.in-Ok.parts in
     let made = c.in-Ok.ensures.mountable in
-    let found = c.mount_law.ensures.at_once c.args.geometry _ parts made in
+    let found = c.mount_law.ensures.at_once c.args.geometry _ c.in-Ok.parts made in
     err_both c.work_side_by_side.result _ _ _
-    (λ fault handed given_up. size_back seen g.M.Meta.may_leave g.B.Block.address_of g.B.Block.content_of c.args.geometry parts fault.parts fault.stage (made.front (seen parts.meta) found.area) made.size (λ at_mount. (handed at_mount).same) given_up)
+    (λ fault handed given_up. size_back g.M.Meta.seen g.M.Meta.may_leave g.B.Block.address_of g.B.Block.content_of c.args.geometry c.in-Ok.parts fault.parts fault.stage (made.front (g.M.Meta.seen c.in-Ok.parts.meta) found.area) made.size (λ at_mount. (handed at_mount).same) given_up)
     c.work_side_by_side.ensures.handed_back c.work_side_by_side.ensures.given_up

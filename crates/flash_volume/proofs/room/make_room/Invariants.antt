@@ -1,5 +1,5 @@
 use Rattle.std.proofs.Common.{◌≡◌, ◌<◌, ◌≤◌}
-use Rattle.file_readers.specs.Status.{all}
+use Rattle.file_cells.specs.Status.{all}
 use Rattle.flash_volume.specs.declared.room.Ending.TheVariants.{Enough, NothingToWin}
 use Rattle.flash_volume.proofs.room.make_room.Given as goal
 

@@ -18,11 +18,19 @@ returns-in-Ok-clause-stage g c = not_format g.M.Meta.seen g.M.Meta.may_leave g.B
 pub returns-in-Ok-clause-handed_back : goal.returns-in-Ok-clause-handed_back
 returns-in-Ok-clause-handed_back g c = not_mount g.M.Meta.seen g.M.Meta.may_leave g.B.Block.address_of g.B.Block.content_of anything for_memory c.args.leave c.args.parts c.in-Ok.left c.in-Ok.ensures.done _
 
+pub returns-in-Err-clause-handed_back : goal.returns-in-Err-clause-handed_back
+returns-in-Err-clause-handed_back g c = λ at.
+    handed_on g.M.Meta.seen g.M.Meta.may_leave g.M.Meta.moment g.M.Meta.left_since g.M.Meta.failed g.B.Block.address_of g.B.Block.content_of g.B.Block.failed c.args.parts c.in-Err.fault.parts c.unmounted.result.parts c.in-Err.fault.error c.unmounted.result.error c.unmounted.ensures.parts c.unmounted.ensures.error c.in-Err.ensures.handed_back
+
 pub returns-in-Ok-clause-given_up : goal.returns-in-Ok-clause-given_up
 returns-in-Ok-clause-given_up g c = given_up g.M.Meta.seen g.M.Meta.may_leave g.B.Block.address_of g.B.Block.content_of anything for_memory c.args.leave c.args.parts c.in-Ok.left c.in-Ok.ensures.done
 
 pub returns-in-Ok-clause-after_fault : goal.returns-in-Ok-clause-after_fault
 returns-in-Ok-clause-after_fault g c = fault_run g.M.Meta.seen g.M.Meta.may_leave g.B.Block.address_of g.B.Block.content_of anything for_memory c.args.leave c.args.parts c.in-Ok.left c.in-Ok.ensures.done
+
+pub returns-in-Err-clause-after_fault : goal.returns-in-Err-clause-after_fault
+returns-in-Err-clause-after_fault g c =
+    refused_run g.M.Meta.seen g.M.Meta.may_leave g.B.Block.address_of g.B.Block.content_of c.args.parts c.in-Err.fault.parts c.unmounted.result.parts c.in-Err.ensures.handed_back.same c.requires.run c.unmounted.ensures.parts
 
 pub returns-in-Ok-clause-not_closed : goal.returns-in-Ok-clause-not_closed
 returns-in-Ok-clause-not_closed g c = not_closed g.M.Meta.seen g.M.Meta.may_leave g.B.Block.address_of g.B.Block.content_of anything for_memory c.args.leave c.args.parts c.in-Ok.left c.in-Ok.ensures.done
@@ -31,16 +39,3 @@ pub returns-in-Ok-clause-failed : goal.returns-in-Ok-clause-failed
 returns-in-Ok-clause-failed g c =
     let on = c.in-Ok.ensures.done in
     err_then c.in-Ok.left _ _ (λ fault cause is. why_failed fault.stage fault.error cause is) on.from.visited.cause
-
-pub returns-in-Err-clause-after_fault : goal.returns-in-Err-clause-after_fault
-returns-in-Err-clause-after_fault g c =
-    let back = c.in-Err.ensures.handed_back.same in
-    refused_run g.M.Meta.seen g.M.Meta.may_leave g.B.Block.address_of g.B.Block.content_of c.requires.run.0 c.args.parts.blocks.items c.in-Err.fault.parts c.unmounted.result.parts
-    back.addresses back.contents c.requires.run.1 c.unmounted.ensures.parts
-
-pub returns-in-Err-clause-handed_back : goal.returns-in-Err-clause-handed_back
-returns-in-Err-clause-handed_back g c =
-    let meta = g.M.Meta in
-    let block = g.B.Block in
-    λ at. handed_on meta.seen meta.may_leave meta.moment meta.left_since meta.failed block.address_of block.content_of block.failed c.args.parts c.in-Err.fault.parts c.unmounted.result.parts
-    c.in-Err.fault.error c.unmounted.result.error c.unmounted.ensures.parts c.unmounted.ensures.error c.in-Err.ensures.handed_back

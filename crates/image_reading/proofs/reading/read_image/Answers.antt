@@ -4,7 +4,7 @@ use Rattle.std.proofs.lemmas.Result.{err_from_is_err_and}
 use Rattle.image.specs.Reading.{read_nodes}
 use Rattle.image.specs.View.{image_view, node_or_none}
 use Rattle.image_reading.specs.Held.{area_in}
-use Rattle.packs_format.specs.File.{block_in}
+use Rattle.pack_tables.specs.File.{block_in}
 use Rattle.image_reading.proofs.Refusing.{area_refused, if_refused, image_refused}
 use Rattle.image_reading.proofs.Tables.{held_with, holds}
 use Rattle.image_reading.proofs.reading.read_image.Goals as goal

@@ -1,7 +1,7 @@
 use Rattle.std.proofs.Common.{◌∙◌, ap, arith}
 use Rattle.image.specs.Reading.{read_node}
 use Rattle.image_reading.proofs.FileBlocks.{at_some, none_behind, read_is}
-use Rattle.packs_format.specs.File.{block_in}
+use Rattle.pack_tables.specs.File.{block_in}
 use Rattle.image_reading.proofs.reading.read_node.Goals as goal
 
 pub returns-then-address-blocks-clause-node : goal.returns-then-address-blocks-clause-node

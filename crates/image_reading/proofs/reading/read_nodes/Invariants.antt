@@ -2,7 +2,7 @@ use Rattle.std.proofs.Common.{◌≡◌, ℕ, List, length, take, map}
 use Rattle.geometry.specs.Shape.{block_bytes}
 use Rattle.image.specs.Reading.{read_nodes}
 use Rattle.image.specs.View.{node_or_none}
-use Rattle.packs_format.specs.File.{block_in, file_bytes}
+use Rattle.pack_tables.specs.File.{block_in, file_bytes}
 use Rattle.image_reading.specs.Told.{Narrows}
 use Rattle.image_reading.proofs.reading.read_nodes.Given as goal
 

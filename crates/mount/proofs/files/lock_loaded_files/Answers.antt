@@ -3,16 +3,17 @@
 use Rattle.std.proofs.Common.{◌≡◌, ℕ, suc, ◌+◌, ◌<◌, ◌≤◌, List, [], ◌∷◌, Some, None, length, get_or, map, vec_len, refl, sym, ap, subst, ◌∙◌, arith, rules}
 use Rattle.std.proofs.lemmas.List.{get_or_default, length-set}
 use Rattle.std.specs.Vec.Iter.{into_iter_items}
-use Rattle.rights_claims.specs.Rules.{Ruled}
+use Rattle.rights_books.specs.ClaimRules.{Ruled}
 use Rattle.rights_books.specs.declared.claim.Layout.{Layout}
 use Rattle.rights_books.specs.Accounts.{FileView}
 use Rattle.geometry.specs.declared.geometry.Geometry.{Geometry}
 use Rattle.image.specs.View.{image_view}
 use Rattle.mount.specs.MountFiles.{StandsFor, HasFile}
-use Rattle.mount_trees.specs.FileLoaded.{IsLoadedFile}
+use Rattle.mount_blocks.specs.FileLoaded.{IsLoadedFile}
 use Rattle.mount.specs.Lodged.{HasLodged}
 use Rattle.mount.proofs.Rest.{EachFrom, begin_from, first_of, rest_of, later_kept, gone_kept, all_gone, first_none}
 use Rattle.mount.proofs.Passes.{shown, files_to, passes_kept, lodged_by}
+use Rattle.mount.proofs.files.lock_loaded_files.Given as given
 use Rattle.mount.proofs.files.lock_loaded_files.Goals as goal
 
 pub own_file-cell-requires-clause-account : goal.own_file-cell-requires-clause-account
@@ -22,18 +23,22 @@ own_file-cell-requires-clause-account g c =
     let has = first_of (λ k account. HasLodged c.args.books.now.book (image_view c.args.image.now) c.args.stock.now.all (k + 1) account) (vec_len at.cells) (into_iter_items at.account-iterator) (into_iter_items c.next.new.self) c.in-Some.account c.in-Some.ensures.steps.0 i.2 in
     (has.book_is ∙ ap (λ (b : Ruled Layout). b.book) c.requires.books, has.inode_is ∙ sym (ap (λ n. n + 1) c.len.ensures), has.none)
 
-pub own_file-cell-requires-clause-found : goal.own_file-cell-requires-clause-found
-own_file-cell-requires-clause-found g c =
+-- what is taken out of the table stood there at first for the inode
+taken_out : (g : given.Over) (c : goal.After-rest-in-accounts-1 g) → c.take-found.result ≡ get_or c.args.files.items (c.len.result + 1) None
+taken_out g c =
     let at = c.accounts in
     let i = at.invariant in
-    let files = c.args.files.items in
     let n : ℕ = c.len.result + 1 in
     let count = c.len.ensures in
     let short = ap (λ l. length l) c.in-Some.ensures.steps.0 in
     let sum = i.0 in
     let places = i.3 in
-    let is : c.take-found.result ≡ get_or files n None = c.take-found.ensures.value ∙ (c.index_mut.ensures.value ∙ (get_or_default at.rest.items n c.index_mut.result.now None (omega arith) ∙ i.4 n (omega arith))) in
-    rw is (c.requires.files.each n)
+    c.take-found.ensures.value ∙ (c.index_mut.ensures.value ∙ (get_or_default at.rest.items n c.index_mut.result.now None (omega arith) ∙ i.4 n (omega arith)))
+
+pub own_file-cell-requires-clause-found : goal.own_file-cell-requires-clause-found
+own_file-cell-requires-clause-found g c =
+    let is = taken_out g c in
+    rw is (c.requires.files.each (c.len.result + 1))
 
 pub own_file-cell-requires-clause-lodged : goal.own_file-cell-requires-clause-lodged
 own_file-cell-requires-clause-lodged g c =
@@ -45,13 +50,9 @@ own_file-cell-requires-clause-lodged g c =
     let all = c.args.stock.now.all in
     let n : ℕ = c.len.result + 1 in
     let count = c.len.ensures in
-    let short = ap (λ l. length l) c.in-Some.ensures.steps.0 in
-    let sum = i.0 in
-    let places = i.3 in
-    let is : c.take-found.result ≡ get_or files n None = c.take-found.ensures.value ∙ (c.index_mut.ensures.value ∙ (get_or_default at.rest.items n c.index_mut.result.now None (omega arith) ∙ i.4 n (omega arith))) in
     let has = first_of (λ k account. HasLodged book image all (k + 1) account) (vec_len at.cells) (into_iter_items at.account-iterator) (into_iter_items c.next.new.self) c.in-Some.account c.in-Some.ensures.steps.0 i.2 in
     let own : HasLodged book image all n c.in-Some.account = subst (λ k. HasLodged book image all (k + 1) c.in-Some.account) (sym count) has in
-    lodged_by c.args.geometry.now image c.requires.lawful c.requires.blocks.0 all c.requires.blocks.2 files c.requires.files c.requires.all book n c.in-Some.account own c.take-found.result (sym is)
+    lodged_by c.args.geometry.now image c.requires.lawful c.requires.blocks.0 all c.requires.blocks.2 files c.requires.files c.requires.all book n c.in-Some.account own c.take-found.result (sym (taken_out g c))
 
 pub accounts-init : goal.accounts-init
 accounts-init g c =

@@ -3,8 +3,8 @@ use Rattle.std.proofs.Common.{◌≡◌, ℕ, ◌+◌, sym, ap, subst, ◌∙◌
 use Rattle.rights_books.specs.Weights.{mark_of}
 use Rattle.rights_books.specs.declared.claim.Entry.{Entry}
 use Rattle.image.specs.View.{image_view}
-use Rattle.mount_trees.specs.Goods.{Shelves, in_place}
-use Rattle.mount_trees.specs.Loaded.{of_rights}
+use Rattle.mount_blocks.specs.TreeGoods.{Shelves, in_place}
+use Rattle.mount_blocks.specs.Loaded.{of_rights}
 use Rattle.nodes.specs.File.{weight_of}
 use Rattle.geometry.specs.Weights.{weigh}
 use Rattle.tickets.specs.Placed.{Placed}

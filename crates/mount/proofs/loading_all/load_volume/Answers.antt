@@ -5,7 +5,7 @@ use Rattle.rights_books.specs.Accounts.{FileView, HandView}
 use Rattle.rights_books.specs.declared.claim.Entry.{Entry}
 use Rattle.geometry.specs.declared.owner.Mark.{Mark}
 use Rattle.image.specs.View.{image_view}
-use Rattle.mount_trees.specs.Goods.{ArePlaced, Shelves, in_place}
+use Rattle.mount_blocks.specs.TreeGoods.{ArePlaced, Shelves, in_place}
 use Rattle.geometry.specs.Weights.{weigh}
 use Rattle.tickets.specs.Placed.{Placed}
 use Rattle.mount_blocks.proofs.Rights.{bytes_of, have_own}

@@ -4,7 +4,7 @@ use Rattle.std.proofs.Common.{◌≡◌, ℕ, List, sym, subst, ◌∙◌}
 use Rattle.device.specs.declared.parts.Parts.{Parts}
 use Rattle.image.specs.View.{image_view}
 use Rattle.image_codec.specs.Blocks.{AreBlocks}
-use Rattle.packs_format.proofs.SuperLemmas.{super_stays}
+use Rattle.pack_tables.proofs.SuperLemmas.{super_stays}
 use Rattle.mount_reading.specs.Held.{AreSameParts, KeepsPack, KeepsBetween}
 use Rattle.mount_reading.proofs.Moments.{kept_held}
 use Rattle.mount_reading.proofs.Blocks.{count_kept, addresses_same, bytes_same}

@@ -3,7 +3,7 @@ use Rattle.device.specs.Disk.{Leaves}
 use Rattle.geometry.specs.declared.geometry.Geometry.{Geometry}
 use Rattle.image.specs.Rules.{IsLawful}
 use Rattle.image.specs.View.{image_view}
-use Rattle.packs_format.specs.Holding.{HoldsTables}
+use Rattle.pack_tables.specs.Holding.{HoldsTables}
 use Rattle.mount.proofs.named.lock_packs.Goals as goal
 
 pub of-requires-clause-lawful : goal.of-requires-clause-lawful

@@ -4,7 +4,7 @@ use Rattle.std.proofs.Common.{◌≡◌, ◌≢◌, ℕ, ◌+◌, set, Some, sym
 use Rattle.image.specs.declared.image.NodeEntry.{NodeEntry}
 use Rattle.image.specs.Image.{entry_of}
 use Rattle.image.specs.View.{image_view}
-use Rattle.mount_trees.specs.FileLoaded.{IsFileRoom}
+use Rattle.mount_blocks.specs.FileLoaded.{IsFileRoom}
 use Rattle.mount_blocks.proofs.Passing.{taken_of}
 use Rattle.mount.proofs.Walks.{untaken}
 use Rattle.mount.proofs.Standing.{AreUpTo, up_to_more, up_to_same, up_to_all}

@@ -1,5 +1,5 @@
 use Rattle.image.specs.View.{image_view}
-use Rattle.mount_trees.specs.FileLoaded.{IsFileRoom}
+use Rattle.mount_blocks.specs.FileLoaded.{IsFileRoom}
 use Rattle.mount.proofs.Standing.{AreUpTo}
 use Rattle.mount.proofs.rooms.new_file_rooms.Given as goal
 

@@ -8,13 +8,13 @@ use Rattle.geometry.specs.declared.owner.Owner.TheVariants.{Node}
 use Rattle.image.specs.declared.image.NodeEntry.{NodeEntry}
 use Rattle.image.specs.Image.{entry_of}
 use Rattle.image.specs.View.{image_view}
-use Rattle.mount_trees.specs.Goods.{in_place, goods_weight}
-use Rattle.mount_trees.specs.Loaded.{of_rights}
-use Rattle.mount_trees.proofs.Stocks.{stood}
+use Rattle.mount_blocks.specs.TreeGoods.{in_place, goods_weight}
+use Rattle.mount_blocks.specs.Loaded.{of_rights}
+use Rattle.mount_blocks.proofs.Stocks.{stood}
 use Rattle.nodes.specs.File.{weight_of}
 use Rattle.geometry.specs.Weights.{weigh}
 use Rattle.tickets.specs.Placed.{Placed}
-use Rattle.mount_trees.specs.FileLoaded.{IsFileRoom, IsLoadedFile}
+use Rattle.mount_blocks.specs.FileLoaded.{IsFileRoom, IsLoadedFile}
 use Rattle.mount_blocks.proofs.Tables.{all_none, comes, nothing_weighs}
 use Rattle.mount_blocks.proofs.Passing.{taken_of}
 use Rattle.mount.specs.MountFiles.{StandsFor}
@@ -59,6 +59,7 @@ pub loop-before-preserved : goal.loop-before-preserved
 loop-before-preserved g c =
     let geometry = c.args.geometry.now in
     let image = image_view c.args.image.now in
+    let all = c.args.stock.now.all in
     let at = c.loop-before in
     let before = at.invariant in
     let inode : ℕ = at.before + 1 in
@@ -79,8 +80,8 @@ loop-before-preserved g c =
           record {
             of_files = λ k r e. before.of_files k r (stood at.rooms.items inode k r (sym (ap (λ ts. get_or ts k None) rooms_are) ∙ e));
             rooms = λ i past. subst (StandsFor geometry image (λ j r. IsFileRoom image j r) i) (sym (ap (λ ts. get_or ts i None) rooms_are ∙ get_or-set_other at.rooms.items inode i None None (λ e. absurd (omega arith)))) (before.rooms i (omega arith));
-            files = subst (λ ts. AreUpTo geometry image (λ i f. IsLoadedFile image geometry.shape c.args.stock.now.all i f) ts inode) (sym files_are)
-                (up_to_more geometry image (λ i f. IsLoadedFile image geometry.shape c.args.stock.now.all i f) at.files.items at.before file (omega arith) taken loaded before.files);
+            files = subst (λ ts. AreUpTo geometry image (λ i f. IsLoadedFile image geometry.shape all i f) ts inode) (sym files_are)
+                (up_to_more geometry image (λ i f. IsLoadedFile image geometry.shape all i f) at.files.items at.before file (omega arith) taken loaded before.files);
             all = ap (λ s. s.all) stock_is ∙ (w.load_file-file.ensures.all ∙ before.all);
             marks = λ h. (let balance = before.marks h in
                 let named = w.tell_lawful.ensures.names h in
@@ -103,8 +104,8 @@ loop-before-preserved g c =
           record {
             of_files = λ k r e. before.of_files k r (sym (ap (λ ts. get_or ts k None) rooms_are) ∙ e);
             rooms = λ i past. subst (StandsFor geometry image (λ j r. IsFileRoom image j r) i) (sym (ap (λ ts. get_or ts i None) rooms_are)) (before.rooms i (omega arith));
-            files = subst (λ ts. AreUpTo geometry image (λ i f. IsLoadedFile image geometry.shape c.args.stock.now.all i f) ts inode) (sym files_are)
-                (up_to_same geometry image (λ i f. IsLoadedFile image geometry.shape c.args.stock.now.all i f) at.files.items at.before free before.files);
+            files = subst (λ ts. AreUpTo geometry image (λ i f. IsLoadedFile image geometry.shape all i f) ts inode) (sym files_are)
+                (up_to_same geometry image (λ i f. IsLoadedFile image geometry.shape all i f) at.files.items at.before free before.files);
             all = ap (λ s. s.all) stock_is ∙ before.all;
             marks = λ h. (let balance = before.marks h in
                 let still = walks_same image h at.before free in

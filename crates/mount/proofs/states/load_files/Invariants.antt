@@ -3,12 +3,12 @@ use Rattle.rights_books.specs.declared.claim.Entry.{Entry}
 use Rattle.geometry.specs.declared.owner.Mark.{Mark}
 use Rattle.image.specs.View.{image_view}
 use Rattle.image.specs.Walk.{names}
-use Rattle.mount_trees.specs.Goods.{goods_weight, marks_weight, in_place}
-use Rattle.mount_trees.specs.Loaded.{of_rights}
+use Rattle.mount_blocks.specs.TreeGoods.{goods_weight, marks_weight, in_place}
+use Rattle.mount_blocks.specs.Loaded.{of_rights}
 use Rattle.nodes.specs.File.{weight_of}
 use Rattle.geometry.specs.Weights.{weigh}
 use Rattle.tickets.specs.Placed.{Placed}
-use Rattle.mount_trees.specs.FileLoaded.{IsFileRoom, IsLoadedFile}
+use Rattle.mount_blocks.specs.FileLoaded.{IsFileRoom, IsLoadedFile}
 use Rattle.mount.specs.MountFiles.{AreOfFiles, StandsFor}
 use Rattle.mount.proofs.Standing.{AreUpTo}
 use Rattle.mount.proofs.Walks.{walks_to}

@@ -8,10 +8,10 @@ use Rattle.geometry.specs.Address.{address_of}
 use Rattle.geometry.specs.Area.{block_count}
 use Rattle.geometry.specs.Shape.{block_bytes}
 use Rattle.image.specs.View.{image_view}
-use Rattle.mount_trees.specs.Goods.{in_place}
+use Rattle.mount_blocks.specs.TreeGoods.{in_place}
 use Rattle.tickets.specs.Placed.{Placed}
 use Rattle.geometry.specs.Weights.{weigh}
-use Rattle.mount_trees.specs.Marked.{marked_owner}
+use Rattle.mount_blocks.specs.Marked.{marked_owner}
 use Rattle.mount_blocks.specs.Table.{AreTicketsPast, HaveBytes}
 use Rattle.mount_blocks.specs.States.{HasOwners}
 use Rattle.mount_blocks.proofs.Tables.{comes}

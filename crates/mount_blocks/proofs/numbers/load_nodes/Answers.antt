@@ -15,8 +15,8 @@ use Rattle.image.specs.declared.image.NodeEntry.{NodeEntry}
 use Rattle.image.specs.Image.{Image, entry_of}
 use Rattle.image.specs.Rules.{IsLawful}
 use Rattle.image.specs.View.{image_view}
-use Rattle.mount_trees.specs.Goods.{in_place}
-use Rattle.mount_trees.proofs.Stocks.{goes, is_there, token_mark}
+use Rattle.mount_blocks.specs.TreeGoods.{in_place}
+use Rattle.mount_blocks.proofs.Stocks.{goes, is_there, token_mark}
 use Rattle.nat.specs.Shard.{ShardNodes}
 use Rattle.nat.specs.Table.{IsShardAt, all_taken}
 use Rattle.nat.specs.Taken.{entries_of}

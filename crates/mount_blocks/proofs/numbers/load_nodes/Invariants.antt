@@ -3,7 +3,7 @@ use Rattle.rights_books.specs.Weights.{mark_of}
 use Rattle.rights_books.specs.declared.claim.Entry.{Entry}
 use Rattle.geometry.specs.declared.owner.Mark.{Mark}
 use Rattle.image.specs.View.{image_view}
-use Rattle.mount_trees.specs.Goods.{in_place}
+use Rattle.mount_blocks.specs.TreeGoods.{in_place}
 use Rattle.nat.specs.Shard.{ShardNodes}
 use Rattle.nat.specs.Table.{all_taken}
 use Rattle.nat.specs.Taken.{entries_of}

@@ -1,13 +1,13 @@
 -- The last right, the last blocks and the highest number left are of one segment: it is filled and settled, and when
 -- none is left each block has come and its ticket stands in the table.
-use Rattle.std.proofs.Common.{◌≡◌, ◌+◌, ◌*◌, ◌∷◌, [], Option, None, length, get_or, refl, sym, ap, subst, ◌∙◌, arith}
+use Rattle.std.proofs.Common.{◌≡◌, ◌+◌, ◌*◌, [], Option, None, length, get_or, refl, sym, ap, subst, ◌∙◌, arith}
 use Rattle.std.proofs.lemmas.List.{length-replicate}
 use Rattle.geometry.specs.declared.owner.Owner.{Owner}
 use Rattle.geometry.specs.Address.{address_of}
 use Rattle.geometry.specs.Area.{block_count}
 use Rattle.geometry.specs.Shape.{segment_blocks}
 use Rattle.image.specs.View.{image_view}
-use Rattle.mount_trees.specs.Goods.{in_place}
+use Rattle.mount_blocks.specs.TreeGoods.{in_place}
 use Rattle.tickets.specs.Placed.{Placed}
 use Rattle.geometry.specs.Weights.{weigh}
 use Rattle.rights_books.specs.Accounts.{SegmentView}
@@ -26,7 +26,7 @@ rights-init g c =
     let image = image_view c.args.image.now in
     let book = c.args.books.now.book in
     let table = c.args.words.now.table in
-    let segments = c.args.segments in
+    let segments = c.args.memory.room in
     let count = c.requires.count in
     let none = c.requires.none in
     let tickets = c.args.tickets.now.items in

@@ -5,7 +5,7 @@ use Rattle.geometry.specs.declared.owner.Mark.{Mark}
 use Rattle.geometry.specs.Area.{block_count}
 use Rattle.geometry.specs.Shape.{block_bytes, segment_blocks}
 use Rattle.image.specs.View.{image_view}
-use Rattle.mount_trees.specs.Goods.{in_place}
+use Rattle.mount_blocks.specs.TreeGoods.{in_place}
 use Rattle.tickets.specs.Placed.{Placed}
 use Rattle.geometry.specs.Weights.{weigh}
 use Rattle.mount_blocks.specs.Rights.{AreRights}

@@ -8,7 +8,7 @@ use Rattle.geometry.specs.declared.owner.Mark.{Mark}
 use Rattle.geometry.specs.Mark.{same_mark}
 use Rattle.geometry.proofs.MarkTests.{mark_self}
 use Rattle.image.specs.View.{image_view}
-use Rattle.mount_trees.specs.Goods.{in_place}
+use Rattle.mount_blocks.specs.TreeGoods.{in_place}
 use Rattle.tickets.specs.Placed.{Placed}
 use Rattle.mount_blocks.specs.Lodging.{AreOfBook, Lodges, file_of, of_file, of_some}
 use Rattle.mount_blocks.proofs.Lodgings.{some_most, place_most, take_most, lodges_nothing, lodges_both, back_again, left_none, there_within}

@@ -7,7 +7,7 @@ use Rattle.rights_books.specs.Accounts.{HandView}
 use Rattle.rights_books.specs.declared.claim.Entry.{Entry}
 use Rattle.rights_books.specs.Sameness.{same_entry}
 use Rattle.rights_books.proofs.Sameness.{entry_self}
-use Rattle.mount_trees.specs.Goods.{in_place}
+use Rattle.mount_blocks.specs.TreeGoods.{in_place}
 use Rattle.mount_blocks.specs.Lodging.{AreOfBook, Lodges, of_file, of_some}
 use Rattle.mount_blocks.proofs.Lodgings.{some_most, place_most, take_most, lodges_nothing, lodges_both, there_within, any_default}
 use Rattle.mount_blocks.proofs.tokens_of.lodge_tokens.Goals as goal

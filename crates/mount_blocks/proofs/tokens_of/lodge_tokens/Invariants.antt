@@ -1,6 +1,6 @@
 use Rattle.std.proofs.Common.{◌≡◌, ℕ, ◌+◌, length, take}
 use Rattle.rights_books.specs.declared.claim.Entry.{Entry}
-use Rattle.mount_trees.specs.Goods.{in_place}
+use Rattle.mount_blocks.specs.TreeGoods.{in_place}
 use Rattle.geometry.specs.Weights.{weigh}
 use Rattle.mount_blocks.specs.Lodging.{AreOfBook, Lodges, of_file, of_some}
 use Rattle.mount_blocks.proofs.tokens_of.lodge_tokens.Given as goal

@@ -3,8 +3,8 @@ use Rattle.std.proofs.lemmas.Result.{IfOk-weaker, IfErr-weaker}
 use Rattle.geometry.specs.declared.error.Error.{Error}
 use Rattle.geometry.specs.declared.error.Error.TheVariants.{Device, BadGeometry}
 use Rattle.geometry.specs.declared.geometry.Geometry.{Geometry as Numbers}
-use Rattle.packs_format.proofs.SuperLemmas.{head_super, super_of_head, too_short}
-use Rattle.packs_format.specs.Grammar.{HasSuper}
+use Rattle.pack_tables.proofs.SuperLemmas.{head_super, super_of_head, too_short}
+use Rattle.pack_tables.specs.Grammar.{HasSuper}
 use Rattle.mount_reading.proofs.front.read_front.Goals as goal
 
 pub returns-then-len-clause-errors : goal.returns-then-len-clause-errors

@@ -14,8 +14,8 @@ use Rattle.packs.specs.Pack.{picked}
 use Rattle.checkpoint.specs.Holding.{counting_body}
 use Rattle.checkpoint.proofs.Bodies.{settled_holds}
 use Rattle.device.specs.Disk.{Leaves}
-use Rattle.packs_format.specs.Grammar.{SpellsTables}
-use Rattle.packs_format.specs.Holding.{HoldsTables}
+use Rattle.pack_tables.specs.Grammar.{SpellsTables}
+use Rattle.pack_tables.specs.Holding.{HoldsTables}
 use Rattle.image_codec.specs.Blocks.{AreBlocks, bytes_at}
 use Rattle.mount_reading.specs.Held.{HoldsImage, IsBodyRefusal, KeepsBetween}
 use Rattle.mount_reading.proofs.Moments.{kept_same, kept_picked, between_quiet, between_opened, between_read}

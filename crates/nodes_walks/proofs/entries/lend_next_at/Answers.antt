@@ -1,4 +1,4 @@
-use Rattle.tree.proofs.Same.{with_slot-same}
+use Rattle.nodes.proofs.Same.{with_slot-same}
 use Rattle.nodes_walks.proofs.entries.lend_next_at.Goals as goal
 
 pub returns-clause-same : goal.returns-clause-same

@@ -1,6 +1,6 @@
 -- As the search that lends nothing; the block that was found stands so many indexes behind those of the entries before it.
 use Rattle.std.proofs.Common.{◌≡◌, ℕ, ◌+◌, ◌*◌, ◌-◌, ◌≤◌, Option, Some, None, sym, subst, ◌∙◌, arith}
-use Rattle.tree.specs.Tree.{EmptyFrom, entry_at, find_in}
+use Rattle.nodes.specs.Tree.{EmptyFrom, entry_at, find_in}
 use Rattle.nodes_walks.specs.Lent.{IsLent, IsNextLent}
 use Rattle.nodes_walks.specs.declared.data_walk.LentBlock.{LentBlock}
 use Rattle.nodes_walks.proofs.Search.{Passed, passed_entry, found_entry, found_with}

@@ -1,5 +1,5 @@
 use Rattle.std.proofs.Common.{◌≡◌, ℕ, ◌≤◌, None, arith}
-use Rattle.tree.specs.Tree.{entry_at}
+use Rattle.nodes.specs.Tree.{entry_at}
 use Rattle.nodes_walks.proofs.Search.{passed_entry, found_entry}
 use Rattle.nodes_walks.proofs.entries.next_in.Goals as goal
 

@@ -2,7 +2,7 @@
 -- behind, and its lease and its address stay.
 use Rattle.std.proofs.Common.{◌≡◌, ℕ, ◌+◌, ◌*◌, List, Option, Some, None, sym, subst, ◌∙◌, arith}
 use Rattle.nodes.specs.File.{find_double, ticket_at}
-use Rattle.tree.specs.Tree.{find_in}
+use Rattle.nodes.specs.Tree.{find_in}
 use Rattle.tickets.specs.Placed.{Placed}
 use Rattle.nodes_walks.specs.Lent.{IsLent, IsNextLent}
 use Rattle.nodes_walks.specs.declared.data_walk.LentBlock.{LentBlock}

@@ -1,8 +1,8 @@
 use Rattle.std.proofs.Common.{arith, refl}
-use Rattle.tree.specs.Tree.{entry_at}
-use Rattle.tree.specs.Change.{ticket_weight, each_naming}
-use Rattle.tree.specs.Laws.{weightless}
-use Rattle.tree.proofs.Changes.{weigh_zero}
+use Rattle.nodes.specs.Tree.{entry_at}
+use Rattle.nodes.specs.Change.{ticket_weight, each_naming}
+use Rattle.nodes.specs.Laws.{weightless}
+use Rattle.nodes.proofs.Changes.{weigh_zero}
 use Rattle.nodes_walks.proofs.Finding.{owner_direct_at, owner_indirect_at, owner_double_at}
 use Rattle.nodes_walks.proofs.index.index_below.Goals as goal
 

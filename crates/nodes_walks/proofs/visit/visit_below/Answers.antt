@@ -1,11 +1,11 @@
 -- The three ranges are walked in order until one has the node: those before it were left as they were, so a visit of
 -- one node there is the only change of the file.
 use Rattle.std.proofs.Common.{◌∙◌, refl, arith}
-use Rattle.tree.specs.Tree.{entry_at}
-use Rattle.tree.specs.Laws.{weightless}
-use Rattle.tree.proofs.Changes.{weigh_zero}
-use Rattle.tree.specs.Change.{ticket_weight}
-use Rattle.tree_walks.specs.Moving.{each_numbered}
+use Rattle.nodes.specs.Tree.{entry_at}
+use Rattle.nodes.specs.Laws.{weightless}
+use Rattle.nodes.proofs.Changes.{weigh_zero}
+use Rattle.nodes.specs.Change.{ticket_weight}
+use Rattle.nodes_walks.specs.Moving.{each_numbered}
 use Rattle.nodes.proofs.Results.{if_ok}
 use Rattle.nodes_walks.proofs.Keeping.{kept_direct, kept_indirect, kept_double}
 use Rattle.nodes_walks.proofs.visit.visit_below.Goals as goal

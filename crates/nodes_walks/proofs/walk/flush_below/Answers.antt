@@ -1,10 +1,10 @@
 -- The three ranges are walked in order until one has a marked node: those before it had none and were left as they
 -- were, so the one node written is the only change of the file.
 use Rattle.std.proofs.Common.{◌∙◌, refl, arith}
-use Rattle.tree.specs.Tree.{entry_at}
-use Rattle.tree.specs.Laws.{weightless}
-use Rattle.tree.proofs.Changes.{weigh_zero}
-use Rattle.tree.specs.Change.{ticket_weight, each_marked}
+use Rattle.nodes.specs.Tree.{entry_at}
+use Rattle.nodes.specs.Laws.{weightless}
+use Rattle.nodes.proofs.Changes.{weigh_zero}
+use Rattle.nodes.specs.Change.{ticket_weight, each_marked}
 use Rattle.nodes.proofs.Results.{if_ok}
 use Rattle.nodes_walks.proofs.Keeping.{kept_direct, kept_indirect, kept_double}
 use Rattle.nodes_walks.proofs.walk.flush_below.Goals as goal

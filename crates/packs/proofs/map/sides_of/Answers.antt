@@ -1,4 +1,4 @@
-use Rattle.std.proofs.Common.{◌≡◌, length, ◌∙◌, arith, length-set}
+use Rattle.std.proofs.Common.{◌∙◌, arith, length-set}
 use Rattle.image.specs.Reading.{number_bits}
 use Rattle.packs.specs.Parts.{sides_of as sides_of_number}
 use Rattle.packs.proofs.Maps.{bits_more, bits_end}

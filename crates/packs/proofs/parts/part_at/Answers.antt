@@ -1,6 +1,5 @@
-use Rattle.std.proofs.Common.{◌≡◌, ◌≤◌, ◌<◌, suc, ◌-◌, ◌+◌, ◌^◌, ◌∙◌, sym, ap, ℕ, arith}
+use Rattle.std.proofs.Common.{◌≡◌, ◌≤◌, ◌<◌, ◌+◌, ◌∙◌, ap, ℕ, arith}
 use Rattle.packs.specs.Parts.{place as place_of_part, body_bytes, slot_at as place_of_slot, lies as slot_of_part}
-use Rattle.packs.specs.Area.{area_bytes}
 use Rattle.packs.proofs.Apart.{part_fits}
 use Rattle.packs.proofs.Keeping.{lies_within}
 use Rattle.packs.proofs.Sizes.{is_small}

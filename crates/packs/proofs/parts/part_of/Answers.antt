@@ -1,5 +1,5 @@
-use Rattle.std.proofs.Common.{◌≡◌, ◌≤◌, suc, ◌-◌, ◌+◌, ◌∙◌, sym, ap, length, arith, add-one}
-use Rattle.packs.specs.Parts.{place as place_of_part, body_bytes}
+use Rattle.std.proofs.Common.{◌≡◌, suc, ◌∙◌, ap, arith, add-one}
+use Rattle.packs.specs.Parts.{place as place_of_part}
 use Rattle.packs.proofs.Places.{place_next, place_within}
 use Rattle.packs.proofs.parts.part_of.Goals as goal
 

@@ -1,4 +1,4 @@
-use Rattle.std.proofs.Common.{◌≡◌, sym, ◌∙◌, ap, ℕ, suc, ◌-◌, arith}
+use Rattle.std.proofs.Common.{◌≡◌, sym, ◌∙◌, ap, suc, ◌-◌, arith}
 use Rattle.packs.specs.Parts.{place as place_of_part}
 use Rattle.packs.proofs.Places.{place_zero, place_suc}
 use Rattle.packs.proofs.parts.place.Goals as goal

@@ -1,4 +1,4 @@
-use Rattle.std.proofs.Common.{◌≡◌, ◌≤◌, ◌<◌, ◌-◌, ◌+◌, ◌∙◌, sym, ap, subst, List, ℕ, length, arith}
+use Rattle.std.proofs.Common.{◌≡◌, ◌+◌, ◌∙◌, sym, ap, subst, List, ℕ, length, arith}
 use Rattle.device.specs.Disk.{part}
 use Rattle.packs.proofs.Places.{part_joined}
 use Rattle.packs.proofs.staging.+equals.Goals as goal

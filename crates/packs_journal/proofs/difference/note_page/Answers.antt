@@ -70,6 +70,7 @@ loop-w-preserved c =
                 (subst (λ (m : ℕ). AreRising words now.bytes m (512 * k + (w + 1))) (sym count)
                 (rising_on words now.bytes (suc was.count) (suc (512 * k + w)) (512 * k + (w + 1)) (omega arith) more));
             few = subst (λ (x : Changes). x.count ≤ 248) (sym v.changes-is) e.few;
+            pages = ap (λ (x : Changes). x.pages) v.changes-is ∙ e.pages ∙ inv.pages;
           }
       | else-not-are_same-via-else-not-are_same v ↦
           let same = c.are_same.ensures v.if-not-are_same.false in
@@ -82,5 +83,6 @@ loop-w-preserved c =
                 subst (λ (x : Changes). AreRising words x.bytes x.count (512 * k + (w + 1))) (sym v.changes-is)
                 (rising_on words was.bytes was.count (512 * k + w) (512 * k + (w + 1)) (omega arith) (inv.rises words enough first));
             few = subst (λ (x : Changes). x.count ≤ 248) (sym v.changes-is) inv.few;
+            pages = ap (λ (x : Changes). x.pages) v.changes-is ∙ inv.pages;
           }
     ]

@@ -1,4 +1,4 @@
-use Rattle.std.proofs.Common.{◌≤◌, ◌+◌, ◌*◌, ◌/◌, ℕ, List, length}
+use Rattle.std.proofs.Common.{◌≡◌, ◌≤◌, ◌+◌, ◌*◌, ◌/◌, ℕ, List, length}
 use Rattle.std.specs.Prelude.{min}
 use Rattle.packs_journal.specs.Journal.{AreRising, IsPatchedTo, ArePages}
 use Rattle.packs_journal.proofs.difference.note_page.Given as goal
@@ -10,4 +10,5 @@ invariant-loop-w l = record {
   rises : (words : ℕ) → 512 * l.k + (length l.new + 7) / 8 ≤ words → AreRising words l.fn.changes.bytes l.fn.changes.count (512 * l.k)
       → AreRising words l.changes.bytes l.changes.count (512 * l.k + l.w);
   few : l.changes.count ≤ 248;
+  pages : l.changes.pages ≡ l.fn.changes.pages;
 }

@@ -1,13 +1,13 @@
-use Rattle.std.proofs.Common.{◌≡◌, subst, ℕ, ◌+◌, ◌-◌, ◌*◌, ◌≤◌, List, true, length, take, arith}
+use Rattle.std.proofs.Common.{◌≡◌, subst, inr, ℕ, ◌+◌, ◌-◌, ◌*◌, ◌≤◌, List, true, length, take, arith}
 use Rattle.std.proofs.lemmas.Result.{on_ok_weaker}
 use Rattle.std.proofs.lemmas.List.{length-take-le}
 use Rattle.device.specs.Disk.{Torn, Holds}
-use Rattle.packs_journal.specs.Places.{head_at as place_of_head}
-use Rattle.packs_journal.specs.Journal.{map_of, is_head}
+use Rattle.packs_journal.specs.Places.{head_at as place_of_head, page_at, page_size}
+use Rattle.packs_journal.specs.Journal.{map_of, copy_in, is_head}
 use Rattle.packs_journal.specs.Reading.{head_in, assembled}
 use Rattle.packs_journal.specs.Staging.{IsBeside}
 use Rattle.packs_journal.proofs.Heading.{head_written, map_written, body_written}
-use Rattle.packs_journal.proofs.Beside.{head_beside, written_beside}
+use Rattle.packs_journal.proofs.Beside.{apart_same, head_beside, written_beside}
 use Rattle.packs_journal.proofs.staging.write_head.Given as given
 use Rattle.packs_journal.proofs.staging.write_head.Goals as goal
 
@@ -58,9 +58,11 @@ module _ (g : given.Over) (c : goal.After-write g) where
   long : length (take (608 + 12 * count) c.spell_head-head.result) ≡ 608 + 12 * count
   long = length-take-le (608 + 12 * count) c.spell_head-head.result (omega (arith, c.spell_head-head.ensures.long, c.requires.few))
 
+  torn_head : (x y : List ℕ) → Torn c.head_at.result (length (take (608 + 12 * count) c.spell_head-head.result)) x y → Torn (place_of_head other) (608 + 12 * count) x y
+  torn_head x y torn = subst (λ (a : ℕ). Torn a (608 + 12 * count) x y) c.head_at.ensures (subst (λ (n : ℕ). Torn c.head_at.result n x y) long torn)
+
   step : (x y : List ℕ) → Torn c.head_at.result (length (take (608 + 12 * count) c.spell_head-head.result)) x y → IsBeside len c.args.slot x y
-  step x y torn = head_beside len c.args.slot (608 + 12 * count) x y c.requires.slot (omega (arith, c.requires.few))
-      (subst (λ (a : ℕ). Torn a (608 + 12 * count) x y) c.head_at.ensures (subst (λ (n : ℕ). Torn c.head_at.result n x y) long torn))
+  step x y torn = head_beside len c.args.slot (608 + 12 * count) x y c.requires.slot (omega (arith, c.requires.few)) (torn_head x y torn)
 
 pub returns-clause-staged : goal.returns-clause-staged
 returns-clause-staged g c = on_ok_weaker c.write.result (staged g c) c.write.ensures.written
@@ -70,6 +72,16 @@ returns-clause-head g c = on_ok_weaker c.write.result (head g c) c.write.ensures
 
 pub returns-clause-map : goal.returns-clause-map
 returns-clause-map g c = on_ok_weaker c.write.result (mapped g c) c.write.ensures.written
+
+-- heads lie before the pages
+before_pages : (slot n k a : ℕ) → slot ≤ 1 → n ≤ 248 → place_of_head slot + (608 + 12 * n) ≤ page_at k a
+before_pages slot n k a le few = omega (arith, le, few)
+
+pub returns-clause-pages : goal.returns-clause-pages
+returns-clause-pages g c = λ k below.
+    let copy = copy_in c.args.map.now k in
+    apart_same (place_of_head (other g c)) (608 + 12 * count g c) (page_at k copy) (page_size (len g c) k) (old g c) (new g c)
+    (inr (before_pages (other g c) (count g c) k copy (other_le g c) c.requires.few)) (torn_head g c (old g c) (new g c) c.write.ensures.others)
 
 pub returns-clause-beside : goal.returns-clause-beside
 returns-clause-beside g c = step g c (old g c) (new g c) c.write.ensures.others

@@ -18,13 +18,19 @@ pub returns-in_err-put_page-clause-beside : goal.returns-in_err-put_page-clause-
 returns-in_err-put_page-clause-beside g c =
     let seen = g.M.Meta.seen in
     let meta = c.args.meta.now in
-    beside_on (length c.args.body.now) c.args.slot c.args.map.now (seen meta) (seen c.loop-k.meta) (seen c.put_page.new.meta) (c.requires.mapped (seen meta) (g.met.M.Meta.seen_is_left meta)) c.loop-k.invariant.beside
+    beside_on (length c.args.body.now) c.args.slot c.args.map.now (seen meta) (seen c.loop-k.meta) (seen c.put_page.new.meta) (c.requires.mapped.mapped (seen meta) (g.met.M.Meta.seen_is_left meta)) c.loop-k.invariant.beside
     (c.put_page.ensures.beside c.args.map.now (sym (c.loop-k.invariant.rest c.loop-k.k (omega arith))))
 
 pub returns-in_err-put_page-clause-any_moment : goal.returns-in_err-put_page-clause-any_moment
 returns-in_err-put_page-clause-any_moment g c =
     step_on g.M.Meta.seen g.M.Meta.may_leave g.M.Meta.moment g.M.Meta.left_since g.met.M.Meta.only_now g.met.M.Meta.counts_now (length c.args.body.now) c.args.slot c.args.map.now c.args.meta.now c.loop-k.meta c.put_page.new.meta
-    c.requires.mapped c.loop-k.invariant.moments (c.put_page.ensures.any_moment c.args.map.now (sym (c.loop-k.invariant.rest c.loop-k.k (omega arith))))
+    c.requires.mapped.mapped c.loop-k.invariant.moments (c.put_page.ensures.any_moment c.args.map.now (sym (c.loop-k.invariant.rest c.loop-k.k (omega arith))))
+
+pub put_page-requires-clause-differs : goal.put_page-requires-clause-differs
+put_page-requires-clause-differs g c = λ out.
+    let k = c.loop-k.k in
+    let below : k < pages_of (length c.args.body.now) = omega (arith, c.loop-k-test.true, c.page_count-k-end.ensures) in
+    c.loop-k.invariant.stays k (omega arith) below ∙ c.requires.differs k below out
 
 pub loop-k-preserved : goal.loop-k-preserved
 loop-k-preserved g c =
@@ -42,11 +48,12 @@ loop-k-preserved g c =
           (λ apart. c.put_page.ensures.pages j (before j k (pages_of len) less apart below) apart ∙ inv.done j (earlier j k less apart))
           (cases_eq j k);
       rest = λ j more. c.put_page.ensures.others j (later j k more) ∙ inv.rest j (omega (arith, more));
+      stays = λ j more less. c.put_page.ensures.pages j less (later j k more) ∙ inv.stays j (omega (arith, more)) less;
       named = named_turned (pages_of len) k c.loop-k.map c.put_page.new.map below c.put_page.ensures.others inv.named;
-      beside = beside_on len c.args.slot c.args.map.now (seen meta) (seen c.loop-k.meta) (seen c.put_page.new.meta) (c.requires.mapped (seen meta) (g.met.M.Meta.seen_is_left meta)) inv.beside
+      beside = beside_on len c.args.slot c.args.map.now (seen meta) (seen c.loop-k.meta) (seen c.put_page.new.meta) (c.requires.mapped.mapped (seen meta) (g.met.M.Meta.seen_is_left meta)) inv.beside
           (c.put_page.ensures.beside c.args.map.now same);
       moments = step_on seen g.M.Meta.may_leave g.M.Meta.moment g.M.Meta.left_since g.met.M.Meta.only_now g.met.M.Meta.counts_now len c.args.slot c.args.map.now meta c.loop-k.meta c.put_page.new.meta
-          c.requires.mapped inv.moments (c.put_page.ensures.any_moment c.args.map.now same);
+          c.requires.mapped.mapped inv.moments (c.put_page.ensures.any_moment c.args.map.now same);
       failed = omega (arith, inv.failed, c.put_page.ensures.cause.later);
     }
   where

@@ -1,5 +1,5 @@
 use Rattle.std.proofs.Common.{subst}
-use Rattle.packs_format.specs.File.{IsFileRefusal}
+use Rattle.pack_tables.specs.File.{IsFileRefusal}
 use Rattle.program_run.specs.Checking.{HoldsLawfulImage}
 use Rattle.program_run.specs.Reading.{IsEnoughOf}
 use Rattle.program_run.proofs.Front.{if_some, image_is_known, refusal_is_known}

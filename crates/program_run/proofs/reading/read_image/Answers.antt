@@ -1,6 +1,6 @@
 use Rattle.std.proofs.Common.{subst}
 use Rattle.geometry.specs.declared.geometry.Geometry.{Geometry}
-use Rattle.packs_format.specs.Grammar.{HasSuper}
+use Rattle.pack_tables.specs.Grammar.{HasSuper}
 use Rattle.program_run.specs.Reading.{IsEnoughOf}
 use Rattle.program_run.proofs.Front.{front_is_enough, if_consumed}
 use Rattle.program_run.proofs.reading.read_image.Goals as goal

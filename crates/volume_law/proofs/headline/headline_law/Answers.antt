@@ -1,7 +1,7 @@
 use Rattle.std.proofs.Common.{sym, subst, ◌∙◌}
 use Rattle.image_codec.specs.Blocks.{bytes_at}
 use Rattle.close_area.specs.Shown.{AreShown}
-use Rattle.packs_format.proofs.Same.{law_holds}
+use Rattle.pack_tables.proofs.Same.{law_holds}
 use Rattle.volume_law.proofs.Standing.{held_again, files_again}
 use Rattle.volume_law.proofs.headline.headline_law.Goals as goal
 

@@ -3,7 +3,7 @@ use Rattle.image.proofs.Emptiness.{no_files}
 use Rattle.image.specs.Empty.{empty_image}
 use Rattle.image.specs.Image.{Image}
 use Rattle.image_codec.specs.Blocks.{bytes_at}
-use Rattle.packs_format.proofs.Same.{law_holds}
+use Rattle.pack_tables.proofs.Same.{law_holds}
 use Rattle.volume_law.proofs.Standing.{held_again}
 use Rattle.volume_law.proofs.mount_laws.format_law.Goals as goal
 

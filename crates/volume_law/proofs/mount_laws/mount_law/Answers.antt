@@ -1,6 +1,6 @@
 use Rattle.std.proofs.Common.{refl}
 use Rattle.image_codec.specs.Blocks.{bytes_at}
-use Rattle.packs_format.proofs.Same.{law_holds}
+use Rattle.pack_tables.proofs.Same.{law_holds}
 use Rattle.volume_law.proofs.Refusing.{refused_so}
 use Rattle.volume_law.proofs.Standing.{held_again}
 use Rattle.volume_law.proofs.mount_laws.mount_law.Goals as goal

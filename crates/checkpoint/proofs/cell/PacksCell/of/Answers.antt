@@ -1,3 +1,4 @@
+use Rattle.packs.proofs.Knowing.{none_out}
 use Rattle.checkpoint.proofs.Counting.{whole_counts}
 use Rattle.checkpoint.proofs.cell.PacksCell.of.Goals as goal
 
@@ -14,4 +15,7 @@ invariant_of-result g c =
       complete = λ sound. is.complete;
       slips = is.slips;
       room = is.room;
+      of_rows = is.rows;
+      of_numbers = is.body_numbers;
+      touched = λ _ k below out. absurd (none_out g.V.Numbers.GeometryName.geometry c.args.body.body.touched is.touched k below out);
     }

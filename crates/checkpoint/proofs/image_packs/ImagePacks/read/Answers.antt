@@ -12,8 +12,8 @@ use Rattle.packs.specs.Device.{AreSettled, KeepsArea, IsArea}
 use Rattle.packs.specs.Pack.{IsSettled}
 use Rattle.packs.specs.Parts.{body_bytes}
 use Rattle.packs.specs.declared.packs.Packs.{Packs}
-use Rattle.packs_format.proofs.Parts.{long_as_a_body}
-use Rattle.packs_format.specs.Grammar.{SpellsTables, SpellsNoTables}
+use Rattle.pack_tables.proofs.Parts.{long_as_a_body}
+use Rattle.pack_tables.specs.Grammar.{SpellsTables, SpellsNoTables}
 use Rattle.checkpoint.specs.Holding.{AreWhole, counting_body}
 use Rattle.checkpoint.specs.declared.image_packs.ImagePacks.{ImagePacks}
 use Rattle.checkpoint.proofs.image_packs.ImagePacks.read.Goals as goal

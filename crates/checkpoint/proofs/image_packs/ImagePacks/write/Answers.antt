@@ -1,6 +1,6 @@
 use Rattle.std.proofs.Common.{◌∙◌}
 use Rattle.checkpoint_image.specs.View.{taken_view}
-use Rattle.packs_format.proofs.RoundTrip.{spelled_back}
+use Rattle.pack_tables.proofs.RoundTrip.{spelled_back}
 use Rattle.checkpoint.specs.Holding.{counting_body}
 use Rattle.checkpoint.proofs.Bodies.{settled_holds}
 use Rattle.checkpoint.proofs.image_packs.ImagePacks.write.Goals as goal

@@ -1,14 +1,22 @@
 use Rattle.std.proofs.Common.{ap, sym, subst, ◌∙◌}
 use Rattle.rights_books.specs.Accounts.{HandView}
 use Rattle.nodes.specs.Held.{no_others}
-use Rattle.file_calls.specs.Contents.{InHand}
+use Rattle.nodes_law.specs.Contents.{InHand}
 use Rattle.file_cells.proofs.Lodging.{empty_hand}
 use Rattle.file_cells.proofs.cell.FileCell.end.Goals as goal
 
-pub give_up-requires-clause-held : goal.give_up-requires-clause-held
-give_up-requires-clause-held g c =
+pub give_up-requires : goal.give_up-requires
+give_up-requires g c =
     let took = c.take-file.ensures in
-    (no_others, subst (InHand no_others c.take-file.result) (sym took.hand) took.lodged.lodged)
+    record {
+      file = record {
+        book_is = ap (λ (v : HandView). v.book) took.hand ∙ ap (λ (v : HandView). v.book) c.requires.hand;
+        shape_is = took.lodged.shape_is;
+        stored = took.lodged.stored;
+        law = took.lodged.law;
+        held = (no_others, subst (InHand no_others c.take-file.result) (sym took.hand) took.lodged.lodged);
+      };
+    }
 
 pub returns-clause-hand : goal.returns-clause-hand
 returns-clause-hand g c =

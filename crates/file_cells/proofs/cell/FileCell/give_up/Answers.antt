@@ -1,12 +1,12 @@
 use Rattle.std.proofs.Common.{◌∙◌}
 use Rattle.nodes.specs.Held.{no_others}
-use Rattle.file_cells.proofs.Lodging.{lent_book, lent_all, cell_has, empty_hand}
+use Rattle.file_cells.proofs.Lodging.{lent_book, lent_all, lent_file, cell_has, empty_hand}
 use Rattle.file_cells.proofs.cell.FileCell.give_up.Goals as goal
 
-pub give_up-requires-clause-held : goal.give_up-requires-clause-held
-give_up-requires-clause-held g c =
+pub give_up-requires : goal.give_up-requires
+give_up-requires g c =
     let was = cell_has g.V.Books.BooksName.books.book g.V.Numbers.GeometryName.geometry c.self.inside.number c.self.inside.account _ c.in-Some.file c.self.invariant c.in-Some.is in
-    (no_others, lent_all g.V.Books.BooksName.books.book c.self.inside.account c.args.hand.now c.unlodge_all.new.permit c.requires.hand c.unlodge_all.ensures.permit c.in-Some.file was.keeps.0.lodged)
+    record { file = lent_file g.V.Books.BooksName.books.book c.self.inside.account c.args.hand.now c.unlodge_all.new.permit c.requires.hand c.unlodge_all.ensures.permit g.V.Numbers.GeometryName.geometry c.in-Some.file was.keeps.0 }
 
 pub returns-in-Some-clause-hand : goal.returns-in-Some-clause-hand
 returns-in-Some-clause-hand g c =

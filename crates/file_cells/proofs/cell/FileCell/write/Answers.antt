@@ -18,7 +18,7 @@ returns-clause-file g c =
     let p = c.pass.inside in
     let shows = cell_shows g.V.Books.BooksName.books.book g.V.Numbers.GeometryName.geometry c.self.inside.number c.self.inside.account _ c.in-Some.file c.self.invariant c.in-Some.is p.account.content c.compare.ensures.same in
     pass_changed p.number p.account c.note_file.new.pass c.write_lodged.new.file c.note_file.ensures.pass c.args.pass.now c.in-Some.file c.pass.view_is shows
-    (λ x. written x c.args.index c.args.bytes.now) c.in_ok-write_lodged.ensures.file
+    (λ x. written x c.args.block.now.index c.args.block.now.bytes.now) c.in_ok-write_lodged.ensures.file
 
 pub invariant_of-pass : goal.invariant_of-pass
 invariant_of-pass g c =

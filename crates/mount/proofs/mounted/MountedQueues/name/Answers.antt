@@ -1,7 +1,7 @@
 -- The tables that were made for the image have the names of the books and the words.
 use Rattle.std.proofs.Common.{◌≡◌, ℕ, List, ap, subst, ◌∙◌}
 use Rattle.atomic_table.specs.Seated.{TableId}
-use Rattle.rights_claims.specs.Rules.{Ruled}
+use Rattle.rights_books.specs.ClaimRules.{Ruled}
 use Rattle.rights_books.specs.declared.claim.Layout.{Layout}
 use Rattle.image.specs.Files.{files as image_files}
 use Rattle.image.specs.View.{image_view}
@@ -18,6 +18,13 @@ put_together-requires-clause-memory g c =
     let words = ap (λ (v : MountView g.row.M.Denot g.row.B.Denot). v.words) c.mounted.view_is ∙ c.args.self.named.of_words in
     subst (λ (w : TableId). IsMemory device.packs.geometry (image_view device.image) g.L.BooksName.books.book w memory) words
     (subst (λ (b : Ruled Layout). IsMemory device.packs.geometry (image_view device.image) b.book c.mounted.inside.tables.words.table memory) books c.mounted.invariant.made.memory)
+
+pub put_together-requires-clause-of_rows : goal.put_together-requires-clause-of_rows
+put_together-requires-clause-of_rows g c =
+    ap (λ (v : MountView g.row.M.Denot g.row.B.Denot). v.rows) c.mounted.view_is ∙ c.args.self.named.of_rows
+
+pub put_together-requires-clause-rows : goal.put_together-requires-clause-rows
+put_together-requires-clause-rows g c = c.mounted.invariant.made.rows
 
 pub returns-clause-passes : goal.returns-clause-passes
 returns-clause-passes g c =

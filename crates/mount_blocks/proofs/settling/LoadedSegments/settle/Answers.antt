@@ -86,7 +86,7 @@ returns-else-valid-eq0-clause-segments g c =
     let self = c.args.self.now in
     let r = c.into_sealed-state.result in
     let is = c.into_sealed-state.ensures.segment in
-    let table_is : r.table ≡ table = sealed_table c.args.standing (record { table = r.table; life = r.life }) c.into_sealed-state.ensures.life ∙ ap (λ (p : Post). p.table) c.requires.standing in
+    let table_is : r.table ≡ table = sealed_table c.args.right.standing (record { table = r.table; life = r.life }) c.into_sealed-state.ensures.life ∙ ap (λ (p : Post). p.table) c.requires.standing in
     let valid = c.numbers_of-valid.ensures.count in
     let in_state = state_sealed image c.args.number c.in-None.ensures (λ e. absurd (omega arith)) in
     let here = segment_in geometry image c.args.books.now.book table c.args.loading r c.args.number Sealed 0 c.numbers_of-valid.result.1 c.requires.number c.requires.whose.0 c.requires.whose.1 c.requires.owners is c.numbers_of-valid.ensures.mtime in_state

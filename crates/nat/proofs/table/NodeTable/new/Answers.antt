@@ -1,6 +1,6 @@
 -- The accounts come in the order of their shards, so the next one's number is that of shards made; sixteen shards with
 -- nothing taken are a table with nothing taken.
-use Rattle.std.proofs.Common.{◌≡◌, [], length, ap, sym, ◌∙◌, subst, arith}
+use Rattle.std.proofs.Common.{◌≡◌, [], None, length, ap, sym, ◌∙◌, subst, arith}
 use Rattle.std.specs.Vec.Iter.{into_iter_items}
 use Rattle.nat.specs.Shard.{ShardNodes}
 use Rattle.nat.specs.Table.{IsTable}
@@ -24,7 +24,7 @@ loop-account-preserved g c =
       omega arith,
       next_rest c.args.books.now.book at.number (into_iter_items at.account-iterator) (into_iter_items c.next.new.self) c.in-Some.account steps.0 i.2,
       push_fresh c.args.books.now.book c.args.nodes at.number at.shards.items c.push_reserved.new.self.items c.in_ok-new.field-0 i.3
-          (c.in_ok-new.ensures.shard ∙ ap (λ b. (let s : ShardNodes = record { book = b; shard = at.number; nodes = c.args.nodes; taken = [] } in s)) (ap (λ v. v.book) e)) c.in_ok-new.ensures.own c.push_reserved.ensures.items,
+          (c.in_ok-new.ensures.shard ∙ ap (λ b. (let s : ShardNodes = record { book = b; shard = at.number; nodes = c.args.nodes; taken = []; part = None } in s)) (ap (λ v. v.book) e)) c.in_ok-new.ensures.own c.push_reserved.ensures.items,
       (let room = c.push_reserved.ensures.capacity in omega (arith, i.4)),
     )
 

@@ -5,7 +5,7 @@ use Rattle.std.proofs.lemmas.Bool.{cases_lt}
 use Rattle.nodes.specs.File.{ticket_at, inode_of, below_weight}
 use Rattle.nodes.specs.Marks.{shortened}
 use Rattle.nodes.specs.Owners.{namer_at}
-use Rattle.tree.proofs.Balance.{fewer}
+use Rattle.nodes.proofs.Balance.{fewer}
 use Rattle.nodes.proofs.Shown.{cut_shows}
 use Rattle.nodes.specs.Useful.{ends_by}
 use Rattle.nodes.proofs.Useful.{by_spares}

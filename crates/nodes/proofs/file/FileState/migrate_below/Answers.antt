@@ -1,9 +1,9 @@
 use Rattle.std.proofs.Common.{◌≡◌, refl, arith}
 use Rattle.geometry.specs.Weights.{weigh}
-use Rattle.tree.specs.Tree.{entry_at}
-use Rattle.tree.specs.Change.{ticket_weight, each_naming}
-use Rattle.tree.specs.Laws.{weightless}
-use Rattle.tree.proofs.Changes.{weigh_zero}
+use Rattle.nodes.specs.Tree.{entry_at}
+use Rattle.nodes.specs.Change.{ticket_weight, each_naming}
+use Rattle.nodes.specs.Laws.{weightless}
+use Rattle.nodes.proofs.Changes.{weigh_zero}
 use Rattle.nodes.specs.Places.{OfDirect, OfIndirect, OfDouble}
 use Rattle.nodes.proofs.Placing.{swapped}
 use Rattle.nodes.proofs.file.FileState.migrate_below.Goals as goal

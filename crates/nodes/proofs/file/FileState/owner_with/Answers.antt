@@ -3,7 +3,7 @@ use Rattle.std.proofs.lemmas.Bool.{cases_lt}
 use Rattle.geometry.specs.declared.owner.Owner.{Owner}
 use Rattle.geometry.specs.Owner.{IsOwner}
 use Rattle.geometry.specs.Path.{path}
-use Rattle.tree.specs.Laws.{no_leaf}
+use Rattle.nodes.specs.Laws.{no_leaf}
 use Rattle.nodes.specs.File.{missing_to}
 use Rattle.nodes.specs.Lacking.{last_entry}
 use Rattle.nodes.specs.Owners.{owner_at}

@@ -1,9 +1,9 @@
 -- An index falls to one of four ranges, and the spare nodes for that range go in there: tickets and names stay, and one
 -- node less is missing on the way. A range in the inode misses none.
 use Rattle.std.proofs.Common.{refl, sym, subst, ◌∙◌, arith}
-use Rattle.tree.specs.Tree.{SparesIndex}
-use Rattle.tree.specs.Laws.{no_leaf}
-use Rattle.tree.specs.Change.{nothing}
+use Rattle.nodes.specs.Tree.{SparesIndex}
+use Rattle.nodes.specs.Laws.{no_leaf}
+use Rattle.nodes.specs.Change.{nothing}
 use Rattle.nodes.specs.Places.{OfTickets, OfDirect, OfIndirect, OfDouble, first_of}
 use Rattle.nodes.proofs.Placing.{missed_there, lacked_there, named_there, still, same, names, useful, marks, is_file}
 use Rattle.nodes.proofs.file.FileState.plant.Goals as goal

@@ -1,8 +1,7 @@
-use Rattle.std.proofs.Common.{◌≡◌, ◌≢◌, ◌≤◌, ◌<◌, ℕ, suc, true, false, length, get_or}
+use Rattle.std.proofs.Common.{◌≡◌, ◌≤◌}
 use Rattle.device.specs.Disk.{IsQuiet}
 use Rattle.image.specs.Slots.{slot_of}
-use Rattle.packs.specs.Parts.{known_sides, piece, place}
-use Rattle.packs.specs.Staging.{body_piece}
+use Rattle.packs.specs.Parts.{known_sides}
 use Rattle.packs.proofs.Plans.{IsPlanTo}
 use Rattle.packs.proofs.packs.Packs.plan.Given as goal
 

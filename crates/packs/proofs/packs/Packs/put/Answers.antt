@@ -1,15 +1,14 @@
 -- Neither the map nor a part of the next pack reaches what counts: so at each moment of the loop the old pack is kept,
 -- with what is put so far beside it.
-use Rattle.std.proofs.Common.{◌≡◌, refl, ◌≤◌, ◌<◌, ◌-◌, ◌+◌, ◌∙◌, sym, ap, subst, suc, List, ℕ, Bool, length, arith, add-one}
-use Rattle.device.specs.Disk.{part, Torn, Holds}
+use Rattle.std.proofs.Common.{refl, ◌-◌, ◌∙◌, sym, ap, subst, suc, List, ℕ, length, arith, add-one}
+use Rattle.device.specs.Disk.{Torn, Holds}
 use Rattle.device.proofs.Moments.{torn_moments}
 use Rattle.image.specs.Slots.{slot_of}
 use Rattle.packs.specs.declared.packs.Packs.{Packs}
-use Rattle.packs.specs.Parts.{known_sides, map_at as place_of_map, spelled_map}
+use Rattle.packs.specs.Parts.{known_sides, map_at as place_of_map}
 use Rattle.packs.specs.Device.{KeepsMapped}
 use Rattle.packs.specs.Staging.{IsPut}
 use Rattle.packs.proofs.Keeping.{put_first, map_ends}
-use Rattle.packs.proofs.Stage.{all_staged}
 use Rattle.packs.proofs.Maps.{spelled_long}
 use Rattle.packs.proofs.Putting.{map_step, keep_more}
 use Rattle.packs.proofs.packs.Packs.put.Goals as goal

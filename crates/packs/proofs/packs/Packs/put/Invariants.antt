@@ -1,4 +1,4 @@
-use Rattle.std.proofs.Common.{◌≡◌, ◌≤◌, ℕ}
+use Rattle.std.proofs.Common.{◌≡◌, ◌≤◌}
 use Rattle.image.specs.Slots.{slot_of}
 use Rattle.packs.specs.Parts.{known_sides}
 use Rattle.packs.specs.Staging.{IsPut}

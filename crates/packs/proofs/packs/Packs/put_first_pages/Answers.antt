@@ -1,5 +1,6 @@
 -- A head of zeros names the first copies, so what is staged beside it is the first pack.
 use Rattle.std.proofs.Common.{◌≡◌, refl, sym, ◌∙◌, ap, subst, inl, inr, ℕ, zero, suc, ◌+◌, ◌-◌, ◌<◌, ◌≤◌, ◌⊎◌, true, List, [], ◌∷◌, length, take, drop, replicate, arith}
+use Rattle.std.specs.Prelude.{Result, Ok, Err, OnErr, None}
 use Rattle.byteorder.specs.Endian.{little_number}
 use Rattle.device.specs.Disk.{part, Torn, Holds}
 use Rattle.device.proofs.Ranges.{holds_part, torn_before, torn_after}
@@ -9,10 +10,11 @@ use Rattle.packs.specs.Device.{IsSameArea, IsKnown}
 use Rattle.packs.proofs.Sizes.{is_paged}
 use Rattle.packs.proofs.Keeping.{torn_area, area_joined}
 use Rattle.packs.proofs.Paging.{beside_area}
-use Rattle.packs.proofs.Knowing.{known_pages}
+use Rattle.packs.proofs.Knowing.{known_pages, none_out}
 use Rattle.packs_journal.specs.Places.{IsArea, head_at, footer_at, page_count}
 use Rattle.packs_journal.specs.Journal.{map_of, names_pages, is_head}
 use Rattle.packs_journal.specs.Reading.{head_in, footer_in, assembled}
+use Rattle.packs_journal.specs.Pages.{DiffersIn}
 use Rattle.packs_journal.proofs.Beside.{apart_same}
 use Rattle.packs_journal.proofs.Maps.{zeros_named}
 use Rattle.packs.proofs.packs.Packs.put_first_pages.Goals as goal
@@ -47,25 +49,25 @@ pub returns-in_err-sync-clause-same : goal.returns-in_err-sync-clause-same
 returns-in_err-sync-clause-same g c =
     subst (IsSameArea (g.M.Meta.seen c.args.self.now.meta)) (sym c.sync.ensures.quiet.same) (torn_area _ _ _ _ (omega (arith, c.head_at.ensures)) c.write.ensures.others)
 
-pub stage-requires-clause-area : goal.stage-requires-clause-area
-stage-requires-clause-area g c =
-    let p = c.args.self.now in
-    let seen = g.M.Meta.seen in
-    let was : IsArea (length c.args.body.now) (seen p.meta) = subst (λ (n : ℕ). IsArea n (seen p.meta)) (sym c.requires.len) (is_paged p.geometry (seen p.meta) c.requires.pages c.requires.area) in
-    record { body = was.body; long = ap length c.sync.ensures.quiet.same ∙ c.write.ensures.others.long ∙ was.long }
-
-pub stage-requires-clause-named : goal.stage-requires-clause-named
-stage-requires-clause-named g c = zeros_named (page_count (length c.args.body.now))
-
 pub stage-requires-clause-mapped : goal.stage-requires-clause-mapped
-stage-requires-clause-mapped g c = λ d left is.
+stage-requires-clause-mapped g c =
     let seen = g.M.Meta.seen in
     let p = c.args.self.now in
     let whole = is_paged p.geometry (seen p.meta) c.requires.pages c.requires.area in
+    let was : IsArea (length c.args.body.now) (seen p.meta) = subst (λ (n : ℕ). IsArea n (seen p.meta)) (sym c.requires.len) whole in
     let holds = subst (λ (a : ℕ). Holds (seen p.meta) a (replicate 3584 0) (seen c.write.new.self)) c.head_at.ensures c.in_ok-write.ensures.written in
     let head : head_in 0 (seen c.write.new.self) ≡ replicate 3584 0
     = ap (λ (n : ℕ). part (head_at 0) n (seen c.write.new.self)) (sym zeros_are) ∙ holds_part (head_at 0) (replicate 3584 0) (seen p.meta) (seen c.write.new.self) (omega (arith, zeros_are, whole.long)) holds in
-    ap (λ (l : List ℕ). map_of (head_in 0 l)) (c.in_ok-sync.ensures.durable d left) ∙ ap map_of head ∙ no_map
+    record {
+      area = record { body = was.body; long = ap length c.sync.ensures.quiet.same ∙ c.write.ensures.others.long ∙ was.long };
+      one = omega arith;
+      mapped = λ d left is. ap (λ (l : List ℕ). map_of (head_in 0 l)) (c.in_ok-sync.ensures.durable d left) ∙ ap map_of head ∙ no_map ∙ sym c.nothing-pages.ensures.map;
+      named = ap (λ (m : List ℕ). names_pages (page_count (length c.args.body.now)) m 4352) c.nothing-pages.ensures.map ∙ zeros_named (page_count (length c.args.body.now));
+    }
+
+pub stage-requires-clause-differs : goal.stage-requires-clause-differs
+stage-requires-clause-differs g c = λ k below out _.
+    absurd (none_out c.args.self.now.geometry c.all.result c.all.ensures k (subst (λ (n : ℕ). k < page_count n) c.requires.len below) out)
 
 pub returns-in_err-stage-clause-footers : goal.returns-in_err-stage-clause-footers
 returns-in_err-stage-clause-footers g c = λ slot below.
@@ -86,3 +88,27 @@ pub returns-clause-same : goal.returns-clause-same
 returns-clause-same g c =
     area_joined _ _ _ (subst (IsSameArea (g.M.Meta.seen c.args.self.now.meta)) (sym c.sync.ensures.quiet.same) (torn_area _ _ _ _ (omega (arith, c.head_at.ensures)) c.write.ensures.others))
     (beside_area (length c.args.body.now) 0 _ _ c.stage.ensures.beside)
+
+pub returns-clause-known : goal.returns-clause-known
+returns-clause-known g c =
+    let p = c.args.self.now in
+    let len = c.requires.len in
+    let e = c.in_ok-stage.ensures in
+    let next = c.stage.new.pages in
+    let now = g.M.Meta.seen c.stage.new.meta in
+    let noted = subst (λ (b : List ℕ). DiffersIn next.noted (length c.args.body.now) next.map b now) (sym e.staged) e.noted in
+    known_pages p.geometry 1 (record { map = None; pages = next }) now c.requires.pages (λ _. e.map) (subst (λ (n : ℕ). names_pages (page_count n) next.map 4352 ≡ true) len c.stage.ensures.named)
+    (subst (λ (n : ℕ). DiffersIn next.noted n next.map (assembled n 1 now) now) len noted)
+
+pub returns-clause-staged : goal.returns-clause-staged
+returns-clause-staged g c = subst (λ (n : ℕ). assembled n 1 (g.M.Meta.seen c.stage.new.meta) ≡ c.args.body.now) c.requires.len c.in_ok-stage.ensures.staged
+
+on_err : {T E P : Type 0} (r : Result T E) → P → OnErr r P
+on_err (Ok x) p = tt
+on_err (Err e) p = p
+
+pub returns-in_err-stage-clause-cause : goal.returns-in_err-stage-clause-cause
+returns-in_err-stage-clause-cause g c = record {
+  later = omega (arith, c.write.ensures.cause.later, c.sync.ensures.cause.later, c.stage.ensures.cause.later);
+  failed = on_err c.from_residual-in_err-stage.result (omega (arith, c.write.ensures.cause.later, c.sync.ensures.cause.later, c.in_err-stage.ensures.cause.failed));
+}

@@ -2,13 +2,13 @@
 -- no such part, so that one is kept at every moment.
 use mathlib.Core.Bool.{not, beq}
 use Rattle.std.proofs.lemmas.Bool.{eqb-true}
-use Rattle.std.proofs.Common.{◌≡◌, ◌≢◌, refl, inl, inr, ◌≤◌, ◌<◌, ◌-◌, ◌+◌, ◌∙◌, sym, ap, subst, suc, List, ℕ, Bool, true, false, length, arith}
-use Rattle.device.specs.Disk.{part, Torn, Holds}
+use Rattle.std.proofs.Common.{◌≡◌, ◌≢◌, refl, inl, inr, ◌≤◌, ◌-◌, ◌+◌, ◌∙◌, sym, ap, subst, suc, ℕ, Bool, true, false, length, arith}
+use Rattle.device.specs.Disk.{Torn, Holds}
 use Rattle.device.proofs.Moments.{torn_moments}
 use Rattle.image.specs.Slots.{slot_of}
 use Rattle.packs.specs.Parts.{known_sides, place, side, body_bytes, lies, slot_at}
 use Rattle.packs.specs.Device.{KeepsMapped}
-use Rattle.packs.proofs.Keeping.{lies_within, put_same, put_more, part_ends}
+use Rattle.packs.proofs.Keeping.{lies_within, put_same, put_more, wrote_ends}
 use Rattle.packs.proofs.Places.{place_next}
 use Rattle.packs.proofs.Putting.{part_step}
 use Rattle.packs.proofs.packs.Packs.put_part.Goals as goal
@@ -61,22 +61,14 @@ returns-clause-any_moment g c = λ start old had slot.
 pub returns-in_err-write-clause-ends : goal.returns-in_err-write-clause-ends
 returns-in_err-write-clause-ends g c =
     let p = c.args.self.now in
-    let seen = g.M.Meta.seen in
-    let b = lies (1 - slot_of p.version) c.side-other.result in
-    let torn : Torn (slot_at (body_bytes p.geometry) b + place p.geometry c.args.k) (place p.geometry (suc c.args.k) - place p.geometry c.args.k) (seen p.meta) (seen c.write.new.self)
-    = subst (λ (a : ℕ). Torn a (place p.geometry (suc c.args.k) - place p.geometry c.args.k) (seen p.meta) (seen c.write.new.self)) c.part_at-at.ensures.place
-    (subst (λ (n : ℕ). Torn c.part_at-at.result n (seen p.meta) (seen c.write.new.self)) c.part_of-bytes.ensures.long c.write.ensures.others) in
-    part_ends p.geometry b c.args.k (seen p.meta) (seen c.write.new.self) (lies_within (1 - slot_of p.version) c.side-other.result (omega arith)) c.requires.within torn
+    wrote_ends p.geometry (lies (1 - slot_of p.version) c.side-other.result) c.args.k c.part_at-at.result (length c.part_of-bytes.result.now) (g.M.Meta.seen p.meta) (g.M.Meta.seen c.write.new.self)
+    (lies_within (1 - slot_of p.version) c.side-other.result (omega arith)) c.requires.within c.part_at-at.ensures.place c.part_of-bytes.ensures.long c.write.ensures.others
 
 pub returns-clause-ends : goal.returns-clause-ends
 returns-clause-ends g c =
     let p = c.args.self.now in
-    let seen = g.M.Meta.seen in
-    let b = lies (1 - slot_of p.version) c.side-other.result in
-    let torn : Torn (slot_at (body_bytes p.geometry) b + place p.geometry c.args.k) (place p.geometry (suc c.args.k) - place p.geometry c.args.k) (seen p.meta) (seen c.write.new.self)
-    = subst (λ (a : ℕ). Torn a (place p.geometry (suc c.args.k) - place p.geometry c.args.k) (seen p.meta) (seen c.write.new.self)) c.part_at-at.ensures.place
-    (subst (λ (n : ℕ). Torn c.part_at-at.result n (seen p.meta) (seen c.write.new.self)) c.part_of-bytes.ensures.long c.write.ensures.others) in
-    part_ends p.geometry b c.args.k (seen p.meta) (seen c.write.new.self) (lies_within (1 - slot_of p.version) c.side-other.result (omega arith)) c.requires.within torn
+    wrote_ends p.geometry (lies (1 - slot_of p.version) c.side-other.result) c.args.k c.part_at-at.result (length c.part_of-bytes.result.now) (g.M.Meta.seen p.meta) (g.M.Meta.seen c.write.new.self)
+    (lies_within (1 - slot_of p.version) c.side-other.result (omega arith)) c.requires.within c.part_at-at.ensures.place c.part_of-bytes.ensures.long c.write.ensures.others
 
 pub returns-clause-put : goal.returns-clause-put
 returns-clause-put g c = λ start put.

@@ -1,6 +1,6 @@
 -- A part begins where the one before it ends: so its bytes read behind those read so far make the pack's body one part
 -- longer.
-use Rattle.std.proofs.Common.{◌≡◌, ◌≤◌, ◌-◌, ◌+◌, ◌++◌, suc, List, ℕ, Bool, length, take, drop, sym, ◌∙◌, ap, subst, arith, add-one, append_assoc, length-append, length-drop}
+use Rattle.std.proofs.Common.{◌≡◌, ◌≤◌, ◌-◌, ◌+◌, ◌++◌, suc, List, ℕ, Bool, length, take, sym, ◌∙◌, ap, arith, add-one, append_assoc, length-append, length-drop}
 use Rattle.std.proofs.lemmas.List.{take_at, length-take-le}
 use Rattle.device.specs.Disk.{part}
 use Rattle.image.specs.Slots.{slot_of}

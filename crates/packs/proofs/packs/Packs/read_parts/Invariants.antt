@@ -1,4 +1,4 @@
-use Rattle.std.proofs.Common.{◌≡◌, ◌≤◌, ℕ, length, take}
+use Rattle.std.proofs.Common.{◌≡◌, ◌≤◌, length, take}
 use Rattle.device.specs.Disk.{IsQuiet}
 use Rattle.image.specs.Slots.{slot_of}
 use Rattle.packs.specs.Parts.{gathered, place}

@@ -1,8 +1,4 @@
-use Rattle.std.proofs.Common.{◌≡◌, ◌≢◌, ◌≤◌, ◌<◌, ◌-◌, ◌+◌, ◌^◌, ◌∙◌, sym, ap, subst, suc, List, ℕ, Bool, true, false, length, arith}
-use Rattle.device.specs.Disk.{part}
-use Rattle.packs.specs.Parts.{place as place_of_part, body_bytes}
-use Rattle.packs.specs.Area.{area_bytes}
-use Rattle.packs.proofs.Sizes.{is_small}
+use Rattle.std.proofs.Common.{arith}
 use Rattle.packs.proofs.packs.Packs.side_for.Goals as goal
 
 pub equals-requires-clause-within : goal.equals-requires-clause-within

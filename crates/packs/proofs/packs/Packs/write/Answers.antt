@@ -8,7 +8,7 @@ use Rattle.image.specs.Slots.{version_of}
 use Rattle.packs.specs.Pack.{IsSettled, Between}
 use Rattle.geometry.specs.declared.geometry.Geometry.{Geometry}
 use Rattle.packs.specs.Area.{reading_of}
-use Rattle.packs.specs.Device.{KeepsArea, IsSameArea, AreStaged, body_of, staged_in}
+use Rattle.packs.specs.Device.{KeepsArea, IsSameArea, AreSettled, AreStaged, body_of, staged_in}
 use Rattle.packs.specs.declared.packs.Known.{Known}
 use Rattle.packs.specs.declared.packs.Packs.{Packs}
 use Rattle.packs.proofs.Crash.{settled_between}
@@ -19,6 +19,21 @@ use Rattle.packs.proofs.packs.Packs.write.Goals as goal
 read_version : (version : ℕ) (body : List ℕ) → version ≡ little_number 4 body → version ≡ version_of body
 unfolding version_of
 read_version version body is = is
+
+pub commit-requires-clause-staged : goal.commit-requires-clause-staged
+commit-requires-clause-staged g c =
+    let s = c.stage.new.self in
+    let seen = g.M.Meta.seen in
+    let r = reading_of s.geometry in
+    let old = body_of (reading_of c.args.self.now.geometry) seen c.args.self.now in
+    let is = c.in_ok-known.ensures.staged in
+    subst (λ (l : List ℕ). AreStaged r seen g.M.Meta.may_leave s l (staged_in r seen s) c.in_ok-known.known) (sym (old_named r seen g.M.Meta.may_leave g.met.M.Meta.seen_is_left s _ _ _ is))
+    (subst (λ (l : List ℕ). AreStaged r seen g.M.Meta.may_leave s old l c.in_ok-known.known) (sym (new_named r seen g.M.Meta.may_leave g.met.M.Meta.seen_is_left s _ _ _ is)) is)
+
+pub returns-clause-settled : goal.returns-clause-settled
+returns-clause-settled g c =
+    subst (AreSettled (reading_of c.commit.new.self.geometry) g.M.Meta.seen g.M.Meta.may_leave c.commit.new.self)
+    (new_named (reading_of c.stage.new.self.geometry) g.M.Meta.seen g.M.Meta.may_leave g.met.M.Meta.seen_is_left c.stage.new.self _ _ _ c.in_ok-known.ensures.staged) c.in_ok-commit.ensures.settled
 
 pub commit-requires-clause-version : goal.commit-requires-clause-version
 commit-requires-clause-version g c =

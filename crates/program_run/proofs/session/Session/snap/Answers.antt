@@ -1,5 +1,5 @@
 use Rattle.std.proofs.Common.{◌≡◌, ◌∙◌, ◌+◌, ◌∷◌, ◌++◌, [], ap, subst, arith, length, Some, is_some}
-use Rattle.file_readers.specs.Reader.{IsPinned, SnapshotOf}
+use Rattle.file_cells.specs.Reader.{IsPinned, SnapshotOf}
 use Rattle.program_run.specs.Files.{Files, HasFile, file_at, with_reader}
 use Rattle.program_run.proofs.OneCall.{found_at}
 use Rattle.program_run.proofs.FilePlaces.{has_at, pass_is}

@@ -9,7 +9,7 @@ use Rattle.program_run.proofs.session.Session.sync.Goals as goal
 pub returns : goal.returns
 returns g c =
     let written = c.in_ok-stored.stored.taken.image in
-    let image : Image = record (image_view written.tables) { segments = written.rows.rows.segments; summaries = written.rows.rows.summaries; nodes = written.rows.rows.nodes } in
+    let image : Image = record (image_view written.tables) { node_table = written.rows.rows.entries; segments = written.rows.rows.segments; summaries = written.rows.rows.summaries; nodes = written.rows.rows.nodes } in
     let tables = c.tables-tables.result.now in
     subst (λ (f : Files). (x : Image) × IsLawful f.geometry x × (tables.version ≡ x.version) × (tables.total ≡ x.total) × (c.free.result ≡ free_count f.geometry x)) c.self.view_is (
       image,

@@ -5,7 +5,7 @@ use Rattle.rights_books.specs.declared.claim.Claim.{Claim}
 use Rattle.rights_books.specs.declared.claim.Claim.TheVariants.{Segment}
 use Rattle.rights_books.specs.Rules.{each_from}
 use Rattle.rights_books.specs.Accounts.{SegmentView, first_of, number_of}
-use Rattle.rights_claims.specs.Rules.{Held}
+use Rattle.rights_books.specs.ClaimRules.{Held}
 use Rattle.rights_books.proofs.Dealing.{slice_get_push, next_dealt, next_numbered, each_begins}
 use Rattle.rights_books.proofs.books.Books.deal_segments.Goals as goal
 

@@ -1,7 +1,7 @@
 -- The claims of an empty volume are the permits, the segments, the files and the shards, one row behind another: each
 -- dealer takes its row off the front and leaves the next.
 use Rattle.std.proofs.Common.{◌≡◌, ℕ, List, [], ◌++◌, drop, None, ap, ◌∙◌}
-use Rattle.rights_claims.specs.Rules.{Held}
+use Rattle.rights_books.specs.ClaimRules.{Held}
 use Rattle.rights_books.specs.declared.claim.Claim.{Claim}
 use Rattle.rights_books.specs.declared.claim.Claim.TheVariants.{Segment, File, Shard}
 use Rattle.rights_books.specs.declared.claim.Layout.{Layout}

@@ -1,6 +1,6 @@
 use Rattle.std.proofs.Common.{◌≡◌, [], ◌∷◌, Some, None, ap, ◌∙◌}
 use Rattle.std.proofs.Common.{◌++◌, take, drop, List}
-use Rattle.rights_claims.specs.Rules.{Follows}
+use Rattle.rights_books.specs.ClaimRules.{Follows}
 use Rattle.rights_books.specs.Rules.{Lawful}
 use Rattle.rights_books.specs.declared.claim.Claim.{Claim}
 use Rattle.rights_books.specs.declared.claim.Claim.TheVariants.{File, Pass}

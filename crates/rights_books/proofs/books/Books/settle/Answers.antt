@@ -1,7 +1,7 @@
 use Rattle.std.proofs.Common.{List, sym, ap, subst}
 use Rattle.rights_books.specs.Rules.{IsComplete}
 use Rattle.rights_books.specs.declared.claim.Copied.{Copied}
-use Rattle.rights_claims.specs.Rules.{Ruled}
+use Rattle.rights_books.specs.ClaimRules.{Ruled}
 use Rattle.rights_books.specs.declared.claim.Layout.{Layout}
 use Rattle.rights_books.specs.Accounts.{CensusView, census_view}
 use Rattle.rights_books.proofs.books.Books.settle.Goals as goal

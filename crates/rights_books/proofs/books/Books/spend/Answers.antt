@@ -1,6 +1,6 @@
 use Rattle.std.proofs.Common.{◌≡◌, [], ◌∷◌, Some, None, sym, ap, ◌∙◌}
 use Rattle.std.proofs.Common.{◌++◌}
-use Rattle.rights_claims.specs.Rules.{Follows}
+use Rattle.rights_books.specs.ClaimRules.{Follows}
 use Rattle.rights_books.specs.Rules.{Lawful}
 use Rattle.rights_books.specs.declared.claim.Claim.TheVariants.{File}
 use Rattle.rights_books.specs.Accounts.{FileView, PassView, file_view, pass_view}

@@ -2,7 +2,7 @@ use Rattle.std.proofs.Common.{◌≡◌, List, [], ◌∷◌, ◌++◌, ◌%◌,
 use Rattle.geometry.specs.Mark.{same_mark}
 use Rattle.geometry.specs.declared.owner.Owner.TheVariants.{Node}
 use Rattle.geometry.specs.declared.owner.Mark.{Mark}
-use Rattle.rights_claims.specs.Rules.{Follows}
+use Rattle.rights_books.specs.ClaimRules.{Follows}
 use Rattle.rights_books.specs.Lists.{times, without}
 use Rattle.rights_books.specs.Sameness.{same_entry}
 use Rattle.rights_books.specs.Rules.{Lawful, moved_to, with_lodged}

@@ -2,6 +2,8 @@ use Rattle.std.proofs.Common.{◌≡◌, ◌<◌, ◌∷◌, length, refl, sym, 
 use Rattle.geometry.specs.declared.owner.Mark.{Mark}
 use Rattle.geometry.specs.Address.{address_of}
 use Rattle.geometry.specs.Weights.{SameItems}
+use Rattle.rights_books.proofs.PartRows.{unnoted}
+use Rattle.sit.specs.Noted.{segment_row}
 use Rattle.sit.specs.Segment.{Segment, marks_of}
 use Rattle.sit.proofs.Registry.{threaded_marks, threaded-registered}
 use Rattle.sit.proofs.segment.SegmentState.fill.Given as given
@@ -27,9 +29,11 @@ module _ (g : given.Over) (c : goal.After-new g) where
 pub invariant_of-self-2 : goal.invariant_of-self-2
 invariant_of-self-2 g c =
     let s = c.self.inside in
-    let m : Mark = record { address = c.address-address.result; owner = c.args.owner } in
-    threaded-registered s.body c.fill.new.self s.account c.mark-claimed.new.segment s.standing s.standing c.self.invariant c.args.offset c.args.owner c.args.now c.fill.new.self.failed m
-    c.in_ok-block.ensures.segment refl c.mark-claimed.ensures.segment (marked g c)
+    let m : Mark = record { address = c.address-address.result; owner = c.args.owner } in (
+      threaded-registered s.body c.fill.new.self s.account c.mark-claimed.new.segment s.standing s.standing c.self.invariant.0 c.args.offset c.args.owner c.args.now c.fill.new.self.failed m
+          c.in_ok-block.ensures.segment refl c.mark-claimed.ensures.segment (marked g c),
+      unnoted c.change.new.self s.row.part (segment_row c.fill.new.self) c.change.ensures,
+    )
 
 pub returns-clause-marks : goal.returns-clause-marks
 returns-clause-marks g c =

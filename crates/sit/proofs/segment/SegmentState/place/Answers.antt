@@ -1,12 +1,14 @@
 -- The slip shows the segment to be open, so its next place is clear and within: the block there becomes valid with its
 -- mark, or the device failed, and then only its bytes are others.
-use Rattle.std.proofs.Common.{◌≡◌, ◌<◌, ℕ, List, [], ◌∷◌, None, length, get_or, ap, sym, ◌∙◌, subst, arith}
+use Rattle.std.proofs.Common.{◌≡◌, ◌<◌, ℕ, List, [], ◌∷◌, length, get_or, ap, sym, ◌∙◌, subst, arith}
 use Rattle.geometry.specs.declared.owner.Mark.{Mark}
 use Rattle.geometry.specs.declared.state.State.{State}
 use Rattle.geometry.specs.Address.{address_of}
 use Rattle.geometry.specs.Weights.{SameItems}
 use Rattle.words.specs.Tokens.{Post}
-use Rattle.sit.specs.Registered.{Registered, HasLivedOn}
+use Rattle.rights_books.proofs.PartRows.{unnoted}
+use Rattle.sit.specs.Noted.{segment_row}
+use Rattle.sit.specs.Registered.{HasLivedOn}
 use Rattle.sit.specs.Segment.{Segment, marks_of}
 use Rattle.geometry.specs.Blocks.{changed}
 use Rattle.sit.specs.ShownBlocks.{FollowsBlocks}
@@ -16,17 +18,13 @@ use Rattle.sit.proofs.segment.SegmentState.place.Given as given
 use Rattle.sit.proofs.segment.SegmentState.place.Goals as goal
 
 module _ (g : given.Over) (c : goal.After-new g) where
-  -- the block comes to the next place of the segment,
-  next_place : c.args.offset ≡ c.self.inside.body.next
-  next_place = c.requires.place ∙ sym (ap (λ (x : Registered). x.segment.next) c.self.view_is)
-
-  -- where there is room,
+  -- the block comes to the next place of the segment, where there is room,
   room_left : c.self.inside.body.next < length c.self.inside.body.summaries
   room_left = let r = c.in_ok-block.ensures.room in let e = c.in_ok-block.ensures.sized in omega arith
 
   -- and has the address of that place
   placed_at : c.address-address.result ≡ address_of c.self.inside.body.shape c.self.inside.body.number c.self.inside.body.next
-  placed_at = c.address-address.ensures ∙ c.in_ok-block.ensures.address ∙ ap (address_of c.self.inside.body.shape c.self.inside.body.number) next_place
+  placed_at = c.address-address.ensures ∙ c.in_ok-block.ensures.address
 
   -- the segment's marks are those that it had and the block's
   marked : SameItems (record { address = c.address-address.result; owner = c.args.owner } ∷ marks_of c.self.inside.body) (marks_of c.place.new.self)
@@ -34,17 +32,19 @@ module _ (g : given.Over) (c : goal.After-new g) where
       let body = c.self.inside.body in
       let done = c.in_ok-block.ensures in
       placed_marks body c.place.new.self c.args.owner c.args.now c.place.new.self.failed (record { address = c.address-address.result; owner = c.args.owner }) done.segment room_left
-      (sym (ap (λ o. get_or body.summaries o None) next_place) ∙ done.clear) (λ i. record { address = placed_at i; owner = c.args.owner })
+      done.clear (λ i. record { address = placed_at i; owner = c.args.owner })
 
 pub invariant_of-self-2 : goal.invariant_of-self-2
 invariant_of-self-2 g c =
     let s = c.self.inside in
     let done = c.in_ok-block.ensures in
-    let m : Mark = record { address = c.address-address.result; owner = c.args.owner } in
-    placed-registered s.body c.place.new.self s.account c.mark-claimed.new.segment s.standing c.seal_full.new.standing c.self.invariant c.args.owner c.args.now c.place.new.self.failed m
-    (c.self.invariant.state ∙ c.show_open.ensures.state) done.segment
-    (subst (λ (p : State × Post). HasLivedOn p.0 p.1 c.seal_full.new.standing) (λ i. (c.state.ensures i, c.show_open.ensures.standing i)) c.seal_full.ensures.standing)
-    c.mark-claimed.ensures.segment (marked g c)
+    let m : Mark = record { address = c.address-address.result; owner = c.args.owner } in (
+      placed-registered s.body c.place.new.self s.account c.mark-claimed.new.segment s.standing c.seal_full.new.standing c.self.invariant.0 c.args.owner c.args.now c.place.new.self.failed m
+          (c.self.invariant.0.state ∙ c.show_open.ensures.state) done.segment
+          (subst (λ (p : State × Post). HasLivedOn p.0 p.1 c.seal_full.new.standing) (λ i. (c.state.ensures i, c.show_open.ensures.standing i)) c.seal_full.ensures.standing)
+          c.mark-claimed.ensures.segment (marked g c),
+      unnoted c.change.new.self s.row.part (segment_row c.place.new.self) c.change.ensures,
+    )
 
 pub returns-clause-marks : goal.returns-clause-marks
 returns-clause-marks g c =
@@ -62,9 +62,8 @@ returns-in_err-block-clause-err_blocks g c =
     let s = c.self.inside in
     let done = c.in_err-block.ensures in
     let bytes = get_or c.place.new.self.contents s.body.next [] in
-    let place : c.args.offset ≡ s.body.next = c.requires.place ∙ sym (ap (λ (x : Registered). x.segment.next) c.self.view_is) in
     let now = c.args.self.now.segment in
-    let follows : FollowsBlocks (λ blocks. changed blocks (address_of now.shape now.number c.args.offset) bytes) now c.place.new.self =
-    subst (λ (p : ℕ × Segment). FollowsBlocks (λ blocks. changed blocks (address_of p.1.shape p.1.number p.0) bytes) p.1 c.place.new.self) (λ i. (sym place i, (c.self.view_is i).segment))
+    let follows : FollowsBlocks (λ blocks. changed blocks (address_of now.shape now.number now.next) bytes) now c.place.new.self =
+    subst (λ (p : Segment). FollowsBlocks (λ blocks. changed blocks (address_of p.shape p.number p.next) bytes) p c.place.new.self) (λ i. (c.self.view_is i).segment)
     (spoiled_blocks s.body c.place.new.self s.body.next done.err.0 c.place.new.self.failed done.err.2) in
-    let spoiled : (b : List ℕ) × FollowsBlocks (λ blocks. changed blocks (address_of now.shape now.number c.args.offset) b) now c.place.new.self = (bytes, follows) in on_err _ _ spoiled
+    let spoiled : (b : List ℕ) × FollowsBlocks (λ blocks. changed blocks (address_of now.shape now.number now.next) b) now c.place.new.self = (bytes, follows) in on_err _ _ spoiled

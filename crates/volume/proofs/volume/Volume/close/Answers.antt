@@ -1,10 +1,11 @@
-use Rattle.std.proofs.Common.{◌≡◌, sym, subst, inr, ◌∙◌, rules}
+use Rattle.std.proofs.Common.{◌≡◌, sym, subst, inl, inr, ◌∙◌, rules}
 use Rattle.device.specs.Disk.{Leaves}
 use Rattle.checkpoint.specs.Holding.{WasWrittenOver}
 use Rattle.checkpoint_image.specs.View.{taken_view}
-use Rattle.packs_format.specs.Holding.{HoldsTables}
-use Rattle.packs_format.specs.Grammar.{HasSuper}
-use Rattle.packs_format.proofs.SuperLemmas.{super_stays}
+use Rattle.pack_tables.specs.Holding.{HoldsTables}
+use Rattle.pack_tables.specs.Grammar.{HasSuper}
+use Rattle.pack_tables.proofs.SuperLemmas.{super_stays}
+use Rattle.volume.specs.Leaving.{IsLeftOut}
 use Rattle.volume.proofs.volume.Volume.close.Goals as goal
 
 pub returns-in-Ok-clause-mountable : goal.returns-in-Ok-clause-mountable
@@ -30,7 +31,7 @@ returns-in-Ok-clause-any_moment g c =
     c.in-Ok.ensures.any_moment
 
 pub returns-in-Some-clause-error : goal.returns-in-Some-clause-error
-returns-in-Some-clause-error g c = rw c.of.ensures.error (search rules)
+returns-in-Some-clause-error g c = rw c.of.ensures.error (inl (subst (λ n. IsLeftOut n c.in-Some.error) c.as_slice.ensures.len c.in-Some.ensures.some))
 
 pub returns-in-Err-clause-error : goal.returns-in-Err-clause-error
 returns-in-Err-clause-error g c = rw c.of-in-Err.ensures.error (inr (search (rules, c.in-Err.ensures.error)))

@@ -1,5 +1,0 @@
-use Rattle.file_readers.proofs.Noted.{AreLetGo}
-use Rattle.file_readers.proofs.reader.Reader.close.Given as goal
-
-abbrev pub invariant-loop-segment : goal.invariant-loop-segment
-invariant-loop-segment g l = AreLetGo l.pinned.items l.segment l.seat.held

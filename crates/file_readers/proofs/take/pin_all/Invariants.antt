@@ -1,9 +1,0 @@
-use Rattle.std.proofs.Common.{◌≡◌}
-use Rattle.file_readers.proofs.Noted.{ArePinnedTo}
-use Rattle.file_readers.proofs.take.pin_all.Given as goal
-
-abbrev pub invariant-loop-segment : goal.invariant-loop-segment
-invariant-loop-segment g l = record {
-  account : l.account ≡ l.fn.account;
-  so : ArePinnedTo l.noted l.segment l.seat.held;
-}

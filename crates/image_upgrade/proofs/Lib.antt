@@ -1,4 +1,0 @@
-mod Anew
-mod Copying
-mod Refusing
-mod Written

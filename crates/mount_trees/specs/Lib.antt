@@ -1,4 +1,0 @@
-pub mod Goods
-pub mod Loaded
-pub mod FileLoaded
-pub mod Marked

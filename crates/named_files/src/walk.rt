@@ -1,0 +1,97 @@
+//! The files of the passes, and the folder among them.
+ghost use Rattle.std.specs.Prelude.{◌≡◌, ◌≢◌, ◌<◌, ◌⊎◌, ℕ, List, None, All, length, map, true, IfOk, IfErr, IfSome, IfNone, OnOk};
+ghost use Rattle.flash_volume.specs.Worked.{IsOfCall};
+ghost use Rattle.geometry.specs.Shape.{block_bytes};
+ghost use Rattle.geometry.specs.declared.error.Error.TheVariants.{Device, NoMemory};
+ghost use Rattle.named_files.specs.Files.{file_at, HasFolder, IsPlace, IsThere};
+ghost use Rattle.named_folder.specs.Folder.{Row, IsRow};
+ghost use Rattle.named_folder.specs.Rows.{row_of};
+
+use crate::content::{Blocks, read_all, write_all};
+use device::{Block, Meta};
+use file_cells::FilePass;
+use geometry::Error;
+use named_folder::{Entry, FOLDER, decode, encode};
+use rights_permits::VolumeName;
+use std::alloc::Global;
+use std::sync::Wait;
+use volume::Volume;
+
+/// Where the first pass of a number is.
+pub(crate) fn place_of<V: VolumeName>(passes: &[FilePass<V>], number: u32) -> Option<usize>
+    ensures within { IfSome result (λ place. place < length passes.now) }
+    ensures some { IfSome result (λ place. IsPlace number passes.now place) }
+    ensures none { IfNone result (file_at number passes.now ≡ None) }
+{
+    for (place, pass) in passes.iter().enumerate() {
+        if pass.number() == number {
+            return Some(place);
+        }
+    }
+    None
+}
+
+/// Whether the passes have a file of each row.
+pub(crate) fn are_there<V: VolumeName>(passes: &[FilePass<V>], entries: &[Entry]) -> bool
+    ensures { result ≡ true → All (λ row. IsThere passes.now row.number) (map row_of entries.now) }
+{
+    for entry in entries {
+        if place_of(passes, entry.number).is_none() {
+            return false;
+        }
+    }
+    true
+}
+
+/// The rows of the folder. None exactly where the passes have no folder. Answers NoMemory, or Device where the device failed.
+pub(crate) fn read_folder<V: VolumeName, M: Meta, B: Block + Drop, R: Wait>(
+    rt: &R,
+    alloc: Global,
+    volume: &Volume<V, M, B>,
+    passes: &[FilePass<V>],
+) -> Result<Option<Vec<Entry>>, Error>
+    ensures some { IfOk result (λ found. IfSome found (λ entries. HasFolder (block_bytes V.Numbers.geometry.shape) passes.now (map row_of entries.items))) }
+    ensures none { IfOk result (λ found. IfNone found ((rows : List Row) → HasFolder (block_bytes V.Numbers.geometry.shape) passes.now rows → ⊥)) }
+    ensures error { IfErr result (λ error. (error ≡ NoMemory) ⊎ (error ≡ Device)) }
+{
+    match place_of(passes, FOLDER) {
+        Some(place) => {
+            let bytes = read_all(rt, alloc, volume, &passes[place])?;
+            decode(alloc, bytes.as_slice())
+        }
+        None => Ok(None),
+    }
+}
+
+/// The folder becomes these rows, and no other file changes. Its blocks that are as they were are not written. What it is after an error
+/// is not said. The answers are those of `write_all`; NoFile where there is no folder's file.
+pub(crate) fn write_folder<V: VolumeName, M: Meta, B: Block + Drop, R: Wait>(
+    rt: &R,
+    alloc: Global,
+    volume: &Volume<V, M, B>,
+    passes: &mut [FilePass<V>],
+    entries: &[Entry],
+    now: u64,
+) -> Result<(), Error>
+    requires rows { All IsRow (map row_of entries.now) }
+    ensures folder { OnOk result (HasFolder (block_bytes V.Numbers.geometry.shape) passes.new (map row_of entries.now)) }
+    ensures others { (n : ℕ) → n ≢ 1 → file_at n passes.new ≡ file_at n passes.old }
+    ensures error { IfErr result IsOfCall }
+{
+    match place_of(passes, FOLDER) {
+        Some(place) => {
+            let bytes = encode(alloc, entries)?;
+            let pass = &mut passes[place];
+            write_all(
+                rt,
+                alloc,
+                volume,
+                pass,
+                bytes.as_slice(),
+                Blocks::Changed,
+                now,
+            )
+        }
+        None => Err(Error::NoFile),
+    }
+}

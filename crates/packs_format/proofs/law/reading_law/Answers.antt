@@ -1,9 +1,0 @@
-use Rattle.std.proofs.Common.{refl}
-use Rattle.packs_format.proofs.RoundTrip.{tables_back}
-use Rattle.packs_format.proofs.law.reading_law.Goals as goal
-
-pub returns : goal.returns
-returns c = record {
-  round_trip = λ geometry image blocks fits. tables_back geometry image fits blocks;
-  picked = λ geometry file. refl;
-}

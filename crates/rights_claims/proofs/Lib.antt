@@ -1,5 +1,0 @@
-mod Parts
-mod Looking
-mod Fields
-pub mod Weighing
-pub mod Keeping

@@ -1,8 +1,0 @@
-use Rattle.std.proofs.Common.{rules}
-use Rattle.rights_claims.proofs.Keeping.{splits}
-use Rattle.rights_claims.proofs.book.Book.cut.Goals as goal
-
-pub split_seat-cut-requires : goal.split_seat-cut-requires
-split_seat-cut-requires g c =
-    let from = c.take_seat-seat.result in
-    (search (rules, c.requires.book), search rules, splits (g.L.Law.lawful c.self.inside.table.shared.key) from.id g.N.Count.kept from.me.0)

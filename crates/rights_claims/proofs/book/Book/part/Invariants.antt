@@ -1,4 +1,0 @@
-use Rattle.rights_claims.proofs.book.Book.part.Given as goal
-
-abbrev pub ghosts-part_by : goal.ghosts-part_by
-ghosts-part_by g a = record { kept = a.keep }

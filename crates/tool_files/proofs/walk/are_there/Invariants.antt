@@ -1,5 +1,0 @@
-use Rattle.tool_files.proofs.Rows.{AreThereFrom}
-use Rattle.tool_files.proofs.walk.are_there.Given as goal
-
-abbrev pub invariant-loop-entry : goal.invariant-loop-entry
-invariant-loop-entry g l = AreThereFrom l.passes l.entries l.entry-index

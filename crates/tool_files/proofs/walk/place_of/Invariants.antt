@@ -1,5 +1,0 @@
-use Rattle.tool_files.proofs.Places.{Passed}
-use Rattle.tool_files.proofs.walk.place_of.Given as goal
-
-abbrev pub invariant-loop-place : goal.invariant-loop-place
-invariant-loop-place g l = Passed l.number l.place l.passes

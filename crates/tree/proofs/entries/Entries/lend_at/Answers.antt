@@ -1,7 +1,0 @@
-use Rattle.tree.proofs.Same.{with_slot-same}
-use Rattle.tree.proofs.entries.Entries.lend_at.Goals as goal
-
-pub returns-clause-same : goal.returns-clause-same
-returns-clause-same g c =
-    let same = with_slot-same c.args.self.now.slots c.args.at _ _ c.lend.ensures.same c.index_mut.ensures.value in
-    λ k. record { dirty = c.args.self.now.dirty; slots = same k; marked = c.args.self.now.marked }
