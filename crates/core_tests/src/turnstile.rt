@@ -68,6 +68,14 @@ impl<B: BooksName> First<B> {
     }
 }
 
+// A turnstile that was just opened, its books, and all their permits.
+#[derive(Drop)]
+struct Opening<B: BooksName> {
+    books: Books,
+    permits: Permits,
+    opened: OpenedTurnstile<B>,
+}
+
 // What the threads of a play share.
 #[derive(Drop)]
 struct Hall<B: BooksName> {
@@ -187,17 +195,15 @@ fn with_turnstile<B: BooksName + Send + Sync, J: TurnName + Send + Sync, R: Thre
     alloc: Global,
     callers: &[Caller],
     meet: bool,
-    books: Books,
-    permits: Permits,
+    opening: Opening<B>,
     first: First<B>,
-    opened: OpenedTurnstile<B>,
 ) -> Result<Vec<u32>, Error>
-    requires books { books ≡ B.books }
-    requires permits { permits ≡ record { book = B.books.book; count = all_permits } }
-    requires turns { opened.turns ≡ J.turns }
-    requires key { opened.key ≡ J.key }
+    requires books { opening.books ≡ B.books }
+    requires permits { opening.permits ≡ record { book = B.books.book; count = all_permits } }
+    requires turns { opening.opened.turns ≡ J.turns }
+    requires key { opening.opened.key ≡ J.key }
 {
-    let (turnstile, all) = opened.named::<J>(books, permits);
+    let (turnstile, all) = opening.opened.named::<J>(opening.books, opening.permits);
     let hall = Hall {
         first: Mutex::new(first),
         together: Barrier::new(callers.len()),
@@ -227,15 +233,18 @@ fn with_turnstile<B: BooksName + Send + Sync, J: TurnName + Send + Sync, R: Thre
 fn wound_beside<B: BooksName + Send + Sync, J: TurnName + Send + Sync, R: Threads + Wait + Sync>(
     rt: &R,
     alloc: Global,
-    books: Books,
-    permits: Permits,
-    opened: OpenedTurnstile<B>,
+    opening: Opening<B>,
 ) -> Result<Vec<bool>, Error>
-    requires books { books ≡ B.books }
-    requires permits { permits ≡ record { book = B.books.book; count = all_permits } }
-    requires turns { opened.turns ≡ J.turns }
-    requires key { opened.key ≡ J.key }
+    requires books { opening.books ≡ B.books }
+    requires permits { opening.permits ≡ record { book = B.books.book; count = all_permits } }
+    requires turns { opening.opened.turns ≡ J.turns }
+    requires key { opening.opened.key ≡ J.key }
 {
+    let Opening {
+        books,
+        permits,
+        opened,
+    } = opening;
     let (turnstile, all) = opened.named::<J>(books, permits);
     turnstile.scatter(rt, all);
     let together = Barrier::new(WAITING + 1);
@@ -272,7 +281,12 @@ fn wound_books<B: BooksName + Send + Sync, R: Threads + Wait + Sync>(
     requires permits { permits ≡ record { book = B.books.book; count = all_permits } }
 {
     let opened = OpenedTurnstile::<B>::new(alloc)?;
-    wound_beside::<B, Brand, R>(rt, alloc, books, permits, opened)
+    let opening = Opening {
+        books,
+        permits,
+        opened,
+    };
+    wound_beside::<B, Brand, R>(rt, alloc, opening)
 }
 
 fn with_books<B: BooksName + Send + Sync, R: Threads + Wait + Sync>(
@@ -290,11 +304,16 @@ fn with_books<B: BooksName + Send + Sync, R: Threads + Wait + Sync>(
     requires first { 0 / B.books.key.blocks ≡ account.segment }
 {
     let opened = OpenedTurnstile::<B>::new(alloc)?;
+    let opening = Opening {
+        books,
+        permits,
+        opened,
+    };
     let first = First {
         account,
         books: PhantomData,
     };
-    with_turnstile::<B, Brand, R>(rt, alloc, callers, meet, books, permits, first, opened)
+    with_turnstile::<B, Brand, R>(rt, alloc, callers, meet, opening, first)
 }
 
 #[test]

@@ -110,8 +110,8 @@ fn file_bytes(geometry: &Geometry) -> u64 {
     place_of(geometry, geometry.blocks() + 1)
 }
 
-// Settles that the folder names the file.
-fn settle_folder<R: Files<File = File>>(rt: &R, path: &str) -> io::Result<()> {
+/// Settles that the folder of a path names the file.
+pub fn settle_folder<R: Files<File = File>>(rt: &R, path: &str) -> io::Result<()> {
     let folder = match Path::new(path).parent() {
         Some(folder) if !folder.as_os_str().is_empty() => File::open(rt, folder)?,
         _ => File::open(rt, ".")?,

@@ -34,6 +34,10 @@ pub fn keep_in<S: Store + Drop>(
     ensures places { IfOk result (λ parts. All (λ block. blocks.place_of block ≡ block_place geometry.now block.address) parts.blocks.items) }
     ensures error { IfErr result (λ error. error ≡ NoMemory) }
 {
+    let store = match Arc::new(alloc, store) {
+        Ok(store) => store,
+        Err(_) => return Err(Error::NoMemory),
+    };
     wrap(alloc, device, geometry, store, settled)
 }
 
@@ -41,7 +45,7 @@ fn wrap<S: Store + Drop>(
     alloc: Global,
     device: MemDevice,
     geometry: &Geometry,
-    store: Asked<S>,
+    store: Arc<Asked<S>>,
     settled: Settled,
 ) -> Result<Parts<FileMeta<S>, FileBlock<S>>, Error>
     requires { All (λ block. length (⟦<MemBlock as Block>⟧.content_of block) ≡ block_bytes geometry.now.shape) device.parts.blocks.items }
@@ -51,10 +55,6 @@ fn wrap<S: Store + Drop>(
     ensures places { IfOk result (λ parts. All (λ block. blocks.place_of block ≡ block_place geometry.now block.address) parts.blocks.items) }
     ensures error { IfErr result (λ error. error ≡ NoMemory) }
 {
-    let store = match Arc::new(alloc, store) {
-        Ok(store) => store,
-        Err(_) => return Err(Error::NoMemory),
-    };
     let site = Site::new(alloc, Arc::try_clone(&store)?, geometry)?;
     let Parts { meta, blocks } = device.split();
     let meta = FileMeta::of(meta, store, settled);

@@ -5,6 +5,8 @@ ghost use Rattle.flash_volume.specs.Beside.{AreDoneBeside, HaveFailed};
 ghost use Rattle.flash_volume.specs.Worked.{EndedWith, IsNotClosed};
 ghost use Rattle.flash_volume.specs.declared.leave.Stage.TheVariants.{Format as AtFormat, Mount as AtMount, Work as AtWork, Close as AtClose};
 ghost use Rattle.geometry.specs.declared.error.Error.TheVariants.{NoMemory, Device};
+ghost use Rattle.image.specs.Empty.{empty_image};
+ghost use Rattle.volume_format.specs.Mountable.{IsMountable};
 
 use crate::beside::Beside;
 use crate::block::SharedBlock;
@@ -41,14 +43,10 @@ pub fn work_on_new<M: Meta, B: Block + Drop, R: Wait, W: Work<M, B> + Drop>(
     ensures failed { IfErr result (λ fault. fault.stage ≡ AtWork → W.failed work geometry [] fault.error) }
     ensures not_closed { IfErr result (λ fault. fault.stage ≡ AtClose → IsNotClosed fault.error) }
 {
-    match format(alloc, parts, geometry) {
-        Ok(parts) => {
-            mount_law::<M, B>();
-            format_law::<M, B>();
-            work_on(rt, alloc, parts, leave, work)
-        }
-        Err(fault) => Err(unformatted(fault)),
-    }
+    let parts = formatted(alloc, parts, geometry)?;
+    mount_law::<M, B>();
+    format_law::<M, B>();
+    work_on(rt, alloc, parts, leave, work)
 }
 
 /// Writes a volume without files to the parts of a device that has the size of the geometry, mounts it, does works on it side by
@@ -78,26 +76,31 @@ where
     ensures failed { IfErr result (λ fault. fault.stage ≡ AtWork → HaveFailed W.failed geometry works.items [] fault.error) }
     ensures not_closed { IfErr result (λ fault. fault.stage ≡ AtClose → IsNotClosed fault.error) }
 {
-    match format(alloc, parts, geometry) {
-        Ok(parts) => {
-            mount_law::<M, B>();
-            format_law::<M, B>();
-            work_side_by_side(rt, alloc, parts, leave, works)
-        }
-        Err(fault) => Err(unformatted(fault)),
-    }
+    let parts = formatted(alloc, parts, geometry)?;
+    mount_law::<M, B>();
+    format_law::<M, B>();
+    work_side_by_side(rt, alloc, parts, leave, works)
 }
 
-// A format was refused.
-fn unformatted<M: Meta, B: Block>(fault: FormatFault<M, B>) -> Fault<M, B>
-    ensures parts { result.parts ≡ fault.parts }
-    ensures stage { result.stage ≡ AtFormat }
-    ensures error { result.error ≡ fault.error }
+// Writes a volume without files.
+fn formatted<M: Meta, B: Block>(
+    alloc: Global,
+    parts: Parts<M, B>,
+    geometry: Geometry,
+) -> Result<Parts<M, B>, Fault<M, B>>
+    requires size { HasSize M.seen B.address_of B.content_of geometry parts }
+    ensures mountable { IfOk result (λ written. IsMountable M.seen M.may_leave B.address_of B.content_of geometry (empty_image geometry) written) }
+    ensures blocks { IfOk result (λ written. written.blocks ≡ parts.blocks) }
+    ensures stage { IfErr result (λ fault. fault.stage ≡ AtFormat) }
+    ensures error { IfErr result (λ fault. (fault.error ≡ NoMemory) ⊎ (fault.error ≡ Device)) }
+    ensures size_back { IfErr result (λ fault. HasSize M.seen B.address_of B.content_of geometry fault.parts) }
 {
-    let FormatFault { parts, error } = fault;
-    Fault {
-        parts,
-        stage: Stage::Format,
-        error,
+    match format(alloc, parts, geometry) {
+        Ok(parts) => Ok(parts),
+        Err(FormatFault { parts, error }) => Err(Fault {
+            parts,
+            stage: Stage::Format,
+            error,
+        }),
     }
 }

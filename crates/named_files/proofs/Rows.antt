@@ -1,5 +1,5 @@
 -- Each row of a folder has a file, and the number that a put takes is its own.
-use Rattle.std.proofs.Common.{◌≡◌, ◌≢◌, ◌∙◌, ◌+◌, ◌<◌, ◌≤◌, ℕ, List, [], ◌∷◌, Option, Some, None, All, IfSome, IfNone, length, map, drop, get_or, ap, sym, subst, false, inl, inr, Vec, Global}
+use Rattle.std.proofs.Common.{◌≡◌, ◌≢◌, ◌∙◌, ◌+◌, ◌<◌, ◌≤◌, ℕ, List, [], ◌∷◌, Option, Some, None, All, IfSome, IfNone, length, map, drop, get_or, ap, sym, subst, false, inl, inr}
 use Rattle.std.proofs.lemmas.List.{drop_more, drop_all}
 use Rattle.std.proofs.lemmas.List.Elements.{All-cons, All-head, All-nil, All-tail}
 use Rattle.std.specs.Option.{is_none}
@@ -9,7 +9,6 @@ use Rattle.named_folder.specs.Folder.{Row}
 use Rattle.named_folder.specs.Names.{HasNoRow, IsRowOf, IsRowPlace}
 use Rattle.named_folder.specs.Rows.{row_of}
 use Rattle.named_folder.specs.declared.entry.Entry.{Entry}
-use Rattle.named_folder.proofs.Cases.{some_of}
 use Rattle.named_files.proofs.Places.{there_at_place}
 
 -- the files of all rows are there, where those of the rows from i on are
@@ -63,16 +62,15 @@ row_of_all P name (r ∷ rows) row all named =
 pub if_some : {X : Type 0} (P : X → Type 0) (o : Option X) (x : X) → o ≡ Some x → P x → IfSome o P
 if_some P o x is holds = subst (λ y. IfSome y P) (sym is) holds
 
--- the rows that were read of these passes are the folder's
-pub folder_read : (size : ℕ) (before passes : List Pass) (found : Option (Vec Entry Global)) (entries : Vec Entry Global) → before ≡ passes → found ≡ Some entries
-    → IfSome found (λ read. HasFolder size passes (map row_of read.items)) → HasFolder size before (map row_of entries.items)
-folder_read size before passes found entries same is holds =
-    subst (λ (ps : List Pass). HasFolder size ps (map row_of entries.items)) (sym same)
-    (some_of (λ (read : Vec Entry Global). HasFolder size passes (map row_of read.items)) found entries is holds)
+-- the passes have a file of each of the rows that were looked at
+pub rows_there : (entries looked : List Entry) (passes : List Pass) → entries ≡ looked
+    → All (λ (row : Row). IsThere passes row.number) (map row_of looked) → All (λ (row : Row). IsThere passes row.number) (map row_of entries)
+rows_there entries looked passes is there = subst (λ (es : List Entry). All (λ (row : Row). IsThere passes row.number) (map row_of es)) (sym is) there
 
--- these passes have a file of each of the rows that were looked at
-pub rows_there : (before passes : List Pass) (entries looked : List Entry) → before ≡ passes → entries ≡ looked
-    → All (λ (row : Row). IsThere passes row.number) (map row_of looked) → All (λ (row : Row). IsThere before row.number) (map row_of entries)
-rows_there before passes entries looked same is there =
-    subst (λ (ps : List Pass). All (λ (row : Row). IsThere ps row.number) (map row_of entries)) (sym same)
-    (subst (λ (es : List Entry). All (λ (row : Row). IsThere passes row.number) (map row_of es)) (sym is) there)
+-- what was read of these passes holds of those that are the same
+pub folder_of : (size : ℕ) (before passes : List Pass) (rows : List Row) → before ≡ passes → HasFolder size passes rows → HasFolder size before rows
+folder_of size before passes rows same folder = subst (λ (ps : List Pass). HasFolder size ps rows) (sym same) folder
+
+pub there_of : (before passes : List Pass) (rows : List Row) → before ≡ passes → All (λ (row : Row). IsThere passes row.number) rows
+    → All (λ (row : Row). IsThere before row.number) rows
+there_of before passes rows same there = subst (λ (ps : List Pass). All (λ (row : Row). IsThere ps row.number) rows) (sym same) there

@@ -3,9 +3,9 @@ use Rattle.std.proofs.Common.{◌≡◌, ◌≢◌, ◌∙◌, ◌<◌, ℕ, zer
 use Rattle.file_cells.specs.Pass.{Pass}
 use Rattle.geometry.specs.File.{File}
 use Rattle.named_folder.specs.Folder.{Row}
-use Rattle.named_files.specs.Files.{file_at, HasFolder, IsNumberFor, WasDeleted, WasPut, WasRemoved, WasRenamed, WasWritten}
+use Rattle.named_files.specs.Files.{file_at, HasFolder, IsNumberFor, WasDeleted, WasPut, WasRemoved, WasRenamed, WasTaken, WasWritten}
 use Rattle.named_folder.specs.Name.{IsName}
-use Rattle.named_folder.specs.Names.{HasNoRow, IsRowOf, Removes, Renames, Renews}
+use Rattle.named_folder.specs.Names.{HasNoRow, Renames, Renews}
 
 -- a number that no pass has is not that of the folder
 pub past_folder : (number : ℕ) (passes : List Pass) (folder : File) → 0 < number → file_at number passes ≡ None → file_at 1 passes ≡ Some folder → 1 < number
@@ -31,34 +31,31 @@ was_put size name bytes number before between after rows renewed is_name had own
   others = λ n not_folder other. others n not_folder ∙ written.others n other;
 }
 
-pub was_removed : (size : ℕ) (name : List ℕ) (before between after : List Pass) (rows left : List Row) (row : Row)
-    → HasFolder size before rows → IsRowOf name rows row → 1 < row.number → Removes name rows left
-    → file_at row.number between ≡ None → ((n : ℕ) → n ≢ row.number → file_at n between ≡ file_at n before)
-    → HasFolder size after left → ((n : ℕ) → n ≢ 1 → file_at n after ≡ file_at n between) → WasRemoved size name before after
-was_removed size name before between after rows left row had named past removes gone deleted has others = record {
-  rows = rows;
-  had_folder = had;
-  row = row;
-  named = named;
-  left = left;
-  has_folder = has;
-  removes = removes;
-  gone = others row.number (λ e. omega arith) ∙ gone;
-  others = λ n not_folder other. others n not_folder ∙ deleted n other;
-}
+-- of a name whose row was taken out and whose file was deleted
+module _ (size : ℕ) (name : List ℕ) (before between : List Pass) (left : List Row) (taken : WasTaken size name before between left) where
+  pub was_removed : (after : List Pass) → HasFolder size after left → ((n : ℕ) → n ≢ 1 → file_at n after ≡ file_at n between) → WasRemoved size name before after
+  was_removed after has others = record {
+    rows = taken.rows;
+    had_folder = taken.had_folder;
+    row = taken.row;
+    named = taken.named;
+    left = left;
+    has_folder = has;
+    removes = taken.removes;
+    gone = others taken.row.number (λ e. let past = taken.not_folder in omega arith) ∙ taken.gone;
+    others = λ n not_folder other. others n not_folder ∙ taken.others n other;
+  }
 
-pub was_deleted : (size : ℕ) (name : List ℕ) (before after : List Pass) (rows : List Row) (row : Row)
-    → HasFolder size before rows → IsRowOf name rows row → 1 < row.number → file_at row.number after ≡ None
-    → ((n : ℕ) → n ≢ row.number → file_at n after ≡ file_at n before) → WasDeleted size name before after
-was_deleted size name before after rows row had named past gone deleted = record {
-  rows = rows;
-  had_folder = had;
-  row = row;
-  named = named;
-  has_folder = record { folder = had.folder; here = deleted 1 (λ e. omega arith) ∙ had.here; spelled = had.spelled };
-  gone = gone;
-  others = deleted;
-}
+  pub was_deleted : WasDeleted size name before between
+  was_deleted = record {
+    rows = taken.rows;
+    had_folder = taken.had_folder;
+    row = taken.row;
+    named = taken.named;
+    has_folder = record { folder = taken.had_folder.folder; here = taken.others 1 (λ e. let past = taken.not_folder in omega arith) ∙ taken.had_folder.here; spelled = taken.had_folder.spelled };
+    gone = taken.gone;
+    others = taken.others;
+  }
 
 pub was_renamed : (size : ℕ) (name to : List ℕ) (before after : List Pass) (rows renamed : List Row)
     → IsName to → HasNoRow to rows → HasFolder size before rows → Renames name to rows renamed → HasFolder size after renamed → ((n : ℕ) → n ≢ 1 → file_at n after ≡ file_at n before)

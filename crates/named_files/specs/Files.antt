@@ -6,7 +6,7 @@ use Rattle.image_reading.specs.Content.{all_bytes}
 use Rattle.byte_files.specs.Bytes.{HasBytes}
 use Rattle.named_folder.specs.Folder.{Row, BeginsWith, IsRow}
 use Rattle.named_folder.specs.Name.{IsName}
-use Rattle.named_folder.specs.Names.{HasNoRow, IsRowOf, Removes, Renames, Renews}
+use Rattle.named_folder.specs.Names.{HasNoRow, IsRowOf, IsRowPlace, Removes, Renames, Renews}
 
 -- the file of the first pass of a number
 abbrev pub file_at : ℕ → List Pass → Option File
@@ -24,6 +24,11 @@ pub record HasFolder (size : ℕ) (passes : List Pass) (rows : List Row) : Type 
   pub folder : File
   pub here : file_at 1 passes ≡ Some folder
   pub spelled : BeginsWith rows (all_bytes size folder)
+
+-- the folder among the passes has these rows, and the first of the name stands here
+pub record IsNamedAt (size : ℕ) (name : List ℕ) (passes : List Pass) (rows : List Row) (place : ℕ) : Type 0 where
+  pub folder : HasFolder size passes rows
+  pub here : IsRowPlace name rows place
 
 -- the folder among the passes names a file so, whose bytes are these: as many as the folder tells
 pub record IsRead (size : ℕ) (name bytes : List ℕ) (passes : List Pass) : Type 0 where
@@ -74,6 +79,18 @@ pub record WasEntered (size : ℕ) (name bytes : List ℕ) (number : ℕ) (rows 
   pub written : WasWritten size bytes number before after
   pub are_rows : All IsRow renewed
   pub few : length renewed < 2 ^ 64
+
+-- the name's file is gone from the passes and all others are as they were, the folder's too, and these are its rows without the name's
+pub record WasTaken (size : ℕ) (name : List ℕ) (before after : List Pass) (left : List Row) : Type 0 where
+  pub rows : List Row
+  pub had_folder : HasFolder size before rows
+  pub row : Row
+  pub named : IsRowOf name rows row
+  pub not_folder : 1 < row.number
+  pub removes : Removes name rows left
+  pub are_rows : All IsRow left
+  pub gone : file_at row.number after ≡ None
+  pub others : (n : ℕ) → n ≢ row.number → file_at n after ≡ file_at n before
 
 -- the name is gone from the folder and its file from the passes, and all others are as they were
 pub record WasRemoved (size : ℕ) (name : List ℕ) (before after : List Pass) : Type 0 where

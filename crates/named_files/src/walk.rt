@@ -3,7 +3,7 @@ ghost use Rattle.std.specs.Prelude.{◌≡◌, ◌≢◌, ◌<◌, ◌⊎◌, �
 ghost use Rattle.flash_volume.specs.Worked.{IsOfCall};
 ghost use Rattle.geometry.specs.Shape.{block_bytes};
 ghost use Rattle.geometry.specs.declared.error.Error.TheVariants.{Device, NoMemory};
-ghost use Rattle.named_files.specs.Files.{file_at, HasFolder, IsPlace, IsThere};
+ghost use Rattle.named_files.specs.Files.{file_at, HasFolder, IsNamedAt, IsPlace, IsThere};
 ghost use Rattle.named_folder.specs.Folder.{Row, IsRow};
 ghost use Rattle.named_folder.specs.Rows.{row_of};
 
@@ -11,7 +11,8 @@ use crate::content::{Blocks, read_all, write_all};
 use device::{Block, Meta};
 use file_cells::FilePass;
 use geometry::Error;
-use named_folder::{Entry, FOLDER, decode, encode};
+use named_folder::{Entry, FOLDER, decode, encode, row_at};
+use named_reading::Refusal;
 use rights_permits::VolumeName;
 use std::alloc::Global;
 use std::sync::Wait;
@@ -31,8 +32,8 @@ pub(crate) fn place_of<V: VolumeName>(passes: &[FilePass<V>], number: u32) -> Op
     None
 }
 
-/// Whether the passes have a file of each row.
-pub(crate) fn are_there<V: VolumeName>(passes: &[FilePass<V>], entries: &[Entry]) -> bool
+// Whether the passes have a file of each row.
+fn are_there<V: VolumeName>(passes: &[FilePass<V>], entries: &[Entry]) -> bool
     ensures { result ≡ true → All (λ row. IsThere passes.now row.number) (map row_of entries.now) }
 {
     for entry in entries {
@@ -60,6 +61,56 @@ pub(crate) fn read_folder<V: VolumeName, M: Meta, B: Block + Drop, R: Wait>(
             decode(alloc, bytes.as_slice())
         }
         None => Ok(None),
+    }
+}
+
+/// The rows of the folder, of which the passes have each one's file. Refused as NoFolder where the passes have no folder, and as LostFile
+/// where a row's file is not there. The errors are those of `read_folder`.
+pub(crate) fn read_rows<V: VolumeName, M: Meta, B: Block + Drop, R: Wait>(
+    rt: &R,
+    alloc: Global,
+    volume: &Volume<V, M, B>,
+    passes: &[FilePass<V>],
+) -> Result<Result<Vec<Entry>, Refusal>, Error>
+    ensures folder { IfOk result (λ answer. IfOk answer (λ entries. HasFolder (block_bytes V.Numbers.geometry.shape) passes.now (map row_of entries.items))) }
+    ensures there { IfOk result (λ answer. IfOk answer (λ entries. All (λ row. IsThere passes.now row.number) (map row_of entries.items))) }
+    ensures error { IfErr result (λ error. (error ≡ NoMemory) ⊎ (error ≡ Device)) }
+{
+    let Some(entries) = read_folder(rt, alloc, volume, passes)? else {
+        return Ok(Err(Refusal::NoFolder));
+    };
+    if !are_there(passes, entries.as_slice()) {
+        return Ok(Err(Refusal::LostFile));
+    }
+    Ok(Ok(entries))
+}
+
+/// The rows of the folder, and where the first of a name stands.
+#[derive(Drop)]
+pub(crate) struct NamedRow {
+    pub entries: Vec<Entry>,
+    pub row: usize,
+}
+
+/// The rows of the folder, and where the first of a name stands. Refused as NoFolder where the passes have no folder, and as NoSuchFile
+/// where no row has the name. The errors are those of `read_folder`.
+pub(crate) fn find_named<V: VolumeName, M: Meta, B: Block + Drop, R: Wait>(
+    rt: &R,
+    alloc: Global,
+    volume: &Volume<V, M, B>,
+    passes: &[FilePass<V>],
+    name: &str,
+) -> Result<Result<NamedRow, Refusal>, Error>
+    ensures found { IfOk result (λ answer. IfOk answer (λ found. IsNamedAt (block_bytes V.Numbers.geometry.shape) name.now passes.now (map row_of found.entries.items) found.row)) }
+    ensures within { IfOk result (λ answer. IfOk answer (λ found. found.row < length found.entries.items)) }
+    ensures error { IfErr result (λ error. (error ≡ NoMemory) ⊎ (error ≡ Device)) }
+{
+    let Some(entries) = read_folder(rt, alloc, volume, passes)? else {
+        return Ok(Err(Refusal::NoFolder));
+    };
+    match row_at(entries.as_slice(), name) {
+        Some(row) => Ok(Ok(NamedRow { entries, row })),
+        None => Ok(Err(Refusal::NoSuchFile)),
     }
 }
 

@@ -9,6 +9,7 @@ use disk_service::{
 };
 use flash_volume::{Block, Error, Leave, Meta, Parts, SharedBlock, Stage, serve_volume};
 use named_reading::Refusal;
+use std::alloc::Global;
 use std::io;
 use std::io::{Read, Write};
 use std::sync::Wait;
@@ -77,18 +78,33 @@ pub fn serve_disk<
         Err(error) if is_gone(error.kind()) => Greeted::Gone,
         Err(error) => return Err(DiskFault::Stream(error)),
     };
-    match greeted {
-        Greeted::Served => serve_greeted(rt, parts, files, options.settings, clock, input, output),
-        Greeted::Gone => {
-            let served = Served {
-                bytes: files.bytes(),
-                block_bytes: files.block_bytes,
-                counts: None,
-                farewell: None,
-            };
-            Ok((parts, served))
+    let served = Served {
+        bytes: files.bytes(),
+        block_bytes: files.block_bytes,
+        counts: None,
+        farewell: None,
+    };
+    if let Greeted::Gone = greeted {
+        return Ok((parts, served));
+    }
+    let leave = if options.settings.read_only {
+        Leave::Discard
+    } else {
+        Leave::Close
+    };
+    let disk = disk_of(rt.alloc(), files, options.settings, clock, input, output)?;
+    let done = serve_volume(rt, rt.alloc(), parts, leave, disk.stations(), &disk)?;
+    for ended in &done.output {
+        if let Err(error) = ended {
+            return Err(DiskFault::Volume(Stage::Work, *error));
         }
     }
+    let served = Served {
+        counts: Some(disk.counts()),
+        farewell: disk.farewell(rt),
+        ..served
+    };
+    Ok((done.parts, served))
 }
 
 // Whether a stream failed since the client has gone.
@@ -99,32 +115,15 @@ fn is_gone(kind: io::ErrorKind) -> bool {
     )
 }
 
-// Serves a disk to a client that was greeted.
-fn serve_greeted<
-    M: Meta + Send + Drop,
-    B: SharedBlock,
-    R: AllocGlobal + Threads + Wait + Sync,
-    C: Clock + Send + Sync + Drop,
-    I: Read + Send + Drop,
-    O: Write + Send + Drop,
->(
-    rt: &R,
-    parts: Parts<M, B>,
+// The service of a disk for a client that was greeted.
+fn disk_of<C: Clock + Drop, I: Read + Drop, O: Write + Drop>(
+    alloc: Global,
     files: DiskFiles,
     settings: DiskSettings,
     clock: C,
     input: I,
     output: O,
-) -> Result<(Parts<M, B>, Served), DiskFault>
-    requires run { (bytes : ℕ) × IsBlockRun B.address_of B.content_of bytes 1 parts.blocks.items }
-    ensures run { IfOk result (λ served. (bytes : ℕ) × IsBlockRun B.address_of B.content_of bytes 1 served.0.blocks.items) }
-{
-    let bytes = files.bytes();
-    let leave = if settings.read_only {
-        Leave::Discard
-    } else {
-        Leave::Close
-    };
+) -> Result<DiskService<C, I, O>, DiskFault> {
     let DiskFiles {
         numbers,
         blocks,
@@ -133,21 +132,8 @@ fn serve_greeted<
     let Some(layout) = DiskLayout::new(numbers, block_bytes, blocks) else {
         return Err(DiskFault::Broken);
     };
-    let disk = match DiskService::new(rt.alloc(), clock, input, output, layout, settings) {
-        Ok(disk) => disk,
-        Err(error) => return Err(DiskFault::Volume(Stage::Work, error)),
-    };
-    let done = serve_volume(rt, rt.alloc(), parts, leave, disk.stations(), &disk)?;
-    for ended in &done.output {
-        if let Err(error) = ended {
-            return Err(DiskFault::Volume(Stage::Work, *error));
-        }
+    match DiskService::new(alloc, clock, input, output, layout, settings) {
+        Ok(disk) => Ok(disk),
+        Err(error) => Err(DiskFault::Volume(Stage::Work, error)),
     }
-    let served = Served {
-        bytes,
-        block_bytes,
-        counts: Some(disk.counts()),
-        farewell: disk.farewell(rt),
-    };
-    Ok((done.parts, served))
 }

@@ -68,7 +68,7 @@ pub fn draw_text<O: Write>(
         segment = segment.saturating_add(1);
     }
     writeln!(out)?;
-    draw_legend(geometry, image, colours, out)
+    draw_legend(blocks, image, colours, out)
 }
 
 fn draw_segment<O: Write>(
@@ -99,13 +99,7 @@ fn bar_of(count: u32, blocks: u32) -> &'static str {
     BARS[(part as usize).min(7)]
 }
 
-fn draw_legend<O: Write>(
-    geometry: &Geometry,
-    image: &Image,
-    colours: bool,
-    out: &mut O,
-) -> io::Result<()> {
-    let blocks = geometry.shape.segment_blocks();
+fn draw_legend<O: Write>(blocks: u32, image: &Image, colours: bool, out: &mut O) -> io::Result<()> {
     writeln!(
         out,
         "\n  ·  free    ▁ to █  sealed, by how many of its {blocks} blocks are valid"

@@ -7,13 +7,9 @@ mod crashes;
 mod transcript;
 
 use crashes::try_states;
-use std::fs::{File, Files};
 use std::io::Write;
 use std::process::ExitCode;
-use std::rt::Runtime;
-use std::sync::Wait;
-use std::thread::Threads;
-use tool_words::{Fault, words_of_call};
+use tool_words::{Fault, Machine, words_of_call};
 use transcript::play_steps;
 
 // So many times what becomes of the calls is picked by chance, where no word tells another number.
@@ -27,10 +23,7 @@ fn main(rt: HostRuntime) -> ExitCode {
 }
 
 // Does what the word says, and answers the exit status.
-fn run<R: Runtime + AllocGlobal + Wait + Threads + Sync + Files<File = File>, O: Write>(
-    rt: &R,
-    out: &mut O,
-) -> Result<u8, Fault> {
+fn run<R: Machine, O: Write>(rt: &R, out: &mut O) -> Result<u8, Fault> {
     let words = words_of_call(rt)?;
     match words.as_slice().get(1) {
         Some(word) => try_states(rt, word.as_str().parse::<u64>().unwrap_or(PICKS), out),

@@ -4,14 +4,15 @@ use crate::check::check;
 use crate::fault::Fault;
 use crate::folders::dump;
 use crate::getting::{Wanted, concatenate, get};
-use crate::image_run::{now, open_parts, run};
+use crate::image_run::{now, open_parts, read_image, run};
 use crate::importing::import;
+use crate::machine::Machine;
 use crate::making::make;
 use crate::making_room::{remove_making_room, rename_making_room};
 use crate::map::map;
 use crate::opener::Opener;
 use crate::putting::{PutFile, append, copy, put};
-use crate::room::tell_room;
+use crate::room::{room_of, tell_room};
 use crate::screen::Screen;
 use crate::serving::serve;
 use crate::shown::Shown;
@@ -23,17 +24,10 @@ use std::fs::{File, Files};
 use std::io::{Read, Write};
 use std::rt::Runtime;
 use std::sync::Wait;
-use std::thread::Threads;
 use tool_syntax::{ImageFile, Task, Words, write_completions, write_manual};
 
 /// Does what the words ask for, and answers the exit status.
-pub fn obey<
-    P: Opener,
-    R: Runtime + AllocGlobal + Wait + Threads + Sync + Files<File = File>,
-    I: Read + Send,
-    O: Write + Send,
-    E: Write,
->(
+pub fn obey<P: Opener, R: Machine, I: Read + Send, O: Write + Send, E: Write>(
     rt: &R,
     opener: &P,
     screen: Screen,
@@ -63,8 +57,15 @@ pub fn obey<
         Task::Concatenate => concatenate(rt, image, words.names.as_slice(), out)?,
         Task::List { json } => list(rt, image, json, out)?,
         Task::Clean { background } => clean(rt, opener, screen, image, background, out, errors)?,
-        Task::Stat { json } => stat(rt, image, json, out)?,
-        Task::Room { json } => tell_room(rt, image, json, out)?,
+        Task::Stat { json } => {
+            let (geometry, read) = read_image(rt, image)?;
+            stat(rt.alloc(), &geometry, &read, json, out)?;
+        }
+        Task::Room { json } => {
+            let (geometry, read) = read_image(rt, image)?;
+            let room = room_of(&geometry, &read);
+            tell_room(rt.alloc(), &room, image.path, json, out)?;
+        }
         Task::Map { svg, json } => map(rt, screen, image, svg, json, out)?,
         Task::Serve(words) => serve(rt, opener, screen, image, words, input, out, errors)?,
         Task::Complete { shell } => write_completions(rt.alloc(), shell, out)?,

@@ -173,7 +173,14 @@ fn put_front<M: Meta + Drop, B: Block + Drop, R: Runtime + AllocGlobal + Wait, O
     }
     match files.get(count) {
         Some(file) => {
-            let parts = put_alone(rt, parts, *file, screen, out, errors)?;
+            let put = put_alone(rt, parts, *file);
+            if put.is_err() {
+                // What was put is told before.
+                out.flush()?;
+                tell_refused(*file, errors);
+            }
+            let parts = put?;
+            tell_put(*file, screen, out)?;
             Ok((parts, count.saturating_add(1)))
         }
         None => Ok((parts, count)),
@@ -227,14 +234,11 @@ fn fewer_than(most: usize, stage: Stage, error: Error, count: usize) -> Option<u
     }
 }
 
-// Puts one file. Where it is refused it is named on `errors`.
-fn put_alone<M: Meta + Drop, B: Block + Drop, R: Runtime + AllocGlobal + Wait, O: Write, E: Write>(
+// Puts one file.
+fn put_alone<M: Meta + Drop, B: Block + Drop, R: Runtime + AllocGlobal + Wait>(
     rt: &R,
     parts: Parts<M, B>,
     file: NewFile<'_>,
-    screen: Screen,
-    out: &mut O,
-    errors: &mut E,
 ) -> Result<Parts<M, B>, Fault>
     requires run { (bytes : ℕ) × IsBlockRun B.address_of B.content_of bytes 1 parts.blocks.items }
     ensures run { IfOk result (λ left. (bytes : ℕ) × IsBlockRun B.address_of B.content_of bytes 1 left.blocks.items) }
@@ -245,24 +249,20 @@ fn put_alone<M: Meta + Drop, B: Block + Drop, R: Runtime + AllocGlobal + Wait, O
         replaces: true,
         now: now(rt),
     };
-    let fault = match put_making_room(rt, parts, work) {
-        Ok((parts, answer)) => match answer {
-            Ok(_number) => {
-                tell_put(file, screen, out)?;
-                return Ok(parts);
-            }
-            Err(refusal) => Fault::from(refusal),
-        },
-        Err(fault) => fault,
-    };
-    // What was put is told before.
-    out.flush()?;
+    let (parts, answer) = put_making_room(rt, parts, work)?;
+    match answer {
+        Ok(_number) => Ok(parts),
+        Err(refusal) => Err(Fault::from(refusal)),
+    }
+}
+
+// Names the file that was refused.
+fn tell_refused<E: Write>(file: NewFile<'_>, errors: &mut E) {
     let name = Shown(file.name);
     let _ = writeln!(
         errors,
         "rusziveg: {name} was not put; those before it by name were"
     );
-    Err(fault)
 }
 
 fn tell_put<O: Write>(file: NewFile<'_>, screen: Screen, out: &mut O) -> Result<(), Fault> {

@@ -12,6 +12,7 @@ mod image_run;
 mod importing;
 mod json_text;
 mod limits;
+mod machine;
 mod making;
 mod making_room;
 mod map;
@@ -32,6 +33,7 @@ mod window;
 
 pub use fault::Fault;
 pub use limits::Beyond;
+pub use machine::Machine;
 pub use opener::{FileOpener, Opener};
 pub use run::{run_words, words_of_call};
 pub use screen::Screen;

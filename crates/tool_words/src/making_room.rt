@@ -68,21 +68,22 @@ pub fn remove_making_room<M: Meta + Drop, B: Block + Drop, R: AllocGlobal + Wait
             if fault.error != Error::NoSpace {
                 return Err(Fault::from(fault));
             }
-            remove_in_two(rt, fault.parts, remove)
+            remove_in_two(rt, fault, remove)
         }
     }
 }
 
-// Deletes a file, and closes: the checkpoint needs no room, and what the file had comes free. Then its name goes.
+// Where there was no room to remove a file: deletes it, and closes. The checkpoint needs no room, and what the file had comes free. Then
+// its name goes.
 fn remove_in_two<M: Meta + Drop, B: Block + Drop, R: AllocGlobal + Wait>(
     rt: &R,
-    parts: Parts<M, B>,
+    refused: flash_volume::Fault<M, B>,
     remove: Remove<'_>,
 ) -> Result<Result<(), Refusal>, Fault>
-    requires run { (bytes : ℕ) × IsBlockRun B.address_of B.content_of bytes 1 parts.blocks.items }
+    requires run { (bytes : ℕ) × IsBlockRun B.address_of B.content_of bytes 1 refused.parts.blocks.items }
 {
     let file = DeleteFile { name: remove.name };
-    let deleted = work_on(rt, rt.alloc(), parts, Leave::Close, file)?;
+    let deleted = work_on(rt, rt.alloc(), refused.parts, Leave::Close, file)?;
     if let Err(refusal) = deleted.output {
         return Ok(Err(refusal));
     }

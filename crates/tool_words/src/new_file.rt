@@ -1,8 +1,8 @@
 //! New files of the system, which are whole or are not there.
 use crate::fault::Fault;
 use crate::sparse::Sparse;
+use file_device::settle_folder;
 use std::fs::{File, Files};
-use std::path::Path;
 use std::{fs, io};
 
 // How many names are tried for a file beside another.
@@ -124,13 +124,4 @@ fn name_new<R: Files<File = File>>(rt: &R, old: &str, new: &str) -> io::Result<(
         }
         Err(_) => fs::rename(rt, old, new),
     }
-}
-
-// Settles that the folder names the file.
-fn settle_folder<R: Files<File = File>>(rt: &R, path: &str) -> io::Result<()> {
-    let folder = match Path::new(path).parent() {
-        Some(folder) if !folder.as_os_str().is_empty() => File::open(rt, folder)?,
-        _ => File::open(rt, ".")?,
-    };
-    folder.sync_all()
 }

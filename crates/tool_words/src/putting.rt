@@ -61,13 +61,8 @@ pub fn append<P: Opener, R: Runtime + AllocGlobal + Wait + Files<File = File>, I
         bytes: bytes.as_slice(),
         now: now(rt),
     };
-    match append_making_room(rt, parts, work)? {
-        Ok(number) => Ok(PutFile {
-            number,
-            bytes: bytes.len(),
-        }),
-        Err(refusal) => Err(Fault::of_name(rt.alloc(), name, refusal)),
-    }
+    let answer = append_making_room(rt, parts, work)?;
+    put_file(rt, name, bytes.len(), answer)
 }
 
 /// Makes what a file has the file of another name too. Unless it replaces, a name that is there is refused.
@@ -104,12 +99,19 @@ fn put_bytes<P: Opener, R: Runtime + AllocGlobal + Wait + Files<File = File>>(
         replaces,
         now: now(rt),
     };
-    let (_parts, number) = put_making_room(rt, parts, work)?;
-    match number {
-        Ok(number) => Ok(PutFile {
-            number,
-            bytes: bytes.len(),
-        }),
+    let (_parts, answer) = put_making_room(rt, parts, work)?;
+    put_file(rt, name, bytes.len(), answer)
+}
+
+// The file of a name that got so many bytes, or why it was refused.
+fn put_file<R: AllocGlobal>(
+    rt: &R,
+    name: &str,
+    bytes: usize,
+    answer: Result<u32, Refusal>,
+) -> Result<PutFile, Fault> {
+    match answer {
+        Ok(number) => Ok(PutFile { number, bytes }),
         Err(refusal) => Err(Fault::of_name(rt.alloc(), name, refusal)),
     }
 }

@@ -1,6 +1,5 @@
 //! The room of a volume, as `df` tells that of a disk.
 use crate::fault::Fault;
-use crate::image_run::read_image;
 use crate::json_text::write_json;
 use crate::shown::Shown;
 use flash_volume::{Geometry, usable_blocks};
@@ -9,10 +8,8 @@ use image_reading::length_of;
 use named_files::kept_for_folder;
 use named_folder::FOLDER;
 use serde::Serialize;
-use std::fs::{File, Files};
+use std::alloc::Global;
 use std::io::Write;
-use std::time::Clock;
-use tool_syntax::ImageFile;
 
 /// The room of a volume in bytes.
 #[derive(Clone, Copy, Drop, Serialize)]
@@ -27,17 +24,16 @@ pub struct Room {
     pub kept_bytes: u64,
 }
 
-/// Tells the room of the volume at its last checkpoint.
-pub fn tell_room<R: AllocGlobal + Clock + Files<File = File>, O: Write>(
-    rt: &R,
-    file: ImageFile<'_>,
+/// Tells the room of the volume of an image file.
+pub fn tell_room<O: Write>(
+    alloc: Global,
+    room: &Room,
+    path: &str,
     json: bool,
     out: &mut O,
 ) -> Result<(), Fault> {
-    let (geometry, image) = read_image(rt, file)?;
-    let room = room_of(&geometry, &image);
     if json {
-        let text = serde_json::to_string_pretty(rt.alloc(), &room);
+        let text = serde_json::to_string_pretty(alloc, room);
         return write_json(text, out);
     }
     writeln!(
@@ -53,7 +49,7 @@ pub fn tell_room<R: AllocGlobal + Clock + Files<File = File>, O: Write>(
         room.free_bytes,
         percent(room.used_bytes, room.usable_bytes),
         room.kept_bytes,
-        Shown(file.path)
+        Shown(path)
     )?;
     Ok(())
 }

@@ -1,14 +1,12 @@
 //! The words are read and obeyed.
 use crate::commands::obey;
 use crate::fault::Fault;
+use crate::machine::Machine;
 use crate::opener::Opener;
 use crate::screen::Screen;
 use flash_volume::Error;
-use std::fs::{File, Files};
 use std::io::{Read, Write};
 use std::rt::Runtime;
-use std::sync::Wait;
-use std::thread::Threads;
 use std::{env, io};
 use tool_syntax::{Words, read_words};
 
@@ -18,13 +16,7 @@ const MISUSED: u8 = 2;
 /// Does what the words ask for, the first of which is the program's own name, and answers the exit status: 0 done; 1 a volume, an
 /// image or a name was refused; 2 the words were; 4 a file, a stream or memory failed. `put` reads `input` to its end; what is asked
 /// for goes to `out`, and what is wrong, with what can be done, to `errors`. `serve` answers on `out` what a client asks on `input`.
-pub fn run_words<
-    P: Opener,
-    R: Runtime + AllocGlobal + Wait + Threads + Sync + Files<File = File>,
-    I: Read + Send,
-    O: Write + Send,
-    E: Write,
->(
+pub fn run_words<P: Opener, R: Machine, I: Read + Send, O: Write + Send, E: Write>(
     rt: &R,
     opener: &P,
     screen: Screen,

@@ -2,6 +2,7 @@
 use crate::fault::Fault;
 use crate::image_run::{now, open_parts};
 use crate::json_text::write_json;
+use crate::machine::Machine;
 use crate::new_file::{keep_whole, make_new};
 use crate::opener::Opener;
 use crate::screen::Screen;
@@ -11,8 +12,6 @@ use serde::Serialize;
 use std::fs::{File, Files};
 use std::io::{Read, Write};
 use std::rt::Runtime;
-use std::sync::Wait;
-use std::thread::Threads;
 use tool_disk::{DiskOptions, Served, serve_disk};
 use tool_syntax::{ImageFile, ServeWords};
 
@@ -71,13 +70,7 @@ fn percent(asked: u64, moved: u64) -> u64 {
 
 /// Serves a disk of the volume by the NBD protocol: what `input` has are a client's bytes, and it is answered on `out`. The image is
 /// locked meanwhile. What was done is told on `errors` where that is a terminal, and written to a new file where one is named.
-pub fn serve<
-    P: Opener,
-    R: Runtime + AllocGlobal + Wait + Threads + Sync + Files<File = File>,
-    I: Read + Send,
-    O: Write + Send,
-    E: Write,
->(
+pub fn serve<P: Opener, R: Machine, I: Read + Send, O: Write + Send, E: Write>(
     rt: &R,
     opener: &P,
     screen: Screen,

@@ -1,7 +1,7 @@
 //! What a volume has, in numbers.
 use crate::asking::has_file;
 use crate::fault::Fault;
-use crate::image_run::{open_volume, read_image};
+use crate::image_run::open_volume;
 use crate::json_text::write_json;
 use crate::room::{bytes_of, room_of};
 use crate::shown::Shown;
@@ -47,17 +47,17 @@ struct Row<'a> {
     blocks: u32,
 }
 
-/// Tells the numbers of the volume at its last checkpoint.
-pub fn stat<R: AllocGlobal + Clock + Files<File = File>, O: Write>(
-    rt: &R,
-    file: ImageFile<'_>,
+/// Tells the numbers of the volume whose last checkpoint is this image.
+pub fn stat<O: Write>(
+    alloc: Global,
+    geometry: &Geometry,
+    image: &Image,
     json: bool,
     out: &mut O,
 ) -> Result<(), Fault> {
-    let (geometry, image) = read_image(rt, file)?;
-    let facts = facts_of(&geometry, &image);
+    let facts = facts_of(geometry, image);
     if json {
-        let text = serde_json::to_string_pretty(rt.alloc(), &facts);
+        let text = serde_json::to_string_pretty(alloc, &facts);
         return write_json(text, out);
     }
     writeln!(out, "layout    {}", layout_text(geometry.packing))?;

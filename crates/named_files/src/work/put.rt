@@ -10,7 +10,7 @@ ghost use Rattle.named_folder.specs.Rows.{row_of};
 
 use crate::content::{Blocks, write_all};
 use crate::room::{Taken, has_room};
-use crate::walk::{are_there, place_of, read_folder, write_folder};
+use crate::walk::{place_of, read_rows, write_folder};
 use device::{Block, Meta};
 use file_cells::FilePass;
 use flash_volume::{Rights, Work};
@@ -58,14 +58,13 @@ impl<'a, M: Meta, B: Block + Drop> Work<M, B> for Put<'a> {
         volume: &Volume<V, M, B>,
         rights: &mut Rights<V>,
     ) -> Result<Result<u32, Refusal>, Error> {
-        let Some(mut entries) = read_folder(rt, alloc, volume, rights.passes.as_slice())? else {
-            return Ok(Err(Refusal::NoFolder));
+        let mut entries = match read_rows(rt, alloc, volume, rights.passes.as_slice())? {
+            Ok(entries) => entries,
+            Err(refusal) => return Ok(Err(refusal)),
         };
-        if !are_there(rights.passes.as_slice(), entries.as_slice()) {
-            return Ok(Err(Refusal::LostFile));
-        }
         let passes = &mut rights.passes;
-        let number = match enter_file(rt, alloc, volume, passes, &mut entries, self)? {
+        let entered = enter_file(rt, alloc, volume, passes, &mut entries, self)?;
+        let number = match entered {
             Ok(number) => number,
             Err(refusal) => return Ok(Err(refusal)),
         };

@@ -7,7 +7,7 @@ ghost use Rattle.named_files.specs.Many.{WereEntered};
 ghost use Rattle.named_folder.specs.Folder.{IsRow};
 ghost use Rattle.named_folder.specs.Rows.{row_of};
 
-use crate::walk::{are_there, read_folder, write_folder};
+use crate::walk::{read_rows, write_folder};
 use crate::work::put::{Put, enter_file};
 use device::{Block, Meta};
 use file_cells::FilePass;
@@ -63,12 +63,10 @@ impl<'a, 'b, 'c, M: Meta, B: Block + Drop> Work<M, B> for PutAll<'a, 'b, 'c> {
         volume: &Volume<V, M, B>,
         rights: &mut Rights<V>,
     ) -> Result<Result<(), Refusal>, Error> {
-        let Some(mut entries) = read_folder(rt, alloc, volume, rights.passes.as_slice())? else {
-            return Ok(Err(Refusal::NoFolder));
+        let mut entries = match read_rows(rt, alloc, volume, rights.passes.as_slice())? {
+            Ok(entries) => entries,
+            Err(refusal) => return Ok(Err(refusal)),
         };
-        if !are_there(rights.passes.as_slice(), entries.as_slice()) {
-            return Ok(Err(Refusal::LostFile));
-        }
         let entered = enter_all(rt, alloc, volume, &mut rights.passes, &mut entries, self)?;
         if entered.files == 0 {
             return Ok(entered.outcome);

@@ -1,5 +1,5 @@
 //! The rows of the folder are read.
-use crate::walk::{are_there, read_folder};
+use crate::walk::read_rows;
 use device::{Block, Meta};
 use flash_volume::{Rights, Work};
 use geometry::{Error, Geometry};
@@ -45,12 +45,10 @@ impl<M: Meta, B: Block + Drop> Work<M, B> for ReadFolder {
         rights: &mut Rights<V>,
     ) -> Result<Result<FolderRows, Refusal>, Error> {
         let passes = rights.passes.as_slice();
-        let Some(entries) = read_folder(rt, alloc, volume, passes)? else {
-            return Ok(Err(Refusal::NoFolder));
+        let entries = match read_rows(rt, alloc, volume, passes)? {
+            Ok(entries) => entries,
+            Err(refusal) => return Ok(Err(refusal)),
         };
-        if !are_there(passes, entries.as_slice()) {
-            return Ok(Err(Refusal::LostFile));
-        }
         let geometry = volume.geometry();
         Ok(Ok(FolderRows { entries, geometry }))
     }

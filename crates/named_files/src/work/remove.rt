@@ -1,14 +1,16 @@
 //! A file goes, with its name or before it.
-ghost use Rattle.std.specs.Prelude.{◌≡◌, ◌≢◌, ℕ, None, IfErr, OnOk};
+ghost use Rattle.std.specs.Prelude.{◌≡◌, ◌≢◌, ℕ, None, IfErr, IfOk, OnOk, map};
 ghost use Rattle.flash_volume.specs.Worked.{IsOfCall};
-ghost use Rattle.named_files.specs.Files.{file_at};
+ghost use Rattle.geometry.specs.Shape.{block_bytes};
+ghost use Rattle.named_files.specs.Files.{file_at, WasTaken};
+ghost use Rattle.named_folder.specs.Rows.{row_of};
 
-use crate::walk::{place_of, read_folder, write_folder};
+use crate::walk::{NamedRow, find_named, place_of, write_folder};
 use device::{Block, Meta};
 use file_cells::FilePass;
 use flash_volume::{Rights, Work};
 use geometry::Error;
-use named_folder::{row_at, take_row};
+use named_folder::{Entry, take_row};
 use named_reading::Refusal;
 use rights_permits::VolumeName;
 use std::alloc::Global;
@@ -45,14 +47,10 @@ impl<'a, M: Meta, B: Block + Drop> Work<M, B> for Remove<'a> {
         volume: &Volume<V, M, B>,
         rights: &mut Rights<V>,
     ) -> Result<Result<(), Refusal>, Error> {
-        let Some(mut entries) = read_folder(rt, alloc, volume, rights.passes.as_slice())? else {
-            return Ok(Err(Refusal::NoFolder));
+        let entries = match take_named(rt, alloc, volume, &mut rights.passes, self.name)? {
+            Ok(entries) => entries,
+            Err(refusal) => return Ok(Err(refusal)),
         };
-        let Some(row) = row_at(entries.as_slice(), self.name) else {
-            return Ok(Err(Refusal::NoSuchFile));
-        };
-        let number = take_row(&mut entries, row);
-        delete_file(rt, volume, &mut rights.passes, number)?;
         let passes = rights.passes.as_mut_slice();
         write_folder(rt, alloc, volume, passes, entries.as_slice(), self.now)?;
         Ok(Ok(()))
@@ -89,16 +87,33 @@ impl<'a, M: Meta, B: Block + Drop> Work<M, B> for DeleteFile<'a> {
         volume: &Volume<V, M, B>,
         rights: &mut Rights<V>,
     ) -> Result<Result<(), Refusal>, Error> {
-        let Some(mut entries) = read_folder(rt, alloc, volume, rights.passes.as_slice())? else {
-            return Ok(Err(Refusal::NoFolder));
-        };
-        let Some(row) = row_at(entries.as_slice(), self.name) else {
-            return Ok(Err(Refusal::NoSuchFile));
-        };
-        let number = take_row(&mut entries, row);
-        delete_file(rt, volume, &mut rights.passes, number)?;
-        Ok(Ok(()))
+        match take_named(rt, alloc, volume, &mut rights.passes, self.name)? {
+            Ok(_left) => Ok(Ok(())),
+            Err(refusal) => Ok(Err(refusal)),
+        }
     }
+}
+
+// Deletes the file of a name, and answers the rows of the folder without the name's. The folder's file is left as it is.
+fn take_named<V: VolumeName, M: Meta, B: Block + Drop, R: Wait>(
+    rt: &R,
+    alloc: Global,
+    volume: &Volume<V, M, B>,
+    passes: &mut Vec<FilePass<V>>,
+    name: &str,
+) -> Result<Result<Vec<Entry>, Refusal>, Error>
+    ensures taken { IfOk result (λ answer. IfOk answer (λ left. WasTaken (block_bytes V.Numbers.geometry.shape) name.now passes.old.items passes.new.items (map row_of left.items))) }
+    ensures refused { IfOk result (λ answer. IfErr answer (λ refusal. passes.new ≡ passes.old)) }
+    ensures error { IfErr result IsOfCall }
+{
+    let found = match find_named(rt, alloc, volume, passes.as_slice(), name)? {
+        Ok(found) => found,
+        Err(refusal) => return Ok(Err(refusal)),
+    };
+    let NamedRow { mut entries, row } = found;
+    let number = take_row(&mut entries, row);
+    delete_file(rt, volume, passes, number)?;
+    Ok(Ok(entries))
 }
 
 // Deletes the file of a number, where there is one.
@@ -112,32 +127,16 @@ fn delete_file<V: VolumeName, M: Meta, B: Block + Drop, R: Wait>(
     ensures gone { OnOk result (file_at number passes.new.items ≡ None) }
     ensures error { IfErr result IsOfCall }
 {
-    delete_first(rt, volume, passes, number)?;
+    let Some(place) = place_of(passes.as_slice(), number) else {
+        return Ok(());
+    };
+    let pass = passes.remove(place);
+    if let Err((_pass, error)) = volume.delete(rt, pass) {
+        return Err(error);
+    }
     match place_of(passes.as_slice(), number) {
         // Nothing says that the passes are of different files, so it is looked at; no other pass has the number.
         Some(_) => Err(Error::NoFile),
-        None => Ok(()),
-    }
-}
-
-// Deletes the file of the first pass of a number, where there is one.
-fn delete_first<V: VolumeName, M: Meta, B: Block + Drop, R: Wait>(
-    rt: &R,
-    volume: &Volume<V, M, B>,
-    passes: &mut Vec<FilePass<V>>,
-    number: u32,
-) -> Result<(), Error>
-    ensures others { OnOk result ((n : ℕ) → n ≢ number → file_at n passes.new.items ≡ file_at n passes.old.items) }
-    ensures error { IfErr result IsOfCall }
-{
-    match place_of(passes.as_slice(), number) {
-        Some(place) => {
-            let pass = passes.remove(place);
-            match volume.delete(rt, pass) {
-                Ok(()) => Ok(()),
-                Err((_pass, error)) => Err(error),
-            }
-        }
         None => Ok(()),
     }
 }

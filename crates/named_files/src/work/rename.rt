@@ -1,5 +1,5 @@
 //! A file gets another name.
-use crate::walk::{read_folder, write_folder};
+use crate::walk::{NamedRow, find_named, write_folder};
 use device::{Block, Meta};
 use flash_volume::{Rights, Work};
 use geometry::Error;
@@ -44,12 +44,12 @@ impl<'a, M: Meta, B: Block + Drop> Work<M, B> for Rename<'a> {
         if !is_name(self.to) {
             return Ok(Err(Refusal::BadName));
         }
-        let Some(mut entries) = read_folder(rt, alloc, volume, rights.passes.as_slice())? else {
-            return Ok(Err(Refusal::NoFolder));
+        let passes = rights.passes.as_slice();
+        let found = match find_named(rt, alloc, volume, passes, self.name)? {
+            Ok(found) => found,
+            Err(refusal) => return Ok(Err(refusal)),
         };
-        let Some(row) = row_at(entries.as_slice(), self.name) else {
-            return Ok(Err(Refusal::NoSuchFile));
-        };
+        let NamedRow { mut entries, row } = found;
         if row_at(entries.as_slice(), self.to).is_some() {
             return Ok(Err(Refusal::NameTaken));
         }

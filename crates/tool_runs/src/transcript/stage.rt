@@ -11,9 +11,8 @@ use std::io::Write;
 use std::os::unix::fs::{FileExt, PermissionsExt, symlink};
 use std::rt::Runtime;
 use std::sync::Wait;
-use std::thread::Threads;
 use std::{fs, io};
-use tool_words::{FileOpener, Screen, run_words};
+use tool_words::{FileOpener, Machine, Screen, run_words};
 
 /// The input of the next words, and the file that is locked.
 #[derive(Drop)]
@@ -39,7 +38,7 @@ impl Stage {
     /// `hide FOLDER` lets nobody read a folder and `show FOLDER` everybody; `files FOLDER N` makes a folder of so many files, and `folder
     /// PATH` and `link PATH TO` make these;
     /// `halve IMAGE NAME` leaves a removal of the name half done; `rusziveg ..` are the tool's words.
-    pub fn step<R: Runtime + AllocGlobal + Wait + Threads + Sync + Files<File = File>, O: Write>(
+    pub fn step<R: Machine, O: Write>(
         &mut self,
         rt: &R,
         line: &str,
@@ -73,7 +72,7 @@ impl Stage {
     }
 
     // Runs the tool's words, and prints what they said.
-    fn obey<R: Runtime + AllocGlobal + Wait + Threads + Sync + Files<File = File>, O: Write>(
+    fn obey<R: Machine, O: Write>(
         &mut self,
         rt: &R,
         words: &[String],

@@ -6,10 +6,10 @@ use Rattle.flash_volume.proofs.Same.{size_back}
 use Rattle.flash_volume.proofs.Working.{so_on_new, worked_on_new}
 use Rattle.flash_volume.proofs.new.work_on_new.Goals as goal
 
-pub returns-in-Ok-clause-done : goal.returns-in-Ok-clause-done
-returns-in-Ok-clause-done g c =
-    let parts = c.in-Ok.parts in
-    let made = c.in-Ok.ensures.mountable in
+pub returns-clause-done : goal.returns-clause-done
+returns-clause-done g c =
+    let parts = c.in_ok-parts.parts in
+    let made = c.in_ok-parts.ensures.mountable in
     let found = c.mount_law.ensures.at_once c.args.geometry _ parts made in
     ok_then c.work_on.result _ _
     (λ done on. worked_on_new g.M.Meta.seen g.M.Meta.may_leave g.B.Block.address_of g.B.Block.content_of (λ geometry before after. g.W.Work.post c.args.work geometry before done.output after)
@@ -18,10 +18,10 @@ returns-in-Ok-clause-done g c =
     (c.format_law.ensures.no_file c.args.geometry on.geometry on.image parts parts made found on.held.held.front (record { tables = on.held.held.tables; nodes = on.held.held.nodes })))
     c.work_on.ensures.done
 
-pub returns-in-Ok-clause-early : goal.returns-in-Ok-clause-early
-returns-in-Ok-clause-early g c =
-    let parts = c.in-Ok.parts in
-    let made = c.in-Ok.ensures.mountable in
+pub returns-clause-early : goal.returns-clause-early
+returns-clause-early g c =
+    let parts = c.in_ok-parts.parts in
+    let made = c.in_ok-parts.ensures.mountable in
     let found = c.mount_law.ensures.at_once c.args.geometry _ parts made in
     err_both c.work_on.result _ _ _
     (λ fault not_format handed. elim [
@@ -29,10 +29,10 @@ returns-in-Ok-clause-early g c =
       | inr at_mount ↦ c.mount_law.ensures.refused c.args.geometry _ parts parts fault.error made found (handed at_mount).refused
     ]) c.work_on.ensures.stage c.work_on.ensures.handed_back
 
-pub returns-in-Ok-clause-failed : goal.returns-in-Ok-clause-failed
-returns-in-Ok-clause-failed g c =
-    let parts = c.in-Ok.parts in
-    let made = c.in-Ok.ensures.mountable in
+pub returns-clause-failed : goal.returns-clause-failed
+returns-clause-failed g c =
+    let parts = c.in_ok-parts.parts in
+    let made = c.in_ok-parts.ensures.mountable in
     let found = c.mount_law.ensures.at_once c.args.geometry _ parts made in
     err_then c.work_on.result _ _
     (λ fault failed at_work.
@@ -42,10 +42,10 @@ returns-in-Ok-clause-failed g c =
     (c.format_law.ensures.no_file c.args.geometry on.geometry on.image parts parts made found on.held.held.front (record { tables = on.held.held.tables; nodes = on.held.held.nodes })))
     c.work_on.ensures.failed
 
-pub returns-in-Ok-clause-size_back : goal.returns-in-Ok-clause-size_back
-returns-in-Ok-clause-size_back g c =
-    let made = c.in-Ok.ensures.mountable in
-    let found = c.mount_law.ensures.at_once c.args.geometry _ c.in-Ok.parts made in
+pub returns-clause-size_back : goal.returns-clause-size_back
+returns-clause-size_back g c =
+    let made = c.in_ok-parts.ensures.mountable in
+    let found = c.mount_law.ensures.at_once c.args.geometry _ c.in_ok-parts.parts made in
     err_both c.work_on.result _ _ _
-    (λ fault handed given_up. size_back g.M.Meta.seen g.M.Meta.may_leave g.B.Block.address_of g.B.Block.content_of c.args.geometry c.in-Ok.parts fault.parts fault.stage (made.front (g.M.Meta.seen c.in-Ok.parts.meta) found.area) made.size (λ at_mount. (handed at_mount).same) given_up)
+    (λ fault handed given_up. size_back g.M.Meta.seen g.M.Meta.may_leave g.B.Block.address_of g.B.Block.content_of c.args.geometry c.in_ok-parts.parts fault.parts fault.stage (made.front (g.M.Meta.seen c.in_ok-parts.parts.meta) found.area) made.size (λ at_mount. (handed at_mount).same) given_up)
     c.work_on.ensures.handed_back c.work_on.ensures.given_up

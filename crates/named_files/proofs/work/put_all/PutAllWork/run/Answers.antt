@@ -9,37 +9,40 @@ use Rattle.named_files.specs.Many.{WerePut}
 use Rattle.named_folder.specs.Rows.{row_of}
 use Rattle.named_folder.proofs.Cases.{into}
 use Rattle.named_files.proofs.Many.{all_or_front, some_taken, were_put}
-use Rattle.named_files.proofs.Rows.{folder_read, rows_there}
+use Rattle.named_files.proofs.Rows.{folder_of, there_of}
 use Rattle.named_files.proofs.work.put_all.PutAllWork.run.Goals as goal
+
+pub enter_all-requires-clause-rows : goal.enter_all-requires-clause-rows
+enter_all-requires-clause-rows g c = let folder = rw c.in-Ok.is at c.in_ok-entries.ensures.folder in folder.spelled.are_rows
 
 pub enter_all-requires-clause-folder : goal.enter_all-requires-clause-folder
 enter_all-requires-clause-folder g c =
-    let size = block_bytes g.V.Numbers.GeometryName.geometry.shape in
-    let had = folder_read size c.args.rights.now.passes.items c.as_slice.result.now c.in_ok-entries.field-0 c.in-Some.entries (search rules) c.in-Some.is c.in_ok-entries.ensures.some in
-    (had.folder, had.here)
+    let had = rw c.in-Ok.is at c.in_ok-entries.ensures.folder in
+    let same : c.args.rights.now.passes.items ≡ c.as_slice.result.now = search rules in
+    (had.folder, ap (file_at 1) same ∙ had.here)
 
 pub enter_all-requires-clause-there : goal.enter_all-requires-clause-there
 enter_all-requires-clause-there g c =
-    rows_there c.args.rights.now.passes.items c.as_slice-2.result.now c.in-Some.entries.items c.as_slice-3.result.now (search rules) (search rules) (c.are_there.ensures (search rules))
+    there_of c.args.rights.now.passes.items c.as_slice.result.now (map row_of c.in-Ok.entries.items) (search rules) (rw c.in-Ok.is at c.in_ok-entries.ensures.there)
 
 pub write_folder-requires : goal.write_folder-requires
 write_folder-requires g c =
-    record { rows = into (λ es. All IsRow (map row_of es)) c.as_slice-4.result.now c.enter_all.new.entries.items (search rules) c.in_ok-entered.ensures.rows }
+    record { rows = into (λ es. All IsRow (map row_of es)) c.as_slice-2.result.now c.enter_all.new.entries.items (search rules) c.in_ok-entered.ensures.rows }
 
 pub returns-clause-done : goal.returns-clause-done
 returns-clause-done g c =
     let size = block_bytes g.V.Numbers.GeometryName.geometry.shape in
     let files = c.args.self.files.now in
     let before = c.args.rights.now.passes.items in
-    let rows = map row_of c.in-Some.entries.items in
-    let had = folder_read size before c.as_slice.result.now c.in_ok-entries.field-0 c.in-Some.entries (search rules) c.in-Some.is c.in_ok-entries.ensures.some in
+    let rows = map row_of c.in-Ok.entries.items in
+    let had = folder_of size before c.as_slice.result.now rows (search rules) (rw c.in-Ok.is at c.in_ok-entries.ensures.folder) in
     let count = c.in_ok-entered.entered.files in
     let outcome = c.in_ok-entered.entered.outcome in
     let between = c.enter_all.new.passes.items in
     let renewed = map row_of c.enter_all.new.entries.items in
     let after = c.write_folder.new.passes in
     let has : HasFolder size after renewed
-    = into (λ es. HasFolder size after (map row_of es)) c.enter_all.new.entries.items c.as_slice-4.result.now (search rules) c.in_ok-write_folder.ensures.folder in
+    = into (λ es. HasFolder size after (map row_of es)) c.enter_all.new.entries.items c.as_slice-2.result.now (search rules) c.in_ok-write_folder.ensures.folder in
     let same_between : c.as_mut_slice-passes.result.now ≡ between = search rules in
     let others : (n : ℕ) → n ≢ 1 → file_at n after ≡ file_at n between = λ n other. c.in_ok-write_folder.ensures.others n other ∙ ap (file_at n) same_between in
     let some : count ≢ 0 = grind (arith, common_steps) in

@@ -7,18 +7,19 @@ use Rattle.named_folder.specs.Folder.{IsRow}
 use Rattle.named_files.specs.Files.{file_at, HasFolder, WasRenamed}
 use Rattle.named_folder.specs.Names.{HasNoRow, IsRowPlace, Renames}
 use Rattle.named_folder.specs.Rows.{row_of}
-use Rattle.named_folder.proofs.Cases.{into, none_unless, some_of}
+use Rattle.named_folder.proofs.Cases.{into, none_unless}
 use Rattle.named_files.proofs.Works.{was_renamed}
 use Rattle.named_files.proofs.work.rename.RenameWork.run.Goals as goal
 
 pub write_folder-requires : goal.write_folder-requires
 write_folder-requires g c =
-    let size = block_bytes g.V.Numbers.GeometryName.geometry.shape in
-    let folder = some_of (λ found. HasFolder size c.as_slice.result.now (map row_of found.items)) c.in_ok-entries.field-0 c.in-Some.entries c.in-Some.is c.in_ok-entries.ensures.some in
-    let same : c.as_mut_slice.result.now ≡ c.in-Some.entries.items = search rules in
-    let rows : All IsRow (map row_of c.rename_row.new.entries)
-    = c.in_ok-rename_row.ensures.rows (into (λ es. All IsRow (map row_of es)) c.as_mut_slice.result.now c.in-Some.entries.items same folder.spelled.are_rows) in
-    record { rows = into (λ es. All IsRow (map row_of es)) c.as_slice-4.result.now c.rename_row.new.entries (c.as_slice-4.ensures.value ∙ take_at c.rename_row.new.entries (drop (length c.rename_row.new.entries) c.in-Some.entries.items) c.in-Some.entries.len (search rules)) rows }
+    let entries = c.in-Ok.found.entries.items in
+    let named = rw c.in-Ok.is at c.in_ok-found.ensures.found in
+    let same : c.as_mut_slice.result.now ≡ entries = search rules in
+    let renamed = c.rename_row.new.entries in
+    let rows : All IsRow (map row_of renamed)
+    = c.in_ok-rename_row.ensures.rows (into (λ es. All IsRow (map row_of es)) c.as_mut_slice.result.now entries same named.folder.spelled.are_rows) in
+    record { rows = into (λ es. All IsRow (map row_of es)) c.as_slice-2.result.now renamed (c.as_slice-2.ensures.value ∙ take_at renamed (drop (length renamed) entries) c.in-Ok.found.entries.len (search rules)) rows }
 
 pub returns-clause-done : goal.returns-clause-done
 returns-clause-done g c =
@@ -26,24 +27,20 @@ returns-clause-done g c =
     let name = c.args.self.name.now in
     let to = c.args.self.to.now in
     let before = c.args.rights.now.passes.items in
-    let slice = c.as_slice.result.now in
-    let entries = c.in-Some.entries.items in
+    let entries = c.in-Ok.found.entries.items in
     let rows = map row_of entries in
-    let row = c.in-Some-row_at.row in
-    let folder : HasFolder size slice rows
-    = some_of (λ found. HasFolder size slice (map row_of found.items)) c.in_ok-entries.field-0 c.in-Some.entries c.in-Some.is c.in_ok-entries.ensures.some in
-    let had : HasFolder size before rows = into (λ ps. HasFolder size ps rows) before slice (search rules) folder in
-    let same_entries : c.as_slice-2.result.now ≡ entries = search rules in
-    let here : IsRowPlace name rows row = subst (λ es. IsRowPlace name (map row_of es) row) same_entries c.in-Some-row_at.ensures.some in
+    let row = c.in-Ok.found.row in
+    let named = rw c.in-Ok.is at c.in_ok-found.ensures.found in
+    let had : HasFolder size before rows = into (λ ps. HasFolder size ps rows) before c.as_slice-passes.result.now (search rules) named.folder in
     let same : c.as_mut_slice.result.now ≡ entries = search rules in
-    let here_mut : IsRowPlace name (map row_of c.as_mut_slice.result.now) row = into (λ es. IsRowPlace name (map row_of es) row) c.as_mut_slice.result.now entries same here in
-    let gone : is_some c.row_at-2.result ≡ false = search rules in
-    let same_third : c.as_slice-3.result.now ≡ entries = search rules in
-    let free : HasNoRow to rows = subst (λ es. HasNoRow to (map row_of es)) same_third (none_unless (HasNoRow to (map row_of c.as_slice-3.result.now)) c.row_at-2.result gone c.row_at-2.ensures.none) in
+    let here_mut : IsRowPlace name (map row_of c.as_mut_slice.result.now) row = into (λ es. IsRowPlace name (map row_of es) row) c.as_mut_slice.result.now entries same named.here in
+    let gone : is_some c.row_at.result ≡ false = search rules in
+    let same_read : c.as_slice.result.now ≡ entries = search rules in
+    let free : HasNoRow to rows = subst (λ es. HasNoRow to (map row_of es)) same_read (none_unless (HasNoRow to (map row_of c.as_slice.result.now)) c.row_at.result gone c.row_at.ensures.none) in
     let renamed = map row_of c.rename_row.new.entries in
     let after = c.write_folder.new.passes in
     let renames : Renames name to rows renamed = subst (λ es. Renames name to (map row_of es) renamed) same (c.in_ok-rename_row.ensures.renamed name here_mut) in
-    let has : HasFolder size after renamed = into (λ es. HasFolder size after (map row_of es)) c.rename_row.new.entries c.as_slice-4.result.now (sym (c.as_slice-4.ensures.value ∙ take_at c.rename_row.new.entries (drop (length c.rename_row.new.entries) entries) c.in-Some.entries.len (search rules))) c.in_ok-write_folder.ensures.folder in
+    let has : HasFolder size after renamed = into (λ es. HasFolder size after (map row_of es)) c.rename_row.new.entries c.as_slice-2.result.now (sym (c.as_slice-2.ensures.value ∙ take_at c.rename_row.new.entries (drop (length c.rename_row.new.entries) entries) c.in-Ok.found.entries.len (search rules))) c.in_ok-write_folder.ensures.folder in
     let same_passes : c.as_mut_slice-passes.result.now ≡ before = search rules in
     let others : (n : ℕ) → n ≢ 1 → file_at n after ≡ file_at n before = λ n other. c.in_ok-write_folder.ensures.others n other ∙ ap (file_at n) same_passes in
     into (WasRenamed size name to before) (take c.args.rights.now.passes.len (after ++ drop (length after) before)) after (take_at after (drop (length after) before) c.args.rights.now.passes.len (search rules)) (was_renamed size name to before after rows renamed (c.is_name.ensures.yes (search rules)) free had renames has others)

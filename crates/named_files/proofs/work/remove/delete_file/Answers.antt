@@ -1,10 +1,10 @@
 use Rattle.std.proofs.Common.{◌≡◌, ◌∙◌, remove, ap, subst, rules}
 use Rattle.named_files.specs.Files.{file_at, IsPlace}
 use Rattle.named_files.proofs.Updates.{remove_other}
-use Rattle.named_files.proofs.work.remove.delete_first.Goals as goal
+use Rattle.named_files.proofs.work.remove.delete_file.Goals as goal
 
-pub returns-in-Ok-clause-others : goal.returns-in-Ok-clause-others
-returns-in-Ok-clause-others g c =
+pub returns-in-None-clause-others : goal.returns-in-None-clause-others
+returns-in-None-clause-others g c =
     let passes = c.args.passes.now.items in
     let place = c.in-Some.place in
     let same : c.as_slice.result.now ≡ passes = search rules in
