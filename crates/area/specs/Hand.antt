@@ -9,7 +9,7 @@ use Rattle.rights_books.specs.Accounts.{HandView}
 use Rattle.rights_books.specs.Lists.{without}
 use Rattle.rights_books.specs.Rules.{with_lodged}
 use Rattle.rights_books.specs.Sameness.{same_entry}
-use Rattle.rights_books.specs.declared.claim.Entry.{Entry}
+use Rattle.rights_books.specs.declared.claim.TakenNumber.{TakenNumber}
 use Rattle.tickets.specs.Placed.{Placed}
 
 -- The ticket of a block that was written: it came into the hand, and has this owner, these bytes and an address of the volume.
@@ -21,11 +21,11 @@ pub record HasAppended (geometry : Geometry) (owner : Owner) (bytes : List ℕ) 
   pub high : ticket.mark.address ≤ block_count geometry
 
 -- A token was given back: the ticket that was lodged with it, where there was one, came out.
-abbrev pub having_given : Entry → HandView → HandView
+abbrev pub having_given : TakenNumber → HandView → HandView
 having_given token hand = record hand { tickets = with_lodged token hand.tickets; tokens = without same_entry token hand.tokens }
 
 -- A ticket was lodged with a token, which is another from then on: the ticket before it, where there was one, came out.
-abbrev pub having_swapped : Entry → Entry → Mark → HandView → HandView
+abbrev pub having_swapped : TakenNumber → TakenNumber → Mark → HandView → HandView
 having_swapped old new mark hand = record hand {
   tickets = with_lodged old (without same_mark mark hand.tickets);
   tokens = new ∷ without same_entry old hand.tokens;

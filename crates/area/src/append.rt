@@ -1,5 +1,6 @@
 //! Appends to a log.
-ghost use Rattle.std.specs.Prelude.{◌≡◌, ◌<◌, ◌≤◌, ◌∷◌, ◌⊎◌, Some, length, MatchOption, OnOk, OnErr, IfOk, IfErr, IfSome, IfNone};
+ghost use Rattle.std.specs.Prelude.{◌≡◌, ◌<◌, ◌≤◌, ◌∷◌, Some, length, MatchOption, OnOk, OnErr, IfOk, IfErr, IfSome, IfNone};
+ghost use Rattle.geometry.specs.Refusals.{IsOfAppend};
 ghost use Rattle.geometry.specs.declared.error.Error.TheVariants.{Device, NoSpace};
 ghost use Rattle.geometry.specs.Shape.{block_bytes};
 ghost use Rattle.geometry.specs.Owner.{IsOwner};
@@ -7,13 +8,13 @@ ghost use Rattle.area.specs.Hand.{HasAppended};
 ghost use Rattle.area.specs.Slips.{HasDrawn, HasOpened};
 
 use crate::cells::LogCell;
+use crate::hole_reuse::HoleReuse;
 use crate::log::Log;
 use crate::main_area::MainArea;
-use crate::threading::Threading;
 use device::Block;
 use geometry::{Error, Geometry, Owner};
 use pool::Pool;
-use rights_books::Permit;
+use rights_books::CallAccount;
 use rights_permits::VolumeName;
 use std::sync::Wait;
 use tickets::Ticket;
@@ -76,7 +77,7 @@ impl<V: VolumeName> LogCell<V> {
 impl<V: VolumeName, B: Block + Drop> MainArea<V, B> {
     /// Writes the next block of a log, and gives its ticket, which is in hand from then on. The block lies in the log's open
     /// segment, or in a hole of the one that it threads: an append that finds no free segment that it may draw on threads the
-    /// first segment, in ascending order, that can be threaded, where the volume's rule lets it: see `Threading`. Cleaning threads
+    /// first segment, in ascending order, that can be threaded, where the volume's rule lets it: see `HoleReuse`. Cleaning threads
     /// none of the section that it empties.
     ///
     /// Answers NoSpace where the log has no place, each queue that the call may draw on was empty, and no segment can be threaded
@@ -85,7 +86,7 @@ impl<V: VolumeName, B: Block + Drop> MainArea<V, B> {
     pub fn append<R: Wait>(
         &self,
         rt: &R,
-        hand: &mut Permit,
+        hand: &mut CallAccount,
         log: Log,
         owner: Owner,
         now: u64,
@@ -97,7 +98,7 @@ impl<V: VolumeName, B: Block + Drop> MainArea<V, B> {
         requires bytes { length bytes.now ≡ block_bytes V.Numbers.geometry.shape }
         ensures appended { IfOk result (λ ticket. HasAppended V.Numbers.geometry owner bytes.now hand.old hand.new ticket) }
         ensures err { OnErr result (hand.new ≡ hand.old) }
-        ensures error { IfErr result (λ error. (error ≡ Device) ⊎ (error ≡ NoSpace)) }
+        ensures error { IfErr result IsOfAppend }
     {
         let mut lock = self.lock_log(rt, log.number());
         let cell = &mut *lock;
@@ -115,7 +116,10 @@ impl<V: VolumeName, B: Block + Drop> MainArea<V, B> {
             self.note_next(log, segment.state.next());
             return done;
         }
-        if !self.threading.allows(who, log, self.pool(), &mut cell.pass) {
+        if !self
+            .hole_reuse
+            .allows(who, log, self.pool(), &mut cell.pass)
+        {
             return Err(Error::NoSpace);
         }
         self.thread_any(rt, cell, hand, owner, now, bytes, who)
@@ -126,7 +130,7 @@ impl<V: VolumeName, B: Block + Drop> MainArea<V, B> {
         &self,
         rt: &R,
         log: &mut LogCell<V>,
-        hand: &mut Permit,
+        hand: &mut CallAccount,
         owner: Owner,
         now: u64,
         bytes: &[u8],
@@ -153,7 +157,7 @@ impl<V: VolumeName, B: Block + Drop> MainArea<V, B> {
         &self,
         rt: &R,
         log: &mut LogCell<V>,
-        hand: &mut Permit,
+        hand: &mut CallAccount,
         owner: Owner,
         now: u64,
         bytes: &[u8],
@@ -164,7 +168,7 @@ impl<V: VolumeName, B: Block + Drop> MainArea<V, B> {
         requires bytes { length bytes.now ≡ block_bytes V.Numbers.geometry.shape }
         ensures appended { IfOk result (λ ticket. HasAppended V.Numbers.geometry owner bytes.now hand.old hand.new ticket) }
         ensures err { OnErr result (hand.new ≡ hand.old) }
-        ensures error { IfErr result (λ error. (error ≡ Device) ⊎ (error ≡ NoSpace)) }
+        ensures error { IfErr result IsOfAppend }
     {
         for number in 0..self.geometry().segments {
             if who.passes_over(self.geometry(), number) {
@@ -182,7 +186,7 @@ impl<V: VolumeName, B: Block + Drop> MainArea<V, B> {
         &self,
         rt: &R,
         log: &mut LogCell<V>,
-        hand: &mut Permit,
+        hand: &mut CallAccount,
         number: u32,
         owner: Owner,
         now: u64,

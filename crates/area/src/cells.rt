@@ -27,7 +27,7 @@ use device::{Block, DeviceError};
 use geometry::{Error, Owner};
 use nat::Shard;
 use pool::PoolPass;
-use rights_books::{Audit, Books, PartAccount, Permit};
+use rights_books::{Audit, Books, CallAccount, PartAccount};
 use rights_permits::VolumeName;
 use sit::{SegmentRow, SegmentState};
 use std::marker::PhantomData;
@@ -126,7 +126,7 @@ impl<V: VolumeName, B: Block + Drop> SegmentCell<V, B> {
         &mut self,
         books: &Books,
         words: &Words,
-        hand: &mut Permit,
+        hand: &mut CallAccount,
         slip: &mut Option<StoredOpenSlip>,
         owner: Owner,
         now: u64,
@@ -158,7 +158,7 @@ impl<V: VolumeName, B: Block + Drop> SegmentCell<V, B> {
         &mut self,
         books: &Books,
         words: &Words,
-        hand: &mut Permit,
+        hand: &mut CallAccount,
         log: u32,
         owner: Owner,
         now: u64,
@@ -200,7 +200,7 @@ impl<V: VolumeName, B: Block + Drop> SegmentCell<V, B> {
     pub fn fill(
         &mut self,
         books: &Books,
-        hand: &mut Permit,
+        hand: &mut CallAccount,
         log: u32,
         owner: Owner,
         now: u64,
@@ -243,7 +243,13 @@ impl<V: VolumeName, B: Block + Drop> SegmentCell<V, B> {
     }
 
     /// Takes back the ticket of one of its blocks, which is in hand, as `SegmentState::release` does. It cannot be refused.
-    pub fn release(&mut self, books: &Books, words: &Words, hand: &mut Permit, ticket: Ticket<B>)
+    pub fn release(
+        &mut self,
+        books: &Books,
+        words: &Words,
+        hand: &mut CallAccount,
+        ticket: Ticket<B>,
+    )
         requires books { books.now ≡ V.Books.books }
         requires layout { V.Books.books.key ≡ layout_of V.Numbers.geometry }
         requires words { words.now.table ≡ V.Words.words }
@@ -312,7 +318,7 @@ impl<V: VolumeName, B: Block + Drop> ShardCell<V, B> {
     pub fn take(
         &mut self,
         books: &Books,
-        hand: &mut Permit,
+        hand: &mut CallAccount,
         number: u32,
         inode: u32,
     ) -> Option<NidToken>
@@ -331,7 +337,7 @@ impl<V: VolumeName, B: Block + Drop> ShardCell<V, B> {
     pub fn read(
         &mut self,
         books: &Books,
-        hand: &mut Permit,
+        hand: &mut CallAccount,
         token: &NidToken,
         out: &mut [u8],
     ) -> Result<(), DeviceError>
@@ -348,7 +354,12 @@ impl<V: VolumeName, B: Block + Drop> ShardCell<V, B> {
     }
 
     /// As `Shard::give`.
-    pub fn give(&mut self, books: &Books, hand: &mut Permit, token: NidToken) -> Option<Ticket<B>>
+    pub fn give(
+        &mut self,
+        books: &Books,
+        hand: &mut CallAccount,
+        token: NidToken,
+    ) -> Option<Ticket<B>>
         requires books { (books.now ≡ V.Books.books) × (hand.old.book ≡ V.Books.books.book) }
         requires home { token.number % 16 ≡ self.old.number }
         requires held { 0 < times same_entry token hand.old.tokens }
@@ -363,7 +374,7 @@ impl<V: VolumeName, B: Block + Drop> ShardCell<V, B> {
     pub fn swap(
         &mut self,
         books: &Books,
-        hand: &mut Permit,
+        hand: &mut CallAccount,
         token: &mut NidToken,
         ticket: Ticket<B>,
     ) -> Option<Ticket<B>>

@@ -4,9 +4,9 @@ ghost use Rattle.std.specs.Sync.Mutex.{mutex_guard_value};
 ghost use Rattle.rights_permits.specs.Names.{layout_of};
 
 use crate::cells::{LogCell, SegmentCell, ShardCell};
+use crate::hole_reuse::HoleReuse;
 use crate::node_room::{MarkedNodes, NodeRoom};
 use crate::numbered::lock_numbered;
-use crate::threading::Threading;
 use device::Block;
 use geometry::{Geometry, Kind};
 use pool::Pool;
@@ -27,7 +27,7 @@ pub struct MainArea<V: VolumeName, B: Block + Drop> {
     pub(crate) logs: Vec<Mutex<LogCell<V>>>,
     // Each node number up to this was taken when a search came by. The next search begins behind it.
     pub(crate) nodes_seen: AtomicU32,
-    pub(crate) threading: Threading,
+    pub(crate) hole_reuse: HoleReuse,
     pub(crate) node_room: NodeRoom,
     ghost numbers: { geometry ≡ V.Numbers.geometry },
     ghost laid: { V.Books.books.key ≡ layout_of V.Numbers.geometry },
@@ -64,16 +64,16 @@ impl<V: VolumeName, B: Block + Drop> MainArea<V, B> {
             shards,
             logs,
             nodes_seen: AtomicU32::new(0),
-            threading: Threading::Whenever,
+            hole_reuse: HoleReuse::Always,
             node_room: NodeRoom::new(),
         }
     }
 
     /// The same main area, whose threads begin by this rule from now on.
-    pub fn with_threading(mut self, threading: Threading) -> MainArea<V, B>
-        ensures { result.threading ≡ threading }
+    pub fn with_hole_reuse(mut self, hole_reuse: HoleReuse) -> MainArea<V, B>
+        ensures { result.hole_reuse ≡ hole_reuse }
     {
-        self.threading = threading;
+        self.hole_reuse = hole_reuse;
         self
     }
 
@@ -99,17 +99,17 @@ impl<V: VolumeName, B: Block + Drop> MainArea<V, B> {
             shards,
             logs: _,
             nodes_seen: _,
-            threading: _,
+            hole_reuse: _,
             node_room: _,
         } = self;
         (turnstile, words, segments, shards)
     }
 
     /// By which rule threads begin.
-    pub fn threading(&self) -> Threading
-        ensures { result ≡ self.now.threading }
+    pub fn hole_reuse(&self) -> HoleReuse
+        ensures { result ≡ self.now.hole_reuse }
     {
-        self.threading
+        self.hole_reuse
     }
 
     /// Counts the marked nodes of a file of this kind anew: there were at most so many before, and there are at most so many now. The

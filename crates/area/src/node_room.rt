@@ -3,9 +3,9 @@
 //! What stands here is counted beside the volume, for the rule that threads only while the reserve is full. No promise of a call rests
 //! on it: a wrong count would refuse a write too early or a checkpoint too late, and lose nothing.
 use crate::append::Who;
+use crate::hole_reuse::HoleReuse;
 use crate::log::Log;
 use crate::main_area::MainArea;
-use crate::threading::Threading;
 use device::Block;
 use geometry::Kind;
 use pool::SlipCounts;
@@ -185,9 +185,9 @@ impl<V: VolumeName, B: Block + Drop> MainArea<V, B> {
 
     // Whether the volume's rule lets an append take a place in an open segment, or open a free one.
     pub(crate) fn keeps_node_room(&self, who: Who) -> bool {
-        match self.threading {
-            Threading::Whenever => true,
-            Threading::WhileReserveIsFull => {
+        match self.hole_reuse {
+            HoleReuse::Always => true,
+            HoleReuse::WhileReserveIsFull => {
                 let blocks = self.geometry().shape.segment_blocks();
                 let free = self.pool().counts();
                 self.node_room.allows(who, free, blocks)

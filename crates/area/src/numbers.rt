@@ -12,21 +12,19 @@ ghost use Rattle.area.specs.Hand.{having_given, having_swapped};
 use crate::main_area::MainArea;
 use device::{Block, DeviceError};
 use geometry::Error;
-use rights_books::Permit;
+use nat::SHARDS;
+use rights_books::CallAccount;
 use rights_permits::VolumeName;
 use std::sync::Wait;
 use std::sync::atomic::Ordering;
 use tickets::{NidToken, Ticket};
-
-// A number is of the shard that it leaves by this.
-const SHARDS: u32 = 16;
 
 impl<V: VolumeName, B: Block + Drop> MainArea<V, B> {
     /// Takes a free inode number, for itself, and gives its token into the hand. Each lower one was seen taken at a moment of
     /// the call.
     ///
     /// The only error is NoFile, where each number from 1 to `files` was seen taken; then nothing has changed.
-    pub fn new_inode<R: Wait>(&self, rt: &R, hand: &mut Permit) -> Result<NidToken, Error>
+    pub fn new_inode<R: Wait>(&self, rt: &R, hand: &mut CallAccount) -> Result<NidToken, Error>
         requires book { hand.old.book ≡ V.Books.books.book }
         ensures token { IfOk result (λ token. token ≡ bare_entry token.number token.number) }
         ensures low { IfOk result (λ token. 1 ≤ token.number) }
@@ -49,7 +47,12 @@ impl<V: VolumeName, B: Block + Drop> MainArea<V, B> {
     ///
     /// The only error is NoNode, where each number from `files` + 1 to `nodes` was seen taken at a moment of the call; then
     /// nothing has changed.
-    pub fn new_nid<R: Wait>(&self, rt: &R, hand: &mut Permit, inode: u32) -> Result<NidToken, Error>
+    pub fn new_nid<R: Wait>(
+        &self,
+        rt: &R,
+        hand: &mut CallAccount,
+        inode: u32,
+    ) -> Result<NidToken, Error>
         requires book { hand.old.book ≡ V.Books.books.book }
         ensures token { IfOk result (λ token. token ≡ bare_entry token.number inode) }
         ensures low { IfOk result (λ token. V.Numbers.geometry.files < token.number) }
@@ -78,7 +81,7 @@ impl<V: VolumeName, B: Block + Drop> MainArea<V, B> {
     fn take_past<R: Wait>(
         &self,
         rt: &R,
-        hand: &mut Permit,
+        hand: &mut CallAccount,
         first: u32,
         inode: u32,
     ) -> Option<NidToken>
@@ -106,7 +109,12 @@ impl<V: VolumeName, B: Block + Drop> MainArea<V, B> {
 
     /// Spends a token that is in hand: its number is free again. The node's block, where it had one, comes out with its
     /// ticket.
-    pub fn give<R: Wait>(&self, rt: &R, hand: &mut Permit, token: NidToken) -> Option<Ticket<B>>
+    pub fn give<R: Wait>(
+        &self,
+        rt: &R,
+        hand: &mut CallAccount,
+        token: NidToken,
+    ) -> Option<Ticket<B>>
         requires book { hand.old.book ≡ V.Books.books.book }
         requires held { 0 < times same_entry token hand.old.tokens }
         ensures ticket { result ≡ placed_of token }
@@ -126,7 +134,7 @@ impl<V: VolumeName, B: Block + Drop> MainArea<V, B> {
     pub fn swap_ticket<R: Wait>(
         &self,
         rt: &R,
-        hand: &mut Permit,
+        hand: &mut CallAccount,
         token: &mut NidToken,
         ticket: Ticket<B>,
     ) -> Option<Ticket<B>>
@@ -147,7 +155,7 @@ impl<V: VolumeName, B: Block + Drop> MainArea<V, B> {
     pub fn read_node<R: Wait>(
         &self,
         rt: &R,
-        hand: &mut Permit,
+        hand: &mut CallAccount,
         token: &NidToken,
         out: &mut [u8],
     ) -> Result<(), DeviceError>
@@ -172,7 +180,13 @@ impl<V: VolumeName, B: Block + Drop> MainArea<V, B> {
     }
 
     // The token of one number, where it is free.
-    fn take<R: Wait>(&self, rt: &R, hand: &mut Permit, number: u32, inode: u32) -> Option<NidToken>
+    fn take<R: Wait>(
+        &self,
+        rt: &R,
+        hand: &mut CallAccount,
+        number: u32,
+        inode: u32,
+    ) -> Option<NidToken>
         requires book { hand.old.book ≡ V.Books.books.book }
         requires range { (1 ≤ number) × (number ≤ V.Numbers.geometry.nodes) }
         ensures token { IfSome result (λ token. token ≡ bare_entry number inode) }

@@ -7,14 +7,14 @@ ghost use Rattle.rights_books.specs.Lists.{times, without};
 use crate::main_area::MainArea;
 use device::Block;
 use geometry::Mark;
-use rights_books::Permit;
+use rights_books::CallAccount;
 use rights_permits::VolumeName;
 use std::sync::Wait;
 use tickets::Ticket;
 
 impl<V: VolumeName, B: Block + Drop> MainArea<V, B> {
     /// Takes back a ticket that is in hand: its block is valid no more. It cannot be refused.
-    pub fn release<R: Wait>(&self, rt: &R, hand: &mut Permit, ticket: Ticket<B>)
+    pub fn release<R: Wait>(&self, rt: &R, hand: &mut CallAccount, ticket: Ticket<B>)
         requires book { hand.old.book ≡ V.Books.books.book }
         requires held { 0 < times same_mark ticket.mark hand.old.tickets }
         requires bytes { length ticket.content ≡ block_bytes V.Numbers.geometry.shape }

@@ -6,12 +6,15 @@ ghost use Rattle.area.specs.Rooms.{AreRooms, SlipsFallFrom};
 
 use device::Block;
 use geometry::{Error, Geometry};
-use sit::Room;
+use sit::EmptySegment;
 use std::alloc::Global;
 use words::{FreeSlip, StoredSlip, Words};
 
 /// The memory of each segment. The only error is NoMemory.
-pub fn new_rooms<B: Block + Drop>(alloc: Global, geometry: &Geometry) -> Result<Vec<Room<B>>, Error>
+pub fn new_rooms<B: Block + Drop>(
+    alloc: Global,
+    geometry: &Geometry,
+) -> Result<Vec<EmptySegment<B>>, Error>
     ensures ok { IfOk result (λ rooms. AreRooms geometry.now.shape rooms.items) }
     ensures count { IfOk result (λ rooms. vec_len rooms ≡ geometry.now.segments) }
     ensures err { IfErr result (λ error. error ≡ NoMemory) }
@@ -19,7 +22,7 @@ pub fn new_rooms<B: Block + Drop>(alloc: Global, geometry: &Geometry) -> Result<
     let count = geometry.segments;
     let mut rooms = Vec::with_capacity(alloc, count as usize)?;
     for number in 0..count {
-        rooms.push_reserved(Room::new(alloc, geometry, number)?);
+        rooms.push_reserved(EmptySegment::new(alloc, geometry, number)?);
     }
     Ok(rooms)
 }

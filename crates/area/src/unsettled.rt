@@ -7,7 +7,7 @@ use std::alloc::Global;
 
 /// What a completed checkpoint has to do with a segment.
 #[derive(Clone, Copy)]
-pub struct Turn {
+pub struct SegmentTask {
     /// To tell it its bits: they are not those that the last checkpoint marked.
     pub keep: bool,
     /// To free it, where it may be: it is retired.
@@ -15,7 +15,7 @@ pub struct Turn {
 }
 
 // All that there is to do.
-const ALL: Turn = Turn {
+const ALL: SegmentTask = SegmentTask {
     keep: true,
     free: true,
 };
@@ -24,7 +24,7 @@ const ALL: Turn = Turn {
 /// it is complete.
 #[derive(Drop)]
 pub struct Unsettled {
-    pub turns: Vec<Turn>,
+    pub turns: Vec<SegmentTask>,
 }
 
 impl Unsettled {
@@ -38,7 +38,7 @@ impl Unsettled {
     }
 
     /// What there is to do with a segment was found.
-    pub fn find(&mut self, number: u32, turn: Turn)
+    pub fn find(&mut self, number: u32, turn: SegmentTask)
         ensures { self.new.turns.items ≡ slice_set self.old.turns.items number turn }
     {
         let at = number as usize;
@@ -48,7 +48,7 @@ impl Unsettled {
     }
 
     /// What there is to do with a segment.
-    pub fn turn(&self, number: u32) -> Turn
+    pub fn turn(&self, number: u32) -> SegmentTask
         ensures { result ≡ slice_index_or self.now.turns.items number ALL }
     {
         match self.turns.get(number as usize) {

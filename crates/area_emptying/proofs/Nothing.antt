@@ -6,7 +6,7 @@ use Rattle.std.specs.Option.{unwrap_or}
 use Rattle.std.proofs.lemmas.Option.{slice_get_within, slice_get-get_or}
 use Rattle.geometry.specs.Weights.{weigh}
 use Rattle.geometry.specs.declared.owner.Mark.{Mark}
-use Rattle.rights_books.specs.declared.claim.Entry.{Entry}
+use Rattle.rights_books.specs.declared.claim.TakenNumber.{TakenNumber}
 use Rattle.rights_books.specs.Weights.{of_entry}
 use Rattle.rights_books.proofs.Dealing.{slice_get_push}
 use Rattle.nat.specs.Shard.{ShardNodes}
@@ -33,10 +33,10 @@ at_most_one true = omega arith
 at_most_one false = omega arith
 
 -- the tickets that are lodged in shards are at most their taken numbers
-pub lodged_few : (shards : List ShardNodes) → weigh (λ (s : ShardNodes). weigh (of_entry (λ m. 1)) s.taken) shards ≤ weigh (λ (s : ShardNodes). weigh (λ (e : Entry). 1) s.taken) shards
+pub lodged_few : (shards : List ShardNodes) → weigh (λ (s : ShardNodes). weigh (of_entry (λ m. 1)) s.taken) shards ≤ weigh (λ (s : ShardNodes). weigh (λ (e : TakenNumber). 1) s.taken) shards
 lodged_few shards =
-    weigh_less (λ (s : ShardNodes). weigh (of_entry (λ m. 1)) s.taken) (λ (s : ShardNodes). weigh (λ (e : Entry). 1) s.taken) shards
-    (λ s. weigh_less (of_entry (λ m. 1)) (λ (e : Entry). 1) s.taken (λ e. at_most_one (e.address == 0)))
+    weigh_less (λ (s : ShardNodes). weigh (of_entry (λ m. 1)) s.taken) (λ (s : ShardNodes). weigh (λ (e : TakenNumber). 1) s.taken) shards
+    (λ s. weigh_less (of_entry (λ m. 1)) (λ (e : TakenNumber). 1) s.taken (λ e. at_most_one (e.address == 0)))
 
 -- one more item at the end
 pub each_got : {A : Type 0} (P : ℕ → A → Type 0) (xs : List A) (x : A) → ((k : ℕ) (v : A) → slice_get xs k ≡ Some v → P k v) → P (length xs) x

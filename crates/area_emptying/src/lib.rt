@@ -7,4 +7,4 @@ mod owned_area;
 mod spare;
 
 pub use owned_area::OwnedArea;
-pub use spare::{Spare, SpareRows};
+pub use spare::{CloseRows, SpareRows};

@@ -12,20 +12,17 @@ ghost use Rattle.area_emptying.specs.Rows.{AreSegments, AreShards};
 ghost use Rattle.area_emptying.specs.Home.{AreAtHome};
 
 use crate::owned::{own_segments, own_shards};
-use crate::spare::Spare;
+use crate::spare::CloseRows;
 use area::MainArea;
 use device::Block;
 use geometry::{Geometry, Mark};
-use nat::Shard;
-use rights_books::{Books, Permit};
+use nat::{SHARDS, Shard};
+use rights_books::{Books, CallAccount};
 use rights_permits::{Turnstile, VolumeName};
 use sit::SegmentState;
 use std::sync::Wait;
 use tickets::{NidToken, Ticket};
 use words::Words;
-
-// How many shards there are. A number is of the shard that it leaves by this.
-const SHARDS: u32 = 16;
 
 /// A main area that no thread shares any more: its segments and shards in the order of their numbers, and room for all its
 /// blocks. So what is said of its blocks stays true from one call to the next.
@@ -49,8 +46,8 @@ pub struct OwnedArea<V: VolumeName, B: Block + Drop> {
 
 impl<V: VolumeName, B: Block + Drop> OwnedArea<V, B> {
     /// Takes a main area out of its locks. It takes no memory.
-    pub fn own<R: Wait>(rt: &R, area: MainArea<V, B>, spare: Spare<V, B>) -> OwnedArea<V, B> {
-        let Spare {
+    pub fn own<R: Wait>(rt: &R, area: MainArea<V, B>, spare: CloseRows<V, B>) -> OwnedArea<V, B> {
+        let CloseRows {
             blocks,
             segments,
             shards,
@@ -77,7 +74,7 @@ impl<V: VolumeName, B: Block + Drop> OwnedArea<V, B> {
     }
 
     /// Takes back a ticket that is in hand: its block is valid no more, and is at home with its bytes. It cannot be refused.
-    pub fn release(&mut self, hand: &mut Permit, ticket: Ticket<B>)
+    pub fn release(&mut self, hand: &mut CallAccount, ticket: Ticket<B>)
         requires book { hand.old.book ≡ V.Books.books.book }
         requires held { 0 < times same_mark ticket.mark hand.old.tickets }
         requires bytes { length ticket.content ≡ block_bytes V.Numbers.geometry.shape }
@@ -99,7 +96,7 @@ impl<V: VolumeName, B: Block + Drop> OwnedArea<V, B> {
 
     /// Spends a token that is in hand: its number is free again. The node's block, where it had one, comes out with its
     /// ticket.
-    pub fn give(&mut self, hand: &mut Permit, token: NidToken) -> Option<Ticket<B>>
+    pub fn give(&mut self, hand: &mut CallAccount, token: NidToken) -> Option<Ticket<B>>
         requires book { hand.old.book ≡ V.Books.books.book }
         requires held { 0 < times same_entry token hand.old.tokens }
         ensures ticket { result ≡ placed_of token }

@@ -13,7 +13,7 @@ use std::marker::PhantomData;
 
 /// Rows without anything in them, with room for all that lies in the locks of a volume's main area, and for all its blocks.
 #[derive(Drop)]
-pub struct Spare<V: VolumeName, B: Block + Drop> {
+pub struct CloseRows<V: VolumeName, B: Block + Drop> {
     pub(crate) blocks: Vec<B>,
     pub(crate) segments: Vec<SegmentState<B>>,
     pub(crate) shards: Vec<Shard<B>>,
@@ -48,13 +48,13 @@ impl<B: Block + Drop> SpareRows<B> {
     }
 
     /// With the row that the blocks of the device came in.
-    pub fn with_blocks<V: VolumeName>(self, blocks: Vec<B>) -> Spare<V, B>
+    pub fn with_blocks<V: VolumeName>(self, blocks: Vec<B>) -> CloseRows<V, B>
         requires room { V.Numbers.geometry.segments ≤ vec_capacity self.segments }
         requires none { vec_len blocks ≡ 0 }
         requires fit { block_count V.Numbers.geometry ≤ vec_capacity blocks }
     {
         let SpareRows { segments, shards } = self;
-        Spare {
+        CloseRows {
             blocks,
             segments,
             shards,

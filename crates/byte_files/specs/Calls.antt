@@ -25,7 +25,3 @@ IsWiped size at before after = (after ≡ before) ⊎ ((zeros : ℕ) × (zeros <
 -- a file keeps its number and its kind
 abbrev pub IsSameFile : Pass → Pass → Type 0
 IsSameFile before after = (after.number ≡ before.number) × (after.file.kind ≡ before.file.kind)
-
--- why bytes are not all written
-abbrev pub IsOfWrite : Error → Type 0
-IsOfWrite error = (error ≡ TooFar) ⊎ ((error ≡ Wounded) ⊎ ((error ≡ NoMemory) ⊎ ((error ≡ NoNode) ⊎ ((error ≡ NoSpace) ⊎ (error ≡ Device)))))

@@ -3,12 +3,11 @@
 #![tactic(auto)]
 
 mod laws;
+mod open;
 mod parts;
 mod reading;
 mod truncating;
 mod writing;
 
 pub use laws::{append_law, read_law, truncate_law, write_law};
-pub use reading::read_at;
-pub use truncating::truncate;
-pub use writing::{append, write_at};
+pub use open::Open;

@@ -1,5 +1,6 @@
 //! What a checkpoint needs, in its lock.
 ghost use Rattle.std.specs.Prelude.{◌≡◌, ◌≤◌, ◌+◌, ◌^◌, ◌-◌, ◌<◌, ◌⊎◌, ◌∷◌, ℕ, [], true, false, All, length, vec_capacity, OnOk, IfOk, IfErr};
+ghost use Rattle.packs_journal.specs.Places.{map_pages};
 ghost use Rattle.geometry.specs.Area.{meta_bytes};
 ghost use Rattle.geometry.specs.declared.error.Error.TheVariants.{BadGeometry, Device, Wounded, Exhausted};
 ghost use Rattle.image.specs.Image.{Image};
@@ -76,7 +77,7 @@ impl<V: VolumeName, M: Meta> PacksCell<V, M> {
         requires room { V.Numbers.geometry.segments ≤ vec_capacity kept }
         requires rows { body.rows ≡ V.Books.rows }
         requires body_numbers { body.geometry ≡ V.Numbers.geometry }
-        requires touched { (k : ℕ) → k < 4352 → has_page body.body.touched k ≡ true }
+        requires touched { (k : ℕ) → k < map_pages → has_page body.body.touched k ≡ true }
         ensures packs { result.packs ≡ packs }
         ensures sound { result.wounded ≡ false }
     {

@@ -8,7 +8,7 @@ ghost use Rattle.checkpoint.specs.Files.{IsStateOf, HoldContents, files_of};
 
 use checkpoint_image::TakenImage;
 use device::Block;
-use device::log::Log;
+use device::log::History;
 use image::Image;
 use nodes::FileState;
 
@@ -17,7 +17,7 @@ use nodes::FileState;
 #[derive(Drop)]
 pub struct Recorded<B: Block> {
     pub(crate) image: TakenImage,
-    pub(crate) added: Log<u32, FileState<B>>,
+    pub(crate) added: History<u32, FileState<B>>,
     ghost of_image: { All (λ entry. IsStateOf (taken_view image) entry.1) added.items },
 }
 
@@ -27,7 +27,7 @@ impl<B: Block> Recorded<B> {
         ensures image { result.image ≡ image }
         ensures files { files_of result.added.items ≡ [] }
     {
-        let added = Log::new();
+        let added = History::new();
         Recorded { image, added }
     }
 

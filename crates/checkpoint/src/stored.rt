@@ -20,7 +20,7 @@ use image::Image;
 pub struct Stored<M: Meta, B: Block> {
     pub(crate) taken: Recorded<B>,
     pub(crate) geometry: Geometry,
-    pub(crate) pack: packs::Stored<M>,
+    pub(crate) pack: packs::WrittenPack<M>,
     ghost written: { All (λ entry. body_of (reading_of entry.0.geometry) M.seen entry.0
         ≡ pack_body geometry.shape (taken_view taken.image)) pack.shown.items },
 }

@@ -69,7 +69,11 @@ impl<M: Meta> ImagePacks<M> {
     }
 
     // The body spells the image.
-    fn store(&mut self, image: &TakenImage, body: &TouchedBody) -> Result<packs::Stored<M>, Error>
+    fn store(
+        &mut self,
+        image: &TakenImage,
+        body: &TouchedBody,
+    ) -> Result<packs::WrittenPack<M>, Error>
         requires whole { AreWhole M.seen M.may_leave self.old }
         requires range { IsInRange self.old.geometry (taken_view image.now) }
         requires next { image.now.tables.version ≡ self.old.area.version + 1 }

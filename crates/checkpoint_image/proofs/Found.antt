@@ -10,7 +10,7 @@ use Rattle.geometry.specs.Shape.{segment_blocks}
 use Rattle.geometry.specs.Address.{address_of}
 use Rattle.geometry.proofs.Addresses.{address_of-next}
 use Rattle.geometry.specs.Weights.{weigh}
-use Rattle.rights_books.specs.declared.claim.Entry.{Entry}
+use Rattle.rights_books.specs.declared.claim.TakenNumber.{TakenNumber}
 use Rattle.rights_books.specs.declared.claim.Copied.{Copied}
 use Rattle.rights_books.specs.Lists.{times}
 use Rattle.rights_books.specs.Sameness.{same_entry}
@@ -29,7 +29,7 @@ use Rattle.checkpoint_image.proofs.Written.{weigh_all_taken}
 abbrev at_mark : ℕ → Mark → ℕ
 at_mark a m = if m.address == a then 1 else 0
 
-abbrev at_entry : ℕ → Entry → ℕ
+abbrev at_entry : ℕ → TakenNumber → ℕ
 at_entry a e = if e.address == a then 1 else 0
 
 hit : (a b : ℕ) → b ≡ a → ◌≡◌ {A = ℕ} (if b == a then 1 else 0) 1
@@ -104,7 +104,7 @@ weigh_same : {A : Type 0} (f g : A → ℕ) (xs : List A) → ((x : A) → f x �
 weigh_same f g [] same = refl
 weigh_same f g (x ∷ xs) same = let here = same x in let there = weigh_same f g xs same in omega arith
 
-ticket_at : (a : ℕ) → 0 < a → (e : Entry) → at_entry a e ≡ of_entry (at_mark a) e
+ticket_at : (a : ℕ) → 0 < a → (e : TakenNumber) → at_entry a e ≡ of_entry (at_mark a) e
 ticket_at a some e = go (eqb_tells e.address 0)
   where
     go : ((e.address == 0) ≡ true) × (e.address ≡ 0) ⊎ ((e.address == 0) ≡ false) × (e.address ≢ 0) → at_entry a e ≡ of_entry (at_mark a) e
@@ -112,16 +112,16 @@ ticket_at a some e = go (eqb_tells e.address 0)
     go (inr (t, there)) = rw t refl
 
 -- where an address has one entry at most, its bytes are found
-counted : (a : ℕ) (e : Entry) (es : List Entry) → 0 < times same_entry e es → e.address ≡ a → 0 < weigh (at_entry a) es
+counted : (a : ℕ) (e : TakenNumber) (es : List TakenNumber) → 0 < times same_entry e es → e.address ≡ a → 0 < weigh (at_entry a) es
 counted a e [] some is = absurd (omega arith)
 counted a e (y ∷ es) some is = go (same_entry e y) refl some (λ more. counted a e es more is)
   where
     go : (b : Bool) → same_entry e y ≡ b → 0 < (if b then 1 else 0) + times same_entry e es → (0 < times same_entry e es → 0 < weigh (at_entry a) es)
         → 0 < at_entry a y + weigh (at_entry a) es
-    go true same few rest = let one = hit a y.address (sym (ap (λ (x : Entry). x.address) (entry_eq e y same)) ∙ is) in omega arith
+    go true same few rest = let one = hit a y.address (sym (ap (λ (x : TakenNumber). x.address) (entry_eq e y same)) ∙ is) in omega arith
     go false same few rest = let more = rest (omega arith) in omega arith
 
-found_bytes : (a : ℕ) (e : Entry) (es : List Entry) → weigh (at_entry a) es ≤ 1 → 0 < times same_entry e es → e.address ≡ a → node_bytes_at es a ≡ e.bytes
+found_bytes : (a : ℕ) (e : TakenNumber) (es : List TakenNumber) → weigh (at_entry a) es ≤ 1 → 0 < times same_entry e es → e.address ≡ a → node_bytes_at es a ≡ e.bytes
 found_bytes a e [] single some is = absurd (omega arith)
 found_bytes a e (y ∷ es) single some is = go (same_entry e y) refl some (eqb_tells y.address a) (λ few more. found_bytes a e es few more is)
   where
@@ -131,8 +131,8 @@ found_bytes a e (y ∷ es) single some is = go (same_entry e y) refl some (eqb_t
         → node_bytes_at (y ∷ es) a ≡ e.bytes
     go true same few tells rest =
         let y_is = sym (entry_eq e y same) in
-        let here : (y.address == a) ≡ true = eq-eqb y.address a (ap (λ (x : Entry). x.address) y_is ∙ is) in
-        rw here (ap (λ (x : Entry). x.bytes) y_is)
+        let here : (y.address == a) ≡ true = eq-eqb y.address a (ap (λ (x : TakenNumber). x.address) y_is ∙ is) in
+        rw here (ap (λ (x : TakenNumber). x.bytes) y_is)
     go false same few (inl (t, at)) rest =
         let one = hit a y.address at in
         let more = counted a e es (omega arith) is in

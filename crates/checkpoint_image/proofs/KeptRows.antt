@@ -15,7 +15,7 @@ use Rattle.image_law.specs.Parts.{Token, found, info, summaries_in}
 use Rattle.nat.specs.Noted.{node_row, shard_row}
 use Rattle.nat.specs.Shard.{ShardNodes}
 use Rattle.pack_tables.proofs.Widths.{rows_long, summary_long, segment_long}
-use Rattle.rights_books.specs.declared.claim.Entry.{Entry}
+use Rattle.rights_books.specs.declared.claim.TakenNumber.{TakenNumber}
 use Rattle.atomic_table.specs.Seated.{TableId}
 use Rattle.rights_books.specs.declared.row_claim.Row.{Row}
 use Rattle.rights_books.specs.RowAccounts.{RowView, AreBlank}
@@ -127,7 +127,7 @@ head_touched len old new pages same k below out =
     (ap (λ (p : PageSet). has_page p k) (sym pages) ∙ out, behind_head (56 + page_start len k) (page_size len k) old.bytes.items new.bytes.items (omega arith) same)
 
 -- the tokens that a noted row tells are those of the shard
-pub tokens_noted : (taken : List Entry) → map token_in (map node_row taken) ≡ map token_of taken
+pub tokens_noted : (taken : List TakenNumber) → map token_in (map node_row taken) ≡ map token_of taken
 tokens_noted [] = refl
 tokens_noted (e ∷ taken) = ap (λ (rest : List Token). token_of e ∷ rest) (tokens_noted taken)
 

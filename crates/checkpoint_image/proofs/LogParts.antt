@@ -3,7 +3,7 @@
 use Rattle.std.proofs.Common.{◌≡◌, sym, ◌∙◌, ap, subst, ℕ, ◌<◌, List, map, length, get_or, arith}
 use Rattle.std.specs.Prelude.{Option, Some, None, IfSome, All, AllPairs}
 use Rattle.std.proofs.lemmas.List.{get_or-map, length-map}
-use Rattle.image.specs.declared.image.Place.{Place}
+use Rattle.image.specs.declared.image.LogHead.{LogHead}
 use Rattle.image.specs.Rules.{AreApart}
 use Rattle.geometry.specs.declared.state.State.{State}
 use Rattle.sit.specs.Segment.{Segment}
@@ -12,7 +12,7 @@ use Rattle.checkpoint_image.specs.Cells.{log_in, segment_part, next_in, place_in
 use Rattle.checkpoint_image.proofs.Places.{at_some, below_length}
 
 -- a log with such a place has that segment open
-abbrev pub IsOpened : ℕ → List Segment → Option Place → Type 0
+abbrev pub IsOpened : ℕ → List Segment → Option LogHead → Type 0
 IsOpened count segments log =
     IfSome log (λ place. (place.segment < count) × ((get_or (map segment_part segments) place.segment no_state).log ≡ Some place.next))
 
@@ -45,4 +45,4 @@ module _ (segments : List Segment) where
       let at_j = get_or-map (place_in segments) logs j None d (omega arith) in
       let two : AreApart (place_in segments (get_or logs i None)) (place_in segments (get_or logs j None))
       = apart_two (get_or logs i None) (get_or logs j None) (apart i j None before (omega arith)) in
-      subst (λ (z : Option Place × Option Place). AreApart z.0 z.1) (λ t. (sym at_i t, sym at_j t)) two
+      subst (λ (z : Option LogHead × Option LogHead). AreApart z.0 z.1) (λ t. (sym at_i t, sym at_j t)) two

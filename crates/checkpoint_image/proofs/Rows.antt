@@ -8,7 +8,7 @@ use Rattle.geometry.specs.declared.owner.Summary.{Summary}
 use Rattle.image.specs.Image.{SegmentInfo}
 use Rattle.sit.specs.Segment.{Segment}
 use Rattle.sit.specs.Summaries.{is_set, summary_in, count_of}
-use Rattle.rights_books.specs.declared.claim.Entry.{Entry}
+use Rattle.rights_books.specs.declared.claim.TakenNumber.{TakenNumber}
 use Rattle.rights_books.specs.Lists.{times}
 use Rattle.rights_books.specs.Sameness.{same_entry}
 use Rattle.rights_books.proofs.Sameness.{entry_eq}
@@ -44,24 +44,24 @@ entry_same segment bits valid mtime told count time =
     let named = told ∙ set_each segment.summaries in
     λ i. record { count = counts i; mtime = time i; bits = named i }
 
-abbrev of_number : ℕ → Entry → ℕ
+abbrev of_number : ℕ → TakenNumber → ℕ
 of_number number e = if e.number == number then 1 else 0
 
-counts_one : (number : ℕ) (e : Entry) → e.number ≡ number → of_number number e ≡ 1
+counts_one : (number : ℕ) (e : TakenNumber) → e.number ≡ number → of_number number e ≡ 1
 counts_one number e is = rw (eq-eqb e.number number is) refl
 
 -- an entry that is there is counted
-counted : (number : ℕ) (e : Entry) (es : List Entry) → 0 < times same_entry e es → e.number ≡ number → 0 < entries_of number es
+counted : (number : ℕ) (e : TakenNumber) (es : List TakenNumber) → 0 < times same_entry e es → e.number ≡ number → 0 < entries_of number es
 counted number e [] some is = absurd (omega arith)
 counted number e (y ∷ es) some is = go (same_entry e y) refl some (λ more. counted number e es more is)
   where
     go : (b : Bool) → same_entry e y ≡ b → 0 < (if b then 1 else 0) + times same_entry e es → (0 < times same_entry e es → 0 < entries_of number es)
         → 0 < of_number number y + entries_of number es
-    go true same few rest = let one = counts_one number y (sym (ap (λ (x : Entry). x.number) (entry_eq e y same)) ∙ is) in omega arith
+    go true same few rest = let one = counts_one number y (sym (ap (λ (x : TakenNumber). x.number) (entry_eq e y same)) ∙ is) in omega arith
     go false same few rest = let more = rest (omega arith) in omega arith
 
 -- what is found of a number that has one entry
-pub found_entry : (number : ℕ) (e : Entry) (es : List Entry) → entries_of number es ≤ 1 → 0 < times same_entry e es → e.number ≡ number
+pub found_entry : (number : ℕ) (e : TakenNumber) (es : List TakenNumber) → entries_of number es ≤ 1 → 0 < times same_entry e es → e.number ≡ number
     → found number (map token_of es) ≡ record { inode = e.inode; address = e.address }
 found_entry number e [] single some is = absurd (omega arith)
 found_entry number e (y ∷ es) single some is =
@@ -73,8 +73,8 @@ found_entry number e (y ∷ es) single some is =
         → found number (map token_of (y ∷ es)) ≡ record { inode = e.inode; address = e.address }
     go true same few tells rest =
         let y_is = sym (entry_eq e y same) in
-        let hit : (y.number == number) ≡ true = eq-eqb y.number number (ap (λ (x : Entry). x.number) y_is ∙ is) in
-        rw hit (ap (λ (x : Entry). record { inode = x.inode; address = x.address }) y_is)
+        let hit : (y.number == number) ≡ true = eq-eqb y.number number (ap (λ (x : TakenNumber). x.number) y_is ∙ is) in
+        rw hit (ap (λ (x : TakenNumber). record { inode = x.inode; address = x.address }) y_is)
     go false same few (inl (t, here)) rest =
         let one = counts_one number y here in
         let more = counted number e es (omega arith) is in
@@ -83,7 +83,7 @@ found_entry number e (y ∷ es) single some is =
         let none : of_number number y ≡ 0 = rw t refl in
         rw t (rest (omega arith) (omega arith))
 
-pub found_free : (number : ℕ) (es : List Entry) → entries_of number es ≡ 0 → record { inode = 0; address = 0 } ≡ found number (map token_of es)
+pub found_free : (number : ℕ) (es : List TakenNumber) → entries_of number es ≡ 0 → record { inode = 0; address = 0 } ≡ found number (map token_of es)
 found_free number [] none = refl
 found_free number (y ∷ es) none =
     elim (eqb_tells y.number number) [

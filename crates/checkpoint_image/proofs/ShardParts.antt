@@ -2,7 +2,7 @@
 -- the part.
 use Rattle.std.proofs.Common.{◌≡◌, refl, ◌∙◌, ap, subst, ℕ, ◌<◌, ◌==◌, List, [], if◌then◌else◌, eq-eqb, arith}
 use Rattle.geometry.specs.declared.geometry.Geometry.{Geometry}
-use Rattle.rights_books.specs.declared.claim.Entry.{Entry}
+use Rattle.rights_books.specs.declared.claim.TakenNumber.{TakenNumber}
 use Rattle.nat.specs.Taken.{entries_of}
 use Rattle.nat.specs.Shard.{ShardNodes}
 use Rattle.image_law.specs.Items.{Among}
@@ -11,9 +11,9 @@ use Rattle.image_law.proofs.Weighing.{weigh_among, weigh-map, of_among-map}
 use Rattle.checkpoint_image.specs.Cells.{token_of, shard_part, IsShardAt}
 
 -- an entry that is there is counted
-counted : (x : Entry) (taken : List Entry) → Among x taken → 0 < entries_of x.number taken
+counted : (x : TakenNumber) (taken : List TakenNumber) → Among x taken → 0 < entries_of x.number taken
 counted x taken m =
-    let a = weigh_among (λ (e : Entry). if e.number == x.number then 1 else 0) x taken m in
+    let a = weigh_among (λ (e : TakenNumber). if e.number == x.number then 1 else 0) x taken m in
     let b : ◌≡◌ {A = ℕ} (if x.number == x.number then 1 else 0) 1 = rw (eq-eqb x.number x.number refl) refl in
     omega arith
 

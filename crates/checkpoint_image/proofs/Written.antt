@@ -6,7 +6,7 @@ use Rattle.geometry.specs.declared.geometry.Geometry.{Geometry}
 use Rattle.geometry.specs.File.{Block}
 use Rattle.geometry.specs.Weights.{weigh}
 use Rattle.geometry.proofs.Weighing.{weigh-append}
-use Rattle.rights_books.specs.declared.claim.Entry.{Entry}
+use Rattle.rights_books.specs.declared.claim.TakenNumber.{TakenNumber}
 use Rattle.rights_books.specs.declared.claim.Copied.{Copied}
 use Rattle.rights_books.specs.Lists.{times}
 use Rattle.rights_books.specs.Sameness.{same_entry}
@@ -21,7 +21,7 @@ use Rattle.checkpoint_image.specs.Cells.{Cells, CellsLaw, Filed, tree_in, parts_
 use Rattle.checkpoint_image.specs.Audited.{AreCopies}
 use Rattle.checkpoint_image.specs.Blocks.{HoldNodes}
 
-pub weigh_all_taken : (h : Entry → ℕ) (xs : List ShardNodes) → weigh h (all_taken xs) ≡ weigh (λ (s : ShardNodes). weigh h s.taken) xs
+pub weigh_all_taken : (h : TakenNumber → ℕ) (xs : List ShardNodes) → weigh h (all_taken xs) ≡ weigh (λ (s : ShardNodes). weigh h s.taken) xs
 weigh_all_taken h [] = refl
 weigh_all_taken h (s ∷ xs) = let a = weigh-append h s.taken (all_taken xs) in let there = weigh_all_taken h xs in omega arith
 
@@ -41,12 +41,12 @@ positive : (a : ℕ) → a ≢ 0 → 0 < a
 positive zero some = absurd (some refl)
 positive (suc a) some = omega arith
 
-abbrev one : Entry → Entry → ℕ
+abbrev one : TakenNumber → TakenNumber → ℕ
 one e y = if same_entry e y then 1 else 0
 
 module _ (geometry : Geometry) (cells : Cells) (copies : List Copied) (law : CellsLaw geometry cells) (are : AreCopies cells copies) (settled : AreSettled copies) where
   -- a token that is lodged is that of a taken number
-  taken_there : (k : ℕ) (x : Filed) (e : Entry) → slice_get cells.files k ≡ Some x → 0 < times same_entry e x.tokens → 0 < times same_entry e (all_taken cells.shards)
+  taken_there : (k : ℕ) (x : Filed) (e : TakenNumber) → slice_get cells.files k ≡ Some x → 0 < times same_entry e x.tokens → 0 < times same_entry e (all_taken cells.shards)
   taken_there k x e at some =
       let a = weigh_one (λ (f : Filed). times same_entry e f.tokens) cells.files k x at in
       let b = are.tokens (one e) in

@@ -9,10 +9,10 @@ use Rattle.geometry.specs.Shape.{segment_blocks}
 use Rattle.geometry.specs.Weights.{weigh}
 use Rattle.rights_books.specs.Lists.{times}
 use Rattle.rights_books.specs.Sameness.{same_entry}
-use Rattle.rights_books.specs.declared.claim.Entry.{Entry}
+use Rattle.rights_books.specs.declared.claim.TakenNumber.{TakenNumber}
 use Rattle.sit.specs.Segment.{Segment, IsFitting, marks_of}
 use Rattle.nat.specs.Shard.{ShardNodes, HasOwnNodes}
-use Rattle.image.specs.declared.image.Place.{Place}
+use Rattle.image.specs.declared.image.LogHead.{LogHead}
 use Rattle.image.specs.Node.{Spells}
 use Rattle.image_law.specs.Items.{Among}
 use Rattle.image_law.specs.Parts.{SegmentState, Token, FileTree, FileLaw, Parts, Stored, stored_of, token_at, each, tickets_of, tokens_of}
@@ -21,7 +21,7 @@ use Rattle.image_law.specs.Parts.{SegmentState, Token, FileTree, FileLaw, Parts,
 pub record Filed : Type 0 where
   pub tree : Option FileTree
   pub tickets : List Mark
-  pub tokens : List Entry
+  pub tokens : List TakenNumber
 
 -- the segments, the shards of the node table, the segment that each log has open, and the files
 pub record Cells : Type 0 where
@@ -43,7 +43,7 @@ log_in Prefree next = None
 abbrev pub segment_part : Segment → SegmentState
 segment_part s = record { number = s.number; mtime = s.mtime; summaries = s.summaries; marks = marks_of s; log = log_in s.state s.next }
 
-abbrev pub token_of : Entry → Token
+abbrev pub token_of : TakenNumber → Token
 token_of e = record { nid = e.number; inode = e.inode; address = e.address }
 
 abbrev pub shard_part : ShardNodes → List Token
@@ -54,7 +54,7 @@ next_in None = 0
 next_in (Some s) = s.next
 
 -- the place of a log's next block, in the segment that it has open
-abbrev pub place_in : List Segment → Option ℕ → Option Place
+abbrev pub place_in : List Segment → Option ℕ → Option LogHead
 place_in segments None = None
 place_in segments (Some n) = Some (record { segment = n; next = next_in (slice_get segments n) })
 
@@ -67,8 +67,8 @@ parts_of cells = record {
 }
 
 -- one of these tokens is the node's, and the bytes of its block spell the node
-pub record IsWrittenIn (shape : Shape) (tokens : List Entry) (s : Stored) : Type 0 where
-  pub token : Entry
+pub record IsWrittenIn (shape : Shape) (tokens : List TakenNumber) (s : Stored) : Type 0 where
+  pub token : TakenNumber
   pub lodged : 0 < times same_entry token tokens
   pub token_is : token_of token ≡ token_at s
   pub spelled : Spells shape token.bytes s.node

@@ -4,7 +4,7 @@ use Rattle.std.specs.List.{flat_map}
 use Rattle.geometry.specs.declared.owner.Summary.{Summary}
 use Rattle.geometry.specs.Shape.{segment_blocks}
 use Rattle.image.specs.declared.image.NodeEntry.{NodeEntry}
-use Rattle.image.specs.declared.image.Place.{Place}
+use Rattle.image.specs.declared.image.LogHead.{LogHead}
 use Rattle.image.specs.Image.{SegmentInfo}
 use Rattle.image.specs.Walk.{up_to}
 use Rattle.sit.specs.Registered.{Registered}
@@ -52,7 +52,7 @@ module _ {H : Type 0} (shown : H → ShardNodes) where
   entries_in held nodes = map (entry_in held) (up_to nodes)
 
 module _ {L : Type 0} (shown : L → Option ℕ) where
-  abbrev pub places_in : List Segment → List L → List (Option Place)
+  abbrev pub places_in : List Segment → List L → List (Option LogHead)
   places_in segments held = map (λ l. place_in segments (shown l)) held
 
   -- the open segment of each is one of so many

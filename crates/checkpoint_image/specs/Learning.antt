@@ -6,7 +6,7 @@ use Rattle.geometry.specs.Weights.{weigh}
 use Rattle.rights_books.specs.declared.claim.Copied.{Copied}
 use Rattle.rights_books.specs.declared.claim.Copied.TheVariants.{SegmentCopy, FileCopy, ShardCopy}
 use Rattle.rights_books.specs.Accounts.{CensusView, FileView}
-use Rattle.rights_books.specs.declared.claim.Entry.{Entry}
+use Rattle.rights_books.specs.declared.claim.TakenNumber.{TakenNumber}
 use Rattle.rights_books.specs.Weights.{of_entry, marks_copied, taken_copied, tickets_copied, tokens_copied, segment_copy}
 use Rattle.sit.specs.Registered.{Registered}
 use Rattle.sit.specs.Segment.{marks_of}
@@ -38,7 +38,7 @@ pub record HaveLearnedFiles (files : List FileView) (old new : CensusView) : Typ
 -- what these copies weigh is what all segments, shards and files have
 pub record AreLearned (segments : List Registered) (shards : List ShardNodes) (files : List FileView) (copies : List Copied) : Type 0 where
   pub marks : (h : Mark → ℕ) → weigh (marks_copied h) copies ≡ weigh (λ (r : Registered). weigh h (marks_of r.segment)) segments
-  pub taken : (h : Entry → ℕ) → weigh (taken_copied h) copies ≡ weigh (λ (s : ShardNodes). weigh h s.taken) shards
+  pub taken : (h : TakenNumber → ℕ) → weigh (taken_copied h) copies ≡ weigh (λ (s : ShardNodes). weigh h s.taken) shards
   pub tickets : (h : Mark → ℕ) → weigh (tickets_copied h) copies
       ≡ weigh (λ (f : FileView). weigh h f.tickets) files + weigh (λ (s : ShardNodes). weigh (of_entry h) s.taken) shards
-  pub tokens : (h : Entry → ℕ) → weigh (tokens_copied h) copies ≡ weigh (λ (f : FileView). weigh h f.tokens) files
+  pub tokens : (h : TakenNumber → ℕ) → weigh (tokens_copied h) copies ≡ weigh (λ (f : FileView). weigh h f.tokens) files

@@ -12,7 +12,7 @@ ghost use Rattle.checkpoint_image.specs.Held.{HaveBlocks, infos_in};
 use crate::held::HoldsSegment;
 use crate::segment::valid_of;
 use device::Block;
-use image::Place;
+use image::LogHead;
 use sit::SegmentState;
 
 /// How many segments a mount finds free of an image of what is held.
@@ -20,7 +20,7 @@ pub(crate) fn free_of<B: Block + Drop, S: HoldsSegment<B>>(
     count: u32,
     blocks: u32,
     segments: &[S],
-    logs: &[Option<Place>],
+    logs: &[Option<LogHead>],
 ) -> u32
     requires every { length segments.now ≡ count }
     requires blocks { HaveBlocks S.shown blocks segments.now }
@@ -40,7 +40,7 @@ pub(crate) fn free_of<B: Block + Drop, S: HoldsSegment<B>>(
 fn is_unused<B: Block + Drop>(
     segment: &SegmentState<B>,
     blocks: u32,
-    logs: &[Option<Place>],
+    logs: &[Option<LogHead>],
     number: u32,
 ) -> bool
     requires { blocks ≡ segment_blocks segment.now.segment.shape }
@@ -50,7 +50,7 @@ fn is_unused<B: Block + Drop>(
 }
 
 // Whether a log appends to a segment.
-fn is_named(logs: &[Option<Place>], segment: u32) -> bool
+fn is_named(logs: &[Option<LogHead>], segment: u32) -> bool
     ensures { result ≡ list_any (stands_in segment) logs.now }
 {
     logs.iter().any(|log| match log {

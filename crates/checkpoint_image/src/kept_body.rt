@@ -1,5 +1,6 @@
 //! The body of a pack is kept from one checkpoint to the next.
 ghost use Rattle.std.specs.Prelude.{◌≡◌, ◌<◌, ◌+◌, ◌^◌, ℕ, [], ◌∷◌, ◌++◌, true, false, length, take, drop, OnOk};
+ghost use Rattle.packs_journal.specs.Places.{map_pages};
 ghost use Rattle.std.specs.List.{flat_map};
 ghost use Rattle.image.specs.Node.{numbers};
 ghost use Rattle.image.specs.Pack.{body_bytes, log_bytes};
@@ -12,7 +13,7 @@ ghost use Rattle.checkpoint_image.specs.Touched.{AreTouched};
 
 use crate::touched_body::{TouchedBody, put_bytes};
 use geometry::Geometry;
-use image::Place;
+use image::LogHead;
 use pack_tables::spell_head;
 use packs_journal::PageSet;
 use rights_books::{KeptAccount, Rows};
@@ -37,7 +38,7 @@ pub struct KeptBody {
     pub ghost in_order: { AreInOrder rows twins.items },
     pub ghost spelled: { 0 < length body.bytes.items → IsKeptBody geometry twins.items body.bytes.items },
     pub ghost unspelled: { length body.bytes.items ≡ 0 → (k : ℕ) → row_at twins.items k ≡ blank },
-    pub ghost fresh: { length body.bytes.items ≡ 0 → (k : ℕ) → k < 4352 → has_page body.touched k ≡ true },
+    pub ghost fresh: { length body.bytes.items ≡ 0 → (k : ℕ) → k < map_pages → has_page body.touched k ≡ true },
 }
 
 impl KeptBody {
@@ -47,7 +48,7 @@ impl KeptBody {
         requires blank { AreBlank rows twins.items }
         ensures geometry { result.geometry ≡ geometry.now }
         ensures rows { result.rows ≡ rows }
-        ensures touched { (k : ℕ) → k < 4352 → has_page result.body.touched k ≡ true }
+        ensures touched { (k : ℕ) → k < map_pages → has_page result.body.touched k ≡ true }
     {
         KeptBody {
             alloc,
@@ -89,7 +90,7 @@ impl KeptBody {
         &mut self,
         version: u32,
         total: u32,
-        logs: &[Option<Place>],
+        logs: &[Option<LogHead>],
     ) -> Result<(), AllocError>
         requires there { 0 < length self.old.body.bytes.items }
         requires six { length logs.now ≡ 6 }

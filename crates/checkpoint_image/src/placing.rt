@@ -14,7 +14,7 @@ use crate::shard::entry_of;
 use crate::touched_body::TouchedBody;
 use device::Block;
 use geometry::Geometry;
-use nat::Shard;
+use nat::{SHARDS, Shard};
 use pack_tables::spell_entry;
 
 // Where the first entry of the node address table lies.
@@ -22,9 +22,6 @@ const ENTRIES_AT: usize = 56;
 
 // The bytes of such an entry.
 const ENTRY: usize = 8;
-
-// So many shards have the node numbers.
-const SHARDS: u32 = 16;
 
 /// Puts a segment's row of the segment information table, and behind it that of the segment summary area, into their places.
 pub(crate) fn put_segment(body: &mut TouchedBody, geometry: &Geometry, number: usize, row: &[u8])

@@ -6,7 +6,7 @@ ghost use Rattle.checkpoint_image.specs.Held.{segments_in, total_in, HaveBlocks,
 use crate::held::{HoldsLog, HoldsSegment};
 use crate::segment::valid_of;
 use device::Block;
-use image::Place;
+use image::LogHead;
 use std::alloc::{AllocError, Global};
 
 /// How many blocks are valid.
@@ -27,7 +27,7 @@ pub(crate) fn places_of<B: Block + Drop, S: HoldsSegment<B>, L: HoldsLog>(
     alloc: Global,
     segments: &[S],
     logs: &[L],
-) -> Result<Vec<Option<Place>>, AllocError>
+) -> Result<Vec<Option<LogHead>>, AllocError>
     requires { AreWithin L.shown (length segments.now) logs.now }
     ensures { IfOk result (λ places. places.items ≡ places_in L.shown (segments_in S.shown segments.now) logs.now) }
 {
@@ -42,12 +42,12 @@ pub(crate) fn places_of<B: Block + Drop, S: HoldsSegment<B>, L: HoldsLog>(
 fn place_of<B: Block + Drop, S: HoldsSegment<B>>(
     segments: &[S],
     number: Option<u32>,
-) -> Option<Place>
+) -> Option<LogHead>
     requires { IfSome number (λ n. n < length segments.now) }
     ensures { result ≡ place_in (segments_in S.shown segments.now) number }
 {
     match number {
-        Some(segment) => Some(Place {
+        Some(segment) => Some(LogHead {
             segment,
             next: segments[segment as usize].segment().next(),
         }),

@@ -1,7 +1,7 @@
 //! The bytes of a pack's body, and which of its pages have been touched.
 ghost use Rattle.std.specs.Prelude.{◌≡◌, ◌<◌, ◌≤◌, ◌+◌, ◌-◌, ◌*◌, ◌/◌, ℕ, [], true, length};
 ghost use Rattle.device.specs.Disk.{Holds, part};
-ghost use Rattle.packs_journal.specs.Places.{IsBody};
+ghost use Rattle.packs_journal.specs.Places.{IsBody, map_pages};
 ghost use Rattle.packs_journal.specs.Pages.{has_page};
 ghost use Rattle.checkpoint_image.specs.Touched.{AreTouched, lies_in};
 
@@ -26,7 +26,7 @@ impl TouchedBody {
     /// A body of which no byte is there, and each page counts as touched.
     pub fn new(alloc: Global) -> TouchedBody
         ensures none { result.bytes.items ≡ [] }
-        ensures touched { (k : ℕ) → k < 4352 → has_page result.touched k ≡ true }
+        ensures touched { (k : ℕ) → k < map_pages → has_page result.touched k ≡ true }
     {
         TouchedBody {
             bytes: Vec::new(alloc),

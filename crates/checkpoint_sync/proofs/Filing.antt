@@ -9,7 +9,7 @@ use Rattle.geometry.specs.Weights.{weigh}
 use Rattle.image_law.specs.Items.{Among}
 use Rattle.image_law.specs.Parts.{Token, Stored, stored_of, token_at}
 use Rattle.image_law.proofs.Weighing.{weigh_among, of_among-map}
-use Rattle.rights_books.specs.declared.claim.Entry.{Entry}
+use Rattle.rights_books.specs.declared.claim.TakenNumber.{TakenNumber}
 use Rattle.rights_books.specs.Accounts.{FileView}
 use Rattle.rights_books.specs.Lists.{times}
 use Rattle.rights_books.specs.Sameness.{same_entry}
@@ -27,10 +27,10 @@ use Rattle.checkpoint_sync.proofs.FileLaws.{file_keeps_law}
 use Rattle.checkpoint_image.specs.Cells.{IsFiledAt, IsWrittenIn, token_of}
 use Rattle.checkpoint_sync.specs.FileParts.{filed_of, IsFlushed, IsFlushedOrNone}
 
-abbrev one : Entry → Entry → ℕ
+abbrev one : TakenNumber → TakenNumber → ℕ
 one e y = if same_entry e y then 1 else 0
 
-one_self : (e : Entry) → one e e ≡ 1
+one_self : (e : TakenNumber) → one e e ≡ 1
 one_self e = rw (entry_self e) refl
 
 module _ {B L : Type 0} (geometry : Geometry) (inode : ℕ) (account : FileView) (f : FileState B L) (is : IsFlushed geometry inode account f) where

@@ -3,17 +3,17 @@ use Rattle.std.proofs.Common.{◌≡◌, ℕ, ◌+◌, ◌<◌, List, Some, leng
 use Rattle.std.proofs.lemmas.Bool.{cases_eq}
 use Rattle.std.proofs.lemmas.List.{length-set, get_or-set_same, get_or-set_other}
 use Rattle.sit.specs.Registered.{Registered}
-use Rattle.area.specs.declared.unsettled.Turn.{Turn}
+use Rattle.area.specs.declared.unsettled.SegmentTask.{SegmentTask}
 use Rattle.checkpoint_sync.specs.Turned.{IsTurnOf}
 
-abbrev pub AreFound : List Registered → List Turn → ℕ → Type 0
+abbrev pub AreFound : List Registered → List SegmentTask → ℕ → Type 0
 AreFound segments turns number =
-    (k : ℕ) (r : Registered) (other : Turn) → k < number → slice_get segments k ≡ Some r → k < length turns → IsTurnOf r (get_or turns k other)
+    (k : ℕ) (r : Registered) (other : SegmentTask) → k < number → slice_get segments k ≡ Some r → k < length turns → IsTurnOf r (get_or turns k other)
 
 one_segment : (r here : Registered) → Some r ≡ Some here → here ≡ r
 one_segment r here e = cc
 
-pub found_more : (segments : List Registered) (turns : List Turn) (number : ℕ) (here : Registered) (turn : Turn)
+pub found_more : (segments : List Registered) (turns : List SegmentTask) (number : ℕ) (here : Registered) (turn : SegmentTask)
     → slice_get segments number ≡ Some here → IsTurnOf here turn → AreFound segments turns number → AreFound segments (set turns number turn) (number + 1)
 found_more segments turns number here turn at is before k r other below there within =
     let long = length-set turns number turn in

@@ -3,7 +3,7 @@ use Rattle.std.specs.Prelude.{◌≡◌, ◌≢◌, ℕ, map, Option, Some, None
 use Rattle.image.specs.Image.{Image, entry_of, node_of}
 use Rattle.image_law.specs.Items.{Among}
 use Rattle.image_law.specs.Parts.{Token, Tree, Stored, FileTree, stored_of}
-use Rattle.rights_books.specs.declared.claim.Entry.{Entry}
+use Rattle.rights_books.specs.declared.claim.TakenNumber.{TakenNumber}
 use Rattle.tickets.specs.Placed.{Placed}
 use Rattle.nodes.specs.declared.branch.Branch.{Branch}
 use Rattle.nodes.specs.Tree.{entry_at}
@@ -13,7 +13,7 @@ use Rattle.nodes.specs.File.{address_of}
 use Rattle.nodes_law.specs.Nodes.{node_in}
 
 -- what the node address table says of a node
-abbrev pub token_of : Entry → Token
+abbrev pub token_of : TakenNumber → Token
 token_of e = record { nid = e.number; inode = e.inode; address = e.address }
 
 abbrev pub seen : {A T : Type 0} → (A → T) → Option A → Option T

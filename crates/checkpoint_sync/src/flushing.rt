@@ -1,6 +1,6 @@
 //! The marked nodes of the file in a lock are written.
-ghost use Rattle.std.specs.Prelude.{◌≡◌, ◌⊎◌, OnOk, IfErr};
-ghost use Rattle.geometry.specs.declared.error.Error.TheVariants.{NoSpace, Device};
+ghost use Rattle.std.specs.Prelude.{◌≡◌, OnOk, IfErr};
+ghost use Rattle.geometry.specs.Refusals.{IsOfAppend};
 ghost use Rattle.nodes.specs.Change.{each_marked};
 ghost use Rattle.nodes.specs.File.{weight_of, file_of};
 ghost use Rattle.rights_permits.specs.Turns.{at_home};
@@ -13,7 +13,7 @@ use file_cells::FileCell;
 use file_flush::{FlushBuffer, flush_file};
 use geometry::Error;
 use nodes::FileState;
-use rights_books::{FileAccount, Permit};
+use rights_books::{CallAccount, FileAccount};
 use rights_permits::VolumeName;
 use std::sync::Wait;
 
@@ -24,7 +24,7 @@ use std::sync::Wait;
 pub fn flush_cell<V: VolumeName, B: Block + Drop, R: Wait>(
     rt: &R,
     area: &MainArea<V, B>,
-    hand: &mut Permit,
+    hand: &mut CallAccount,
     cell: &mut FileCell<V, B>,
     now: u64,
     buffer: &mut FlushBuffer,
@@ -36,7 +36,7 @@ pub fn flush_cell<V: VolumeName, B: Block + Drop, R: Wait>(
     ensures number { cell.new.number ≡ cell.old.number }
     ensures hand { hand.new ≡ hand.old }
     ensures buffer { buffer.new.shape ≡ buffer.old.shape }
-    ensures error { IfErr result (λ error. (error ≡ Device) ⊎ (error ≡ NoSpace)) }
+    ensures error { IfErr result IsOfAppend }
 {
     let Some(file) = &mut cell.state else {
         return Ok(());
@@ -53,7 +53,7 @@ pub fn flush_cell<V: VolumeName, B: Block + Drop, R: Wait>(
 fn flush_lodged<V: VolumeName, B: Block + Drop, R: Wait>(
     rt: &R,
     area: &MainArea<V, B>,
-    hand: &mut Permit,
+    hand: &mut CallAccount,
     account: &mut FileAccount,
     file: &mut FileState<B>,
     now: u64,
@@ -70,7 +70,7 @@ fn flush_lodged<V: VolumeName, B: Block + Drop, R: Wait>(
     ensures hand { hand.new ≡ hand.old }
     ensures file { file_of file.new ≡ file_of file.old }
     ensures buffer { buffer.new.shape ≡ buffer.old.shape }
-    ensures error { IfErr result (λ error. (error ≡ Device) ⊎ (error ≡ NoSpace)) }
+    ensures error { IfErr result IsOfAppend }
 {
     area.books().unlodge_all(account, hand);
     let done = flush_file(rt, area, hand, file, now, buffer);

@@ -1,7 +1,7 @@
 //! The lock of a file whose nodes are all written.
-ghost use Rattle.std.specs.Prelude.{◌≡◌, ◌⊎◌, Some, IfOk, IfErr};
+ghost use Rattle.std.specs.Prelude.{◌≡◌, Some, IfOk, IfErr};
+ghost use Rattle.geometry.specs.Refusals.{IsOfAppend};
 ghost use Rattle.std.specs.Sync.Mutex.{mutex_guard_value};
-ghost use Rattle.geometry.specs.declared.error.Error.TheVariants.{NoSpace, Device};
 ghost use Rattle.nodes.specs.File.{file_of};
 ghost use Rattle.rights_permits.specs.Turns.{at_home};
 ghost use Rattle.checkpoint_sync.specs.WrittenFiles.{IsWrittenCell};
@@ -14,7 +14,7 @@ use file_cells::{FileCell, FilePass};
 use file_flush::FlushBuffer;
 use geometry::Error;
 use nodes::FileState;
-use rights_books::{Audit, Books, Permit};
+use rights_books::{Audit, Books, CallAccount};
 use rights_permits::VolumeName;
 use std::marker::Model;
 use std::sync::{MutexGuard, Wait};
@@ -45,7 +45,7 @@ impl<'a, V: VolumeName + 'a, B: Block + Drop + 'a> HeldFile<'a, V, B> {
     pub fn flush<R: Wait>(
         rt: &R,
         area: &MainArea<V, B>,
-        hand: &mut Permit,
+        hand: &mut CallAccount,
         cell: MutexGuard<'a, FileCell<V, B>>,
         now: u64,
         buffer: &mut FlushBuffer,
@@ -57,7 +57,7 @@ impl<'a, V: VolumeName + 'a, B: Block + Drop + 'a> HeldFile<'a, V, B> {
         ensures written { IfOk result (IsWrittenCell V.Books.books.book V.Numbers.geometry) }
         ensures hand { hand.new ≡ hand.old }
         ensures buffer { buffer.new.shape ≡ buffer.old.shape }
-        ensures error { IfErr result (λ error. (error ≡ Device) ⊎ (error ≡ NoSpace)) }
+        ensures error { IfErr result IsOfAppend }
     {
         let mut cell = cell;
         flush_cell(rt, area, hand, &mut cell, now, buffer)?;

@@ -1,6 +1,6 @@
 //! All files of a volume.
-ghost use Rattle.std.specs.Prelude.{◌≡◌, ◌≤◌, ◌⊎◌, [], vec_len, vec_capacity, OnOk, IfOk, IfErr};
-ghost use Rattle.geometry.specs.declared.error.Error.TheVariants.{NoMemory, NoSpace, Device};
+ghost use Rattle.std.specs.Prelude.{◌≡◌, ◌≤◌, [], vec_len, vec_capacity, OnOk, IfOk, IfErr};
+ghost use Rattle.geometry.specs.Refusals.{IsOfAppend, IsOfMove};
 ghost use Rattle.rights_permits.specs.Turns.{at_home};
 ghost use Rattle.checkpoint_sync.specs.WrittenFiles.{AreWritten};
 
@@ -10,7 +10,7 @@ use device::Block;
 use file_cells::FileCell;
 use file_flush::FlushBuffer;
 use geometry::Error;
-use rights_books::Permit;
+use rights_books::CallAccount;
 use rights_permits::VolumeName;
 use std::alloc::Global;
 use std::sync::{Mutex, Wait};
@@ -25,14 +25,14 @@ pub fn flush_files<'a, V: VolumeName + 'a, B: Block + Drop + 'a, R: Wait>(
     alloc: Global,
     area: &MainArea<V, B>,
     files: &'a Vec<Mutex<FileCell<V, B>>>,
-    hand: &mut Permit,
+    hand: &mut CallAccount,
 ) -> Result<Vec<HeldFile<'a, V, B>>, Error>
     requires hand { hand.old ≡ at_home V.Books.books.book }
     requires every { vec_len files.now ≡ V.Numbers.geometry.files }
     ensures files { IfOk result (λ held. AreWritten V.Books.books.book V.Numbers.geometry held.items) }
     ensures count { IfOk result (λ held. vec_len held ≡ V.Numbers.geometry.files) }
     ensures hand { hand.new ≡ hand.old }
-    ensures error { IfErr result (λ error. (error ≡ NoMemory) ⊎ ((error ≡ Device) ⊎ (error ≡ NoSpace))) }
+    ensures error { IfErr result IsOfMove }
 {
     let mut buffer = FlushBuffer::new(alloc, area.geometry().shape)?;
     let mut held = Vec::with_capacity(alloc, files.len())?;
@@ -60,7 +60,7 @@ fn flush_each<'a, V: VolumeName + 'a, B: Block + Drop + 'a, R: Wait>(
     rt: &R,
     area: &MainArea<V, B>,
     files: &'a Vec<Mutex<FileCell<V, B>>>,
-    hand: &mut Permit,
+    hand: &mut CallAccount,
     buffer: &mut FlushBuffer,
     held: &mut Vec<HeldFile<'a, V, B>>,
 ) -> Result<(), Error>
@@ -72,7 +72,7 @@ fn flush_each<'a, V: VolumeName + 'a, B: Block + Drop + 'a, R: Wait>(
     ensures files { OnOk result (AreWritten V.Books.books.book V.Numbers.geometry held.new.items) }
     ensures count { OnOk result (vec_len held.new ≡ V.Numbers.geometry.files) }
     ensures hand { hand.new ≡ hand.old }
-    ensures error { IfErr result (λ error. (error ≡ Device) ⊎ (error ≡ NoSpace)) }
+    ensures error { IfErr result IsOfAppend }
 {
     for index in 0..files.len() {
         let cell = lock_numbered(rt, &files[index], index as u32 + 1);

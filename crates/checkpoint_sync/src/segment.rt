@@ -6,7 +6,7 @@ ghost use Rattle.sit.specs.Registered.{slip_of};
 ghost use Rattle.checkpoint_sync.specs.LocksHeld.{IsHeldSegment};
 
 use crate::log::HeldLog;
-use area::{MainArea, SegmentCell, Turn};
+use area::{MainArea, SegmentCell, SegmentTask};
 use checkpoint_image::{AuditedSegment, HoldsSegment};
 use device::Block;
 use geometry::State;
@@ -62,12 +62,12 @@ impl<'a, V: VolumeName, B: Block + Drop + 'a> HeldSegment<'a, V, B> {
     }
 
     /// What a completed checkpoint has to do with it.
-    pub fn turn(&self) -> Turn
+    pub fn turn(&self) -> SegmentTask
         ensures keep { IsTrue result.keep ↔ (self.now.segment.thread.kept ≢ map is_set self.now.segment.summaries) }
         ensures free { IsTrue result.free ↔ (self.now.segment.state ≡ Prefree) }
     {
         let state = &self.cell.state;
-        Turn {
+        SegmentTask {
             keep: !state.is_kept(),
             free: state.state() == State::Prefree,
         }

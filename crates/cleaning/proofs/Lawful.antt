@@ -4,7 +4,7 @@ use Rattle.std.proofs.Common.{◌≡◌, ℕ, ◌<◌, ◌==◌, ◌&&◌, ◌||
 use Rattle.std.specs.Prelude.{◌⊎◌}
 use Rattle.geometry.specs.declared.shape.Shape.{Shape}
 use Rattle.geometry.specs.Shape.{block_bytes}
-use Rattle.rights_books.specs.declared.claim.Entry.{Entry}
+use Rattle.rights_books.specs.declared.claim.TakenNumber.{TakenNumber}
 use Rattle.rights_books.specs.Rules.{moved_to}
 use Rattle.nodes.specs.Change.{TreeNode, of_tickets, of_tokens}
 use Rattle.nodes_walks.specs.Moving.{MovesOne, moved_node}
@@ -19,11 +19,11 @@ use Rattle.nodes_law.proofs.Keeping.{is_it, it_is, among_list, list_among}
 use Rattle.nodes_law.proofs.Owning.{own_each}
 
 -- a token tells what it told, or that its node's block, which it has, stands elsewhere with its bytes
-abbrev pub Carries : Entry → Entry → Type 0
+abbrev pub Carries : TakenNumber → TakenNumber → Type 0
 Carries old new = (new ≡ old) ⊎ ((0 < old.address) × (0 < new.address) × (new ≡ moved_to new.address old.bytes old))
 
 -- a block that is not of so many bytes is ragged
-pub whole_bytes : (bytes : ℕ) (k : Entry) → 0 < k.address → ragged bytes k ≡ 0 → length k.bytes ≡ bytes
+pub whole_bytes : (bytes : ℕ) (k : TakenNumber) → 0 < k.address → ragged bytes k ≡ 0 → length k.bytes ≡ bytes
 whole_bytes bytes k some whole =
     fits (length k.bytes == bytes) refl (sym (ap (λ (b : Bool). if b || (length k.bytes == bytes) then 0 else 1) (ne_eqb k.address 0 (λ e. absurd (omega arith)))) ∙ whole)
   where
@@ -31,27 +31,27 @@ whole_bytes bytes k some whole =
     fits true e is = eqb-true (length k.bytes) bytes e
     fits false e is = absurd (omega arith)
 
-module _ (old new : Entry) where
+module _ (old new : TakenNumber) where
   same_inode : Carries old new → new.inode ≡ old.inode
-  same_inode (inl e) = ap (λ (k : Entry). k.inode) e
-  same_inode (inr moves) = ap (λ (k : Entry). k.inode) moves.2
+  same_inode (inl e) = ap (λ (k : TakenNumber). k.inode) e
+  same_inode (inr moves) = ap (λ (k : TakenNumber). k.inode) moves.2
 
   still_whole : (bytes : ℕ) → Carries old new → ragged bytes old ≡ 0 → ragged bytes new ≡ 0
   still_whole bytes (inl e) whole = ap (ragged bytes) e ∙ whole
   still_whole bytes (inr moves) whole =
-      let long : length new.bytes ≡ bytes = ap (λ (e : Entry). length e.bytes) moves.2 ∙ whole_bytes bytes old moves.0 whole in
+      let long : length new.bytes ≡ bytes = ap (λ (e : TakenNumber). length e.bytes) moves.2 ∙ whole_bytes bytes old moves.0 whole in
       ap (λ (b : Bool). if (new.address == 0) || b then 0 else 1) (eq-eqb (length new.bytes) bytes long) ∙ by_bit (new.address == 0)
     where
       by_bit : (b : Bool) → ◌≡◌ {A = ℕ} (if b || true then 0 else 1) 0
       by_bit true = refl
       by_bit false = refl
 
-spelled_elsewhere : (shape : Shape) (inode : ℕ) (n : TreeNode) (k : Entry) → Carries n.token k → IsSpelled shape inode n → IsSpelled shape inode (moved_node k n)
-spelled_elsewhere shape inode n k (inl e) spelled = subst (λ (t : Entry). IsSpelled shape inode (record n { token = t })) (sym e) spelled
-spelled_elsewhere shape inode n k (inr moves) spelled = subst (λ (t : Entry). IsSpelled shape inode (record n { token = t })) (sym moves.2) (moves.1, spelled.1)
+spelled_elsewhere : (shape : Shape) (inode : ℕ) (n : TreeNode) (k : TakenNumber) → Carries n.token k → IsSpelled shape inode n → IsSpelled shape inode (moved_node k n)
+spelled_elsewhere shape inode n k (inl e) spelled = subst (λ (t : TakenNumber). IsSpelled shape inode (record n { token = t })) (sym e) spelled
+spelled_elsewhere shape inode n k (inr moves) spelled = subst (λ (t : TakenNumber). IsSpelled shape inode (record n { token = t })) (sym moves.2) (moves.1, spelled.1)
 
 module _ {B L : Type 0} (files : ℕ) (old new : FileState B L) (law : FileStateLaw files old) (shape : new.shape ≡ old.shape) (number : new.token.number ≡ old.token.number)
-    (n : TreeNode) (k : Entry) (one : MovesOne (weight_of old) (weight_of new) n k) (carries : Carries n.token k) where
+    (n : TreeNode) (k : TakenNumber) (one : MovesOne (weight_of old) (weight_of new) n k) (carries : Carries n.token k) where
   there : Among n (nodes_of old)
   there =
       let here = one.among (of_nodes (is_it n)) in
@@ -81,7 +81,7 @@ module _ {B L : Type 0} (files : ℕ) (old new : FileState B L) (law : FileState
       (λ clean. spelled_elsewhere old.shape old.token.number n k carries (law.spelled n there clean)) m among clean))
 
   -- what weighs a token by its number and its inode alone
-  even : (h : Entry → ℕ) → h k ≡ h n.token → weight_of new (of_tokens h) ≡ weight_of old (of_tokens h)
+  even : (h : TakenNumber → ℕ) → h k ≡ h n.token → weight_of new (of_tokens h) ≡ weight_of old (of_tokens h)
   even h e = let all = one.trades (of_tokens h) in omega arith
 
   strange_same : (inode : ℕ) → strange files inode k ≡ strange files inode n.token

@@ -9,7 +9,7 @@ use Rattle.std.proofs.lemmas.Bool.{cases_eq}
 use Rattle.geometry.specs.Weights.{weigh}
 use Rattle.geometry.specs.Shape.{block_bytes}
 use Rattle.rights_books.specs.Accounts.{HandView}
-use Rattle.rights_books.specs.declared.claim.Entry.{Entry}
+use Rattle.rights_books.specs.declared.claim.TakenNumber.{TakenNumber}
 use Rattle.rights_books.specs.Lists.{times, without}
 use Rattle.rights_books.specs.Rules.{moved_to, with_lodged}
 use Rattle.rights_books.specs.Weights.{mark_of}
@@ -55,7 +55,7 @@ same_bytes old new index before after was now kind longer inside at sets bytes =
 
 -- ---- a node's block
 
-some_number : (k : Entry) → unnumbered k ≡ 0 → 0 < k.number
+some_number : (k : TakenNumber) → unnumbered k ≡ 0 → 0 < k.number
 some_number k none = elim (cases_eq k.number 0) [
   | inl e ↦ absurd (let one : unnumbered k ≡ 1 = ap (λ b. if b then 1 else 0) (eq-eqb k.number 0 e) in omega arith)
   | inr ne ↦ omega arith
@@ -75,26 +75,26 @@ module _ {B L : Type 0} (f : FileState B L) (x : HandView) (is : IsStored f) whe
   }
 
 -- the token of one node of a file stays with what is in hand, or is changed in it
-abbrev pub Fares : ℕ → Entry → Entry → HandView → HandView → Type 0
+abbrev pub Fares : ℕ → TakenNumber → TakenNumber → HandView → HandView → Type 0
 Fares address old new x y = ((new ≡ old) × (y ≡ x)) ⊎ MovesToken address old new x y
 
-pub carries : (address : ℕ) (old new : Entry) (x y : HandView) → 0 < address → Fares address old new x y → Carries old new
+pub carries : (address : ℕ) (old new : TakenNumber) (x y : HandView) → 0 < address → Fares address old new x y → Carries old new
 carries address old new x y some (inl stays) = inl stays.0
 carries address old new x y some (inr moves) = let was = moves.elsewhere.was in inr (omega arith, moves.elsewhere.some, moves.elsewhere.token)
 
 -- what a visitor says of it
-pub fares : (address : ℕ) (old new : Entry) (x y : HandView) (fate : Fate) → ((fate ≡ Gone) × (old.address ≢ address) × (new ≡ old) × (y ≡ x)) ⊎ ((fate ≡ Moved) × MovesToken address old new x y)
+pub fares : (address : ℕ) (old new : TakenNumber) (x y : HandView) (fate : Fate) → ((fate ≡ Gone) × (old.address ≢ address) × (new ≡ old) × (y ≡ x)) ⊎ ((fate ≡ Moved) × MovesToken address old new x y)
     → Fares address old new x y
 fares address old new x y fate (inl stays) = inl (stays.2, stays.3)
 fares address old new x y fate (inr moves) = inr moves.1
 
 -- a token that stays leaves all weights as they were
-pub stays_even : {B L : Type 0} (old new : FileState B L) (n : TreeNode) (k : Entry) → MovesOne (weight_of old) (weight_of new) n k → k ≡ n.token → KeepsWeights old new
-stays_even old new n k one stays w = let all = one.trades w in let same = ap (λ (e : Entry). w.node (record n { token = e })) stays in omega arith
+pub stays_even : {B L : Type 0} (old new : FileState B L) (n : TreeNode) (k : TakenNumber) → MovesOne (weight_of old) (weight_of new) n k → k ≡ n.token → KeepsWeights old new
+stays_even old new n k one stays w = let all = one.trades w in let same = ap (λ (e : TakenNumber). w.node (record n { token = e })) stays in omega arith
 
 module _ {B L : Type 0} (old new : FileState B L) (x y : HandView) (is : IsStored old) (now : IsFile new) (shape : new.shape ≡ old.shape) (kind : new.kind ≡ old.kind)
     (long : new.length ≡ old.length) (number : new.token.number ≡ old.token.number) (same : Same (ticket_at old) (ticket_at new)) (names : Same (namer_at old) (namer_at new))
-    (n : TreeNode) (k : Entry) (one : MovesOne (weight_of old) (weight_of new) n k) (address : ℕ) (fate : Fares address n.token k x y) where
+    (n : TreeNode) (k : TakenNumber) (one : MovesOne (weight_of old) (weight_of new) n k) (address : ℕ) (fate : Fares address n.token k x y) where
   short : new.length ≤ largest_length new.shape
   short = let s = is.short in let top = ap largest_length shape in omega arith
 
@@ -250,7 +250,7 @@ module _ {B L : Type 0} (old new : FileState B L) (x y z : HandView) (index : �
 
 -- ---- a node's block is moved: another ticket is lodged in its entry, and the old one goes
 
-module _ (k new : Entry) (x y z w : HandView) (t b : Placed) (some : 0 < k.address) (came : y ≡ with_ticket t.mark x) (before : Some b ≡ placed_of k)
+module _ (k new : TakenNumber) (x y z w : HandView) (t b : Placed) (some : 0 < k.address) (came : y ≡ with_ticket t.mark x) (before : Some b ≡ placed_of k)
     (swapped : z ≡ record y { tickets = with_lodged k (without same_mark t.mark y.tickets); tokens = new ∷ without same_entry k y.tokens }) where
   isnt_zero : (k.address == 0) ≡ false
   isnt_zero = ne_eqb k.address 0 (λ e. absurd (omega arith))
@@ -264,14 +264,14 @@ module _ (k new : Entry) (x y z w : HandView) (t b : Placed) (some : 0 < k.addre
   mark_is : b.mark ≡ mark_of k
   mark_is = ap (mark_in k) old_is
     where
-      mark_in : Entry → Option Placed → Mark
+      mark_in : TakenNumber → Option Placed → Mark
       mark_in e None = mark_of e
       mark_in e (Some u) = u.mark
 
   pub node_bytes : b.content ≡ k.bytes
   node_bytes = ap (bytes_in k) old_is
     where
-      bytes_in : Entry → Option Placed → List ℕ
+      bytes_in : TakenNumber → Option Placed → List ℕ
       bytes_in e None = e.bytes
       bytes_in e (Some u) = u.content
 
@@ -306,10 +306,10 @@ module _ (k new : Entry) (x y z w : HandView) (t b : Placed) (some : 0 < k.addre
   }
     where
       address_is : new.address ≡ t.mark.address
-      address_is = ap (λ (e : Entry). e.address) token
+      address_is = ap (λ (e : TakenNumber). e.address) token
 
 -- a node that has a block has a ticket of it
-pub has_ticket : (k : Entry) → 0 < k.address → None ≡ placed_of k → ⊥
+pub has_ticket : (k : TakenNumber) → 0 < k.address → None ≡ placed_of k → ⊥
 has_ticket k some none =
     let there : placed_of k ≡ Some (record { mark = mark_of k; content = k.bytes }) = ap (λ c. if c then None else Some (record { mark = mark_of k; content = k.bytes })) (ne_eqb k.address 0 (λ e. absurd (omega arith))) in
     let no = none ∙ there in cc

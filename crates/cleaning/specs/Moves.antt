@@ -4,7 +4,7 @@ use Rattle.std.specs.Prelude.{◌≡◌, ◌≢◌, ◌<◌, ◌+◌, ◌⊎◌,
 use Rattle.geometry.specs.declared.owner.Mark.{Mark}
 use Rattle.geometry.specs.declared.owner.Owner.{Owner}
 use Rattle.geometry.specs.declared.owner.Owner.TheVariants.{Data, Node}
-use Rattle.rights_books.specs.declared.claim.Entry.{Entry}
+use Rattle.rights_books.specs.declared.claim.TakenNumber.{TakenNumber}
 use Rattle.rights_books.specs.Accounts.{HandView}
 use Rattle.rights_books.specs.Lists.{times, without}
 use Rattle.rights_books.specs.Sameness.{same_entry}
@@ -26,19 +26,19 @@ pub record IsElsewhere (mark : Mark) (before after : Placed) : Type 0 where
   pub bytes : after.content ≡ before.content
 
 -- the same of a node's block, as its token tells; the node's number and inode stay
-pub record IsNodeElsewhere (address : ℕ) (old new : Entry) : Type 0 where
+pub record IsNodeElsewhere (address : ℕ) (old new : TakenNumber) : Type 0 where
   pub was : old.address ≡ address
   pub other : new.address ≢ address
   pub some : 0 < new.address
   pub token : new ≡ moved_to new.address old.bytes old
 
 -- a token that is in hand has it changed so, and what else is in hand stays
-pub record MovesToken (address : ℕ) (old new : Entry) (before after : HandView) : Type 0 where
+pub record MovesToken (address : ℕ) (old new : TakenNumber) (before after : HandView) : Type 0 where
   pub elsewhere : IsNodeElsewhere address old new
   pub hand : after ≡ record before { tokens = new ∷ without same_entry old before.tokens }
 
 -- the token of a node whose block can be moved: it is in hand, and its block, where it has one, is whole
-pub record IsMovable (bytes : ℕ) (token : Entry) (hand : HandView) : Type 0 where
+pub record IsMovable (bytes : ℕ) (token : TakenNumber) (hand : HandView) : Type 0 where
   pub number : 0 < token.number
   pub held : 0 < times same_entry token hand.tokens
   pub whole : ragged bytes token ≡ 0
@@ -52,7 +52,7 @@ module _ {B L : Type 0} where
     pub tickets : (h : Mark → ℕ) → weight_of new (of_tickets (λ t. h t.mark)) + h before.mark ≡ weight_of old (of_tickets (λ t. h t.mark)) + h after.mark
 
   -- one node of the file; its mark, what its block is to spell and all other nodes and blocks stay
-  pub record MovesNode (nid address : ℕ) (old new : FileState B L) (n : TreeNode) (token : Entry) : Type 0 where
+  pub record MovesNode (nid address : ℕ) (old new : FileState B L) (n : TreeNode) (token : TakenNumber) : Type 0 where
     pub number : n.token.number ≡ nid
     pub one : MovesOne (weight_of old) (weight_of new) n token
     pub elsewhere : IsNodeElsewhere address n.token token
@@ -69,7 +69,7 @@ module _ {B L : Type 0} where
   abbrev pub HasMoved : ℕ → Owner → FileState B L → FileState B L → Type 0
   HasMoved address (Data nid slot) old new =
       (index : ℕ) × (before : Placed) × (after : Placed) × MovesAt (record { address = address; owner = Data nid slot }) old new index before after
-  HasMoved address (Node nid) old new = (n : TreeNode) × (token : Entry) × MovesNode nid address old new n token
+  HasMoved address (Node nid) old new = (n : TreeNode) × (token : TakenNumber) × MovesNode nid address old new n token
 
   -- nobody of the file names it so
   abbrev pub IsGone : ℕ → Owner → FileState B L → Type 0

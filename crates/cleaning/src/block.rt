@@ -1,6 +1,6 @@
 //! A data block is moved.
-ghost use Rattle.std.specs.Prelude.{◌≡◌, ◌<◌, ◌⊎◌, Some, None, length, OnOk, OnErr, IfOk, IfErr};
-ghost use Rattle.geometry.specs.declared.error.Error.TheVariants.{NoSpace, Device};
+ghost use Rattle.std.specs.Prelude.{◌≡◌, ◌<◌, Some, None, length, OnOk, OnErr, IfOk, IfErr};
+ghost use Rattle.geometry.specs.Refusals.{IsOfAppend};
 ghost use Rattle.geometry.specs.declared.owner.Owner.TheVariants.{Data};
 ghost use Rattle.geometry.specs.Path.{path};
 ghost use Rattle.tickets.specs.Placed.{Placed};
@@ -17,7 +17,7 @@ use device::Block;
 use geometry::{Error, Mark, Owner};
 use nodes::FileState;
 use nodes_walks::index_of;
-use rights_books::Permit;
+use rights_books::CallAccount;
 use rights_permits::VolumeName;
 use std::sync::Wait;
 
@@ -38,7 +38,7 @@ pub struct DataBlock {
 pub fn migrate_block<V: VolumeName, B: Block + Drop, R: Wait>(
     rt: &R,
     area: &MainArea<V, B>,
-    hand: &mut Permit,
+    hand: &mut CallAccount,
     file: &mut FileState<B>,
     block: DataBlock,
     now: u64,
@@ -49,7 +49,7 @@ pub fn migrate_block<V: VolumeName, B: Block + Drop, R: Wait>(
     ensures moved { IfOk result (λ fate. fate ≡ Moved → HasMoved block.address (Data block.nid block.slot) file.old file.new) }
     ensures gone { IfOk result (λ fate. fate ≡ Gone → IsGone block.address (Data block.nid block.slot) file.old × (file.new ≡ file.old) × (hand.new ≡ hand.old)) }
     ensures err { OnErr result ((file.new ≡ file.old) × (hand.new ≡ hand.old)) }
-    ensures error { IfErr result (λ error. (error ≡ Device) ⊎ (error ≡ NoSpace)) }
+    ensures error { IfErr result IsOfAppend }
 {
     let DataBlock { address, nid, slot } = block;
     match index_of(file, nid, slot, address) {
@@ -69,7 +69,7 @@ pub fn migrate_block<V: VolumeName, B: Block + Drop, R: Wait>(
 fn move_block<V: VolumeName, B: Block + Drop, R: Wait>(
     rt: &R,
     area: &MainArea<V, B>,
-    hand: &mut Permit,
+    hand: &mut CallAccount,
     file: &mut FileState<B>,
     index: u32,
     mark: Mark,
@@ -83,7 +83,7 @@ fn move_block<V: VolumeName, B: Block + Drop, R: Wait>(
     ensures served { HasServed V.Numbers.geometry.files file.old file.new hand.old hand.new }
     ensures moved { OnOk result ((before : Placed) × (after : Placed) × MovesAt mark file.old file.new index before after) }
     ensures err { OnErr result ((file.new ≡ file.old) × (hand.new ≡ hand.old)) }
-    ensures error { IfErr result (λ error. (error ≡ Device) ⊎ (error ≡ NoSpace)) }
+    ensures error { IfErr result IsOfAppend }
 {
     file.read(index, bytes)?;
     let log = Log::ColdData;

@@ -13,28 +13,28 @@ pub enum Fate {
 
 /// How many blocks were moved, and how many were gone.
 #[derive(Clone, Copy, Debug, PartialEq, Eq)]
-pub struct Counts {
+pub struct MovedBlocks {
     pub moved: u32,
     pub gone: u32,
 }
 
-impl Counts {
+impl MovedBlocks {
     /// No block.
-    pub const NONE: Counts = Counts { moved: 0, gone: 0 };
+    pub const NONE: MovedBlocks = MovedBlocks { moved: 0, gone: 0 };
 
     /// One block more, of this fate.
-    pub fn with(self, fate: Fate) -> Counts
+    pub fn with(self, fate: Fate) -> MovedBlocks
         requires { self.moved + self.gone + 1 < 2 ^ 32 }
         ensures moved { fate ≡ fates.Moved → result ≡ record self { moved = self.moved + 1 } }
         ensures gone { fate ≡ fates.Gone → result ≡ record self { gone = self.gone + 1 } }
         ensures both { result.moved + result.gone ≡ self.moved + self.gone + 1 }
     {
         match fate {
-            Fate::Moved => Counts {
+            Fate::Moved => MovedBlocks {
                 moved: self.moved + 1,
                 gone: self.gone,
             },
-            Fate::Gone => Counts {
+            Fate::Gone => MovedBlocks {
                 moved: self.moved,
                 gone: self.gone + 1,
             },
@@ -42,11 +42,11 @@ impl Counts {
     }
 
     /// Those of two segments.
-    pub fn plus(self, other: Counts) -> Counts
+    pub fn plus(self, other: MovedBlocks) -> MovedBlocks
         requires { self.moved + self.gone + (other.moved + other.gone) < 2 ^ 32 }
         ensures { result ≡ record { moved = self.moved + other.moved; gone = self.gone + other.gone } }
     {
-        Counts {
+        MovedBlocks {
             moved: self.moved + other.moved,
             gone: self.gone + other.gone,
         }

@@ -1,6 +1,6 @@
 //! How a clean comes to a file.
-ghost use Rattle.std.specs.Prelude.{◌≡◌, ◌<◌, ◌⊎◌, length, OnErr, IfOk, IfErr};
-ghost use Rattle.geometry.specs.declared.error.Error.TheVariants.{NoSpace, Device};
+ghost use Rattle.std.specs.Prelude.{◌≡◌, ◌<◌, length, OnErr, IfOk, IfErr};
+ghost use Rattle.geometry.specs.Refusals.{IsOfAppend};
 ghost use Rattle.geometry.specs.Shape.{block_bytes};
 ghost use Rattle.nodes.specs.File.{file_of};
 ghost use Rattle.nodes.specs.Held.{Others};
@@ -18,7 +18,7 @@ use area::MainArea;
 use device::Block;
 use geometry::{Error, Owner};
 use nodes::FileState;
-use rights_books::Permit;
+use rights_books::CallAccount;
 use rights_permits::VolumeName;
 use std::sync::Wait;
 
@@ -29,7 +29,7 @@ pub trait Files<V: VolumeName> {
     fn migrate<R: Wait>(
         &self,
         rt: &R,
-        hand: &mut Permit,
+        hand: &mut CallAccount,
         inode: u32,
         address: u32,
         owner: Owner,
@@ -40,7 +40,7 @@ pub trait Files<V: VolumeName> {
         requires address { 0 < address }
         requires bytes { length bytes.old ≡ block_bytes V.Numbers.geometry.shape }
         ensures hand { hand.new ≡ hand.old }
-        ensures error { IfErr result (λ error. (error ≡ Device) ⊎ (error ≡ NoSpace)) };
+        ensures error { IfErr result IsOfAppend };
 }
 
 /// Moves the block at an address, data or a node's, where the file still names it there as its summary says: see
@@ -48,7 +48,7 @@ pub trait Files<V: VolumeName> {
 pub fn migrate<V: VolumeName, B: Block + Drop, R: Wait>(
     rt: &R,
     area: &MainArea<V, B>,
-    hand: &mut Permit,
+    hand: &mut CallAccount,
     file: &mut FileState<B>,
     address: u32,
     owner: Owner,
@@ -69,7 +69,7 @@ pub fn migrate<V: VolumeName, B: Block + Drop, R: Wait>(
     ensures moved { IfOk result (λ fate. fate ≡ Moved → HasMoved address owner file.old file.new) }
     ensures gone { IfOk result (λ fate. fate ≡ Gone → IsGone address owner file.old × KeepsWeights file.old file.new × (hand.new ≡ hand.old)) }
     ensures err { OnErr result ((file.new ≡ file.old) × (hand.new ≡ hand.old)) }
-    ensures error { IfErr result (λ error. (error ≡ Device) ⊎ (error ≡ NoSpace)) }
+    ensures error { IfErr result IsOfAppend }
 {
     match owner {
         Owner::Data(nid, slot) => {

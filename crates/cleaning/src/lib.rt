@@ -14,7 +14,7 @@ mod section;
 mod survey;
 
 pub use block::{DataBlock, migrate_block};
-pub use fate::{Counts, Fate};
+pub use fate::{Fate, MovedBlocks};
 pub use keeper::{Files, migrate};
 pub use node::migrate_node;
 pub use policy::{Policy, choose};

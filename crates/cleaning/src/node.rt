@@ -1,6 +1,6 @@
 //! A node's block is moved.
 ghost use Rattle.std.specs.Prelude.{◌≡◌, ◌≢◌, ◌<◌, ◌⊎◌, length, OnOk, OnErr, IfOk, IfErr};
-ghost use Rattle.geometry.specs.declared.error.Error.TheVariants.{NoSpace, Device};
+ghost use Rattle.geometry.specs.Refusals.{IsOfAppend};
 ghost use Rattle.geometry.specs.declared.owner.Owner.TheVariants.{Node};
 ghost use Rattle.geometry.specs.Shape.{block_bytes};
 ghost use Rattle.rights_books.specs.Lists.{times};
@@ -16,7 +16,7 @@ use device::Block;
 use geometry::{Class, Error, Kind, Mark, Owner};
 use nodes::FileState;
 use nodes_walks::{NodeVisitor, visit_node};
-use rights_books::Permit;
+use rights_books::CallAccount;
 use rights_permits::VolumeName;
 use std::sync::Wait;
 use tickets::NidToken;
@@ -31,7 +31,7 @@ use tickets::NidToken;
 pub fn migrate_node<V: VolumeName, B: Block + Drop, R: Wait>(
     rt: &R,
     area: &MainArea<V, B>,
-    hand: &mut Permit,
+    hand: &mut CallAccount,
     file: &mut FileState<B>,
     address: u32,
     nid: u32,
@@ -43,7 +43,7 @@ pub fn migrate_node<V: VolumeName, B: Block + Drop, R: Wait>(
     ensures moved { IfOk result (λ fate. fate ≡ Moved → HasMoved address (Node nid) file.old file.new) }
     ensures gone { IfOk result (λ fate. fate ≡ Gone → IsGone address (Node nid) file.old × KeepsWeights file.old file.new × (hand.new ≡ hand.old)) }
     ensures err { OnErr result ((file.new ≡ file.old) × (hand.new ≡ hand.old)) }
-    ensures error { IfErr result (λ error. (error ≡ Device) ⊎ (error ≡ NoSpace)) }
+    ensures error { IfErr result IsOfAppend }
 {
     let mut mover = NodeMover {
         rt,
@@ -67,7 +67,7 @@ pub fn migrate_node<V: VolumeName, B: Block + Drop, R: Wait>(
 struct NodeMover<'a, V: VolumeName, B: Block + Drop, R> {
     rt: &'a R,
     area: &'a MainArea<V, B>,
-    hand: &'a mut Permit,
+    hand: &'a mut CallAccount,
     nid: u32,
     address: u32,
     kind: Kind,
@@ -87,7 +87,7 @@ impl<V: VolumeName, B: Block + Drop, R: Wait> NodeVisitor for NodeMover<'_, V, B
         × (((n.fate ≡ Gone) × (old.address ≢ m.address) × (new ≡ old) × (n.hand.now ≡ m.hand.now))
         ⊎ ((n.fate ≡ Moved) × MovesToken m.address old new m.hand.now n.hand.now)) };
 
-    ghost refused = { λ m old e n. (n.hand.ghost_name ≡ m.hand.ghost_name) × (n.hand.now ≡ m.hand.now) × ((e ≡ Device) ⊎ (e ≡ NoSpace)) };
+    ghost refused = { λ m old e n. (n.hand.ghost_name ≡ m.hand.ghost_name) × (n.hand.now ≡ m.hand.now) × IsOfAppend e };
 
     fn visit(&mut self, class: Class, token: &mut NidToken) -> Result<(), Error> {
         if token.address() != self.address {
@@ -110,7 +110,7 @@ impl<V: VolumeName, B: Block + Drop, R: Wait> NodeVisitor for NodeMover<'_, V, B
 fn move_node<V: VolumeName, B: Block + Drop, R: Wait>(
     rt: &R,
     area: &MainArea<V, B>,
-    hand: &mut Permit,
+    hand: &mut CallAccount,
     token: &mut NidToken,
     log: Log,
     now: u64,
@@ -125,7 +125,7 @@ fn move_node<V: VolumeName, B: Block + Drop, R: Wait>(
     ensures moved { OnOk result (MovesToken token.old.address token.old token.new hand.old hand.new) }
     ensures number { token.new.number ≡ token.old.number }
     ensures err { OnErr result ((token.new ≡ token.old) × (hand.new ≡ hand.old)) }
-    ensures error { IfErr result (λ error. (error ≡ Device) ⊎ (error ≡ NoSpace)) }
+    ensures error { IfErr result IsOfAppend }
 {
     area.read_node(rt, hand, token, bytes)?;
     let mark = Mark {

@@ -1,6 +1,6 @@
 //! A block that cleaning moves gets a new place.
-ghost use Rattle.std.specs.Prelude.{◌≡◌, ◌≢◌, ◌⊎◌, length, OnErr, IfOk, IfErr};
-ghost use Rattle.geometry.specs.declared.error.Error.TheVariants.{NoSpace, Device};
+ghost use Rattle.std.specs.Prelude.{◌≡◌, ◌≢◌, length, OnErr, IfOk, IfErr};
+ghost use Rattle.geometry.specs.Refusals.{IsOfAppend};
 ghost use Rattle.geometry.specs.Owner.{IsOwner};
 ghost use Rattle.geometry.specs.Shape.{block_bytes};
 ghost use Rattle.area.specs.Hand.{HasAppended};
@@ -8,7 +8,7 @@ ghost use Rattle.area.specs.Hand.{HasAppended};
 use area::{Log, MainArea, Who};
 use device::Block;
 use geometry::{Error, Mark};
-use rights_books::Permit;
+use rights_books::CallAccount;
 use rights_permits::VolumeName;
 use std::sync::Wait;
 use tickets::Ticket;
@@ -17,7 +17,7 @@ use tickets::Ticket;
 pub(crate) fn append_elsewhere<V: VolumeName, B: Block + Drop, R: Wait>(
     rt: &R,
     area: &MainArea<V, B>,
-    hand: &mut Permit,
+    hand: &mut CallAccount,
     log: Log,
     mark: Mark,
     now: u64,
@@ -29,7 +29,7 @@ pub(crate) fn append_elsewhere<V: VolumeName, B: Block + Drop, R: Wait>(
     ensures appended { IfOk result (λ ticket. HasAppended V.Numbers.geometry mark.owner bytes.now hand.old hand.new ticket) }
     ensures elsewhere { IfOk result (λ ticket. ticket.mark.address ≢ mark.address) }
     ensures err { OnErr result (hand.new ≡ hand.old) }
-    ensures error { IfErr result (λ error. (error ≡ Device) ⊎ (error ≡ NoSpace)) }
+    ensures error { IfErr result IsOfAppend }
 {
     let who = Who::Cleaning(mark.address);
     let ticket = area.append(rt, hand, log, mark.owner, now, bytes, who)?;

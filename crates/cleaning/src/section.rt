@@ -1,30 +1,31 @@
 //! A section is cleaned.
-ghost use Rattle.std.specs.Prelude.{◌≡◌, ◌+◌, ◌*◌, ◌<◌, ◌≤◌, ◌⊎◌, length, vec_len, MatchOption, IfOk, IfErr};
+ghost use Rattle.std.specs.Prelude.{◌≡◌, ◌+◌, ◌*◌, ◌<◌, ◌≤◌, length, vec_len, MatchOption, IfOk, IfErr};
+ghost use Rattle.geometry.specs.Refusals.{IsOfAppend, IsOfMove, IsOfRead};
 ghost use Rattle.geometry.specs.declared.error.Error.TheVariants.{NoMemory, NoSpace, Device};
-ghost use Rattle.area.specs.declared.threading.Threading.TheVariants.{WhileReserveIsFull};
+ghost use Rattle.area.specs.declared.hole_reuse.HoleReuse.TheVariants.{WhileReserveIsFull};
 ghost use Rattle.geometry.specs.Shape.{block_bytes, segment_blocks};
 ghost use Rattle.rights_permits.specs.Turns.{at_home};
 ghost use Rattle.cleaning.specs.Cleaning.{IsCleaned, section_count, section_blocks};
 
-use crate::fate::{Counts, Fate};
+use crate::fate::{Fate, MovedBlocks};
 use crate::keeper::Files;
 use crate::policy::{Policy, choose};
 use crate::survey::Survey;
-use area::{MainArea, Threading};
+use area::{HoleReuse, MainArea};
 use device::Block;
 use geometry::{Error, Mark, Owner};
-use rights_books::Permit;
+use rights_books::CallAccount;
 use rights_permits::VolumeName;
 use std::alloc::Global;
 use std::sync::Wait;
-use victim::Row;
+use victim::Candidate;
 
 /// What a clean did: the section that it chose, the rows of which it chose, and how many blocks of the section it moved and
 /// how many were gone.
 #[derive(Drop)]
 pub struct Cleaned {
     pub section: Option<u32>,
-    pub rows: Vec<Row>,
+    pub rows: Vec<Candidate>,
     pub moved: u32,
     pub gone: u32,
 }
@@ -40,7 +41,7 @@ pub fn clean<V: VolumeName, B: Block + Drop, F: Files<V>, R: Wait>(
     alloc: Global,
     area: &MainArea<V, B>,
     files: &F,
-    hand: &mut Permit,
+    hand: &mut CallAccount,
     policy: Policy,
     now: u64,
 ) -> Result<Cleaned, Error>
@@ -48,8 +49,8 @@ pub fn clean<V: VolumeName, B: Block + Drop, F: Files<V>, R: Wait>(
     ensures cleaned { IfOk result (λ c. IsCleaned V.Numbers.geometry policy now c.rows.items c.section c.moved c.gone) }
     ensures hand { hand.new ≡ hand.old }
     // By the careful rule it ends early where the next checkpoint could lack places, and is not refused for want of them.
-    ensures goes_on { area.now.threading ≡ WhileReserveIsFull → IfErr result (λ error. (error ≡ NoMemory) ⊎ (error ≡ Device)) }
-    ensures error { IfErr result (λ error. (error ≡ NoMemory) ⊎ ((error ≡ Device) ⊎ (error ≡ NoSpace))) }
+    ensures goes_on { area.now.hole_reuse ≡ WhileReserveIsFull → IfErr result IsOfRead }
+    ensures error { IfErr result IsOfMove }
 {
     let survey = Survey::take(rt, alloc, area)?;
     let mut bytes = new_buffer(alloc, area.geometry().shape.block_bytes() as usize)?;
@@ -59,7 +60,7 @@ pub fn clean<V: VolumeName, B: Block + Drop, F: Files<V>, R: Wait>(
             let sealed = &survey.sealed;
             clean_section(rt, area, files, hand, number, sealed, now, &mut bytes)?
         }
-        None => Counts::NONE,
+        None => MovedBlocks::NONE,
     };
     Ok(Cleaned {
         section,
@@ -86,24 +87,24 @@ fn clean_section<V: VolumeName, B: Block + Drop, F: Files<V>, R: Wait>(
     rt: &R,
     area: &MainArea<V, B>,
     files: &F,
-    hand: &mut Permit,
+    hand: &mut CallAccount,
     section: u32,
     sealed: &[bool],
     now: u64,
     bytes: &mut [u8],
-) -> Result<Counts, Error>
+) -> Result<MovedBlocks, Error>
     requires home { hand.old ≡ at_home V.Books.books.book }
     requires section { section < section_count V.Numbers.geometry }
     requires flags { length sealed.now ≡ V.Numbers.geometry.segments }
     requires bytes { length bytes.old ≡ block_bytes V.Numbers.geometry.shape }
     ensures within { IfOk result (λ counts. counts.moved + counts.gone ≤ section_blocks V.Numbers.geometry) }
     ensures hand { hand.new ≡ hand.old }
-    ensures goes_on { area.now.threading ≡ WhileReserveIsFull → IfErr result (λ error. error ≡ Device) }
-    ensures error { IfErr result (λ error. (error ≡ Device) ⊎ (error ≡ NoSpace)) }
+    ensures goes_on { area.now.hole_reuse ≡ WhileReserveIsFull → IfErr result (λ error. error ≡ Device) }
+    ensures error { IfErr result IsOfAppend }
 {
     let geometry = area.geometry();
     let first = section * geometry.per_section;
-    let mut counts = Counts::NONE;
+    let mut counts = MovedBlocks::NONE;
     for place in 0..geometry.per_section {
         let number = first + place;
         if sealed[number as usize] {
@@ -119,21 +120,21 @@ fn clean_segment<V: VolumeName, B: Block + Drop, F: Files<V>, R: Wait>(
     rt: &R,
     area: &MainArea<V, B>,
     files: &F,
-    hand: &mut Permit,
+    hand: &mut CallAccount,
     number: u32,
     now: u64,
     bytes: &mut [u8],
-) -> Result<Counts, Error>
+) -> Result<MovedBlocks, Error>
     requires home { hand.old ≡ at_home V.Books.books.book }
     requires segment { number < V.Numbers.geometry.segments }
     requires bytes { length bytes.old ≡ block_bytes V.Numbers.geometry.shape }
     ensures within { IfOk result (λ counts. counts.moved + counts.gone ≤ segment_blocks V.Numbers.geometry.shape) }
     ensures hand { hand.new ≡ hand.old }
-    ensures goes_on { area.now.threading ≡ WhileReserveIsFull → IfErr result (λ error. error ≡ Device) }
-    ensures error { IfErr result (λ error. (error ≡ Device) ⊎ (error ≡ NoSpace)) }
+    ensures goes_on { area.now.hole_reuse ≡ WhileReserveIsFull → IfErr result (λ error. error ≡ Device) }
+    ensures error { IfErr result IsOfAppend }
 {
     let geometry = area.geometry();
-    let mut counts = Counts::NONE;
+    let mut counts = MovedBlocks::NONE;
     let mut from = 0;
     'offsets: while let Some((offset, owner)) = next_block(rt, area, number, from) {
         let mark = Mark {
@@ -142,7 +143,7 @@ fn clean_segment<V: VolumeName, B: Block + Drop, F: Files<V>, R: Wait>(
         };
         match move_named(rt, area, files, hand, mark, now, bytes) {
             Ok(fate) => counts = counts.with(fate),
-            Err(Error::NoSpace) if area.threading() == Threading::WhileReserveIsFull => break,
+            Err(Error::NoSpace) if area.hole_reuse() == HoleReuse::WhileReserveIsFull => break,
             Err(error) => return Err(error),
         }
         from = offset + 1;
@@ -171,7 +172,7 @@ fn move_named<V: VolumeName, B: Block + Drop, F: Files<V>, R: Wait>(
     rt: &R,
     area: &MainArea<V, B>,
     files: &F,
-    hand: &mut Permit,
+    hand: &mut CallAccount,
     mark: Mark,
     now: u64,
     bytes: &mut [u8],
@@ -180,7 +181,7 @@ fn move_named<V: VolumeName, B: Block + Drop, F: Files<V>, R: Wait>(
     requires address { 0 < mark.address }
     requires bytes { length bytes.old ≡ block_bytes V.Numbers.geometry.shape }
     ensures hand { hand.new ≡ hand.old }
-    ensures error { IfErr result (λ error. (error ≡ Device) ⊎ (error ≡ NoSpace)) }
+    ensures error { IfErr result IsOfAppend }
 {
     let nid = match mark.owner {
         Owner::Node(nid) => nid,

@@ -11,12 +11,12 @@ use rights_permits::VolumeName;
 use sit::SegmentRow;
 use std::alloc::Global;
 use std::sync::Wait;
-use victim::Row;
+use victim::Candidate;
 
 /// The rows of all sections, and which segments were sealed when these were taken.
 #[derive(Drop)]
 pub struct Survey {
-    pub rows: Vec<Row>,
+    pub rows: Vec<Candidate>,
     pub sealed: Vec<bool>,
 }
 
@@ -62,7 +62,7 @@ fn row_of<V: VolumeName, B: Block + Drop, R: Wait>(
     area: &MainArea<V, B>,
     section: u32,
     sealed: &mut Vec<bool>,
-) -> Row
+) -> Candidate
     requires section { section < section_count V.Numbers.geometry }
     requires flags { vec_len sealed.old ≡ V.Numbers.geometry.segments }
     ensures row { IsRowOf V.Numbers.geometry section result }
@@ -85,7 +85,7 @@ fn row_of<V: VolumeName, B: Block + Drop, R: Wait>(
         all = all && !is_threaded && (is_sealed || segment.state == State::Free);
     }
     let size = geometry.per_section * geometry.shape.segment_blocks();
-    Row {
+    Candidate {
         section,
         valid,
         size,

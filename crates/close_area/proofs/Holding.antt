@@ -4,7 +4,7 @@ use Rattle.std.proofs.Common.{◌≡◌, ◌≢◌, ℕ, ◌+◌, ◌<◌, ◌==
 use Rattle.std.proofs.lemmas.Bool.{cases_eq}
 use Rattle.atomic_table.specs.Seated.{TableId}
 use Rattle.geometry.specs.Weights.{weigh}
-use Rattle.rights_books.specs.declared.claim.Entry.{Entry}
+use Rattle.rights_books.specs.declared.claim.TakenNumber.{TakenNumber}
 use Rattle.rights_books.specs.Lists.{times, without}
 use Rattle.rights_books.specs.Sameness.{same_entry}
 use Rattle.rights_books.specs.Weights.{mark_of}
@@ -24,11 +24,11 @@ use Rattle.nodes_law.specs.Contents.{InHand}
 use Rattle.rights_permits.specs.Turns.{at_home}
 use Rattle.close_area.specs.HeldTokens.{HoldTokens}
 
-one : Entry → Entry → ℕ
+one : TakenNumber → TakenNumber → ℕ
 one e y = if same_entry e y then 1 else 0
 
 -- it is this entry, or it is among the others
-found_in : (e k : Entry) (n : ℕ) (P : Type 0) → 0 < (if same_entry e k then 1 else 0) + n → (e ≡ k → P) → (0 < n → P) → P
+found_in : (e k : TakenNumber) (n : ℕ) (P : Type 0) → 0 < (if same_entry e k then 1 else 0) + n → (e ≡ k → P) → (0 < n → P) → P
 found_in e k n P some here there = go (same_entry e k) refl some
   where
     go : (b : Bool) → same_entry e k ≡ b → 0 < (if b then 1 else 0) + n → P
@@ -37,11 +37,11 @@ found_in e k n P some here there = go (same_entry e k) refl some
 
 module _ (bytes : ℕ → List ℕ) where
   -- a token went, whose block came home
-  pub hold_less : (k : Entry) (ks : List Entry) → 0 < times same_entry k ks → (0 < k.address → bytes k.address ≡ k.bytes) → HoldTokens bytes (without same_entry k ks) → HoldTokens bytes ks
+  pub hold_less : (k : TakenNumber) (ks : List TakenNumber) → 0 < times same_entry k ks → (0 < k.address → bytes k.address ≡ k.bytes) → HoldTokens bytes (without same_entry k ks) → HoldTokens bytes ks
   hold_less k ks there here rest e found some =
       let less = without_entry (λ y. if same_entry e y then 1 else 0) k ks there in
       found_in e k (times same_entry e (without same_entry k ks)) (bytes e.address ≡ e.bytes) (omega arith)
-      (λ is. subst (λ (x : Entry). bytes x.address ≡ x.bytes) (sym is) (here (subst (λ (x : Entry). 0 < x.address) is some)))
+      (λ is. subst (λ (x : TakenNumber). bytes x.address ≡ x.bytes) (sym is) (here (subst (λ (x : TakenNumber). 0 < x.address) is some)))
       (λ other. rest e other some)
 
   -- the token of a file that names nothing is alone in hand
@@ -50,11 +50,11 @@ module _ (bytes : ℕ → List ℕ) where
       let all = held.tokens (λ y. if same_entry e y then 1 else 0) in
       let none = bare_weighs f bare (of_tokens (λ y. if same_entry e y then 1 else 0)) in
       found_in e f.token 0 (bytes e.address ≡ e.bytes) (omega arith)
-      (λ is. subst (λ (x : Entry). bytes x.address ≡ x.bytes) (sym is) (here (subst (λ (x : Entry). 0 < x.address) is some)))
+      (λ is. subst (λ (x : TakenNumber). bytes x.address ≡ x.bytes) (sym is) (here (subst (λ (x : TakenNumber). 0 < x.address) is some)))
       (λ other. absurd (omega arith))
 
   -- the block of a node that has one comes home with the bytes that its token shows
-  pub hold_node : (k : Entry) (t : Placed) → placed_of k ≡ Some t → bytes t.mark.address ≡ t.content → 0 < k.address → bytes k.address ≡ k.bytes
+  pub hold_node : (k : TakenNumber) (t : Placed) → placed_of k ≡ Some t → bytes t.mark.address ≡ t.content → 0 < k.address → bytes k.address ≡ k.bytes
   hold_node k t is here some = go (k.address == 0) is
     where
       address_in : Option Placed → ℕ
@@ -69,17 +69,17 @@ module _ (bytes : ℕ → List ℕ) where
       go true e = absurd (cc)
       go false e = ap bytes (ap address_in e) ∙ (here ∙ sym (ap content_in e))
 
-  pub hold_no_node : (k : Entry) → placed_of k ≡ None → 0 < k.address → bytes k.address ≡ k.bytes
+  pub hold_no_node : (k : TakenNumber) → placed_of k ≡ None → 0 < k.address → bytes k.address ≡ k.bytes
   hold_no_node k none some = go (k.address == 0) refl none
     where
       go : (b : Bool) → (k.address == 0) ≡ b → ◌≡◌ {A = Option Placed} (if b then None else Some (record { mark = mark_of k; content = k.bytes })) None → bytes k.address ≡ k.bytes
       go true is e = (let zero_is = eqb-true k.address 0 is in absurd (omega arith))
       go false is e = absurd (cc)
 
-  pub same_tokens : (now old : List Entry) → now ≡ old → HoldTokens bytes now → HoldTokens bytes old
+  pub same_tokens : (now old : List TakenNumber) → now ≡ old → HoldTokens bytes now → HoldTokens bytes old
   same_tokens now old is held = subst (HoldTokens bytes) is held
 
-  pub fewer_tokens : (y x : HandView) (k : Entry) → y ≡ record x { tokens = without same_entry k x.tokens } → HoldTokens bytes y.tokens → HoldTokens bytes (without same_entry k x.tokens)
+  pub fewer_tokens : (y x : HandView) (k : TakenNumber) → y ≡ record x { tokens = without same_entry k x.tokens } → HoldTokens bytes y.tokens → HoldTokens bytes (without same_entry k x.tokens)
   fewer_tokens y x k is held = subst (λ (h : HandView). HoldTokens bytes h.tokens) is held
 
   module _ {B L : Type 0} (old new : FileState B L) where

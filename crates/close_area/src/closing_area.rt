@@ -17,7 +17,7 @@ ghost use Rattle.close_area.specs.Shown.{AreShown};
 use crate::returning::{into_accounts, return_files};
 use crate::written::WrittenFile;
 use area::MainArea;
-use area_emptying::{OwnedArea, Spare};
+use area_emptying::{CloseRows, OwnedArea};
 use checkpoint_image::TakenImage;
 use device::Block;
 use file_cells::FilePass;
@@ -31,7 +31,7 @@ use std::sync::Wait;
 pub fn close_area<V: VolumeName, B: Block + Drop, R: Wait>(
     rt: &R,
     area: MainArea<V, B>,
-    spare: Spare<V, B>,
+    spare: CloseRows<V, B>,
     all: AllPermits<V::Books, V::Turns>,
     files: Vec<WrittenFile<V, B>>,
     accounts: Vec<FileAccount>,

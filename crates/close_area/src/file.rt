@@ -1,6 +1,6 @@
 //! A file's blocks and nodes come home.
 ghost use Rattle.std.specs.Prelude.{◌≡◌, ◌<◌, ℕ, List};
-ghost use Rattle.rights_books.specs.declared.claim.Entry.{Entry};
+ghost use Rattle.rights_books.specs.declared.claim.TakenNumber.{TakenNumber};
 ghost use Rattle.checkpoint.specs.Files.{HoldContents};
 ghost use Rattle.nodes.specs.File.{IsBare};
 ghost use Rattle.nodes.specs.Held.{no_others};
@@ -14,14 +14,14 @@ use crate::node::return_node;
 use area_emptying::OwnedArea;
 use device::Block;
 use nodes::{FileState, Spare};
-use rights_books::Permit;
+use rights_books::CallAccount;
 use rights_permits::VolumeName;
 
 /// Gives back a file with all that it has, its inode's number too: each of its blocks is at home then, with the bytes that the
 /// file's tickets and tokens show. It takes no memory, and is never refused.
 pub fn return_file<V: VolumeName, B: Block + Drop>(
     area: &mut OwnedArea<V, B>,
-    hand: &mut Permit,
+    hand: &mut CallAccount,
     file: FileState<B>,
 )
     requires book { hand.old.book ≡ V.Books.books.book }
@@ -41,7 +41,7 @@ pub fn return_file<V: VolumeName, B: Block + Drop>(
 // Gives back all that the file has but its inode.
 fn return_entries<V: VolumeName, B: Block + Drop>(
     area: &mut OwnedArea<V, B>,
-    hand: &mut Permit,
+    hand: &mut CallAccount,
     file: &mut FileState<B>,
 )
     requires book { hand.old.book ≡ V.Books.books.book }

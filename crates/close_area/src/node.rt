@@ -8,7 +8,7 @@ ghost use Rattle.area_emptying.specs.Home.{AreAtHome};
 
 use area_emptying::OwnedArea;
 use device::Block;
-use rights_books::Permit;
+use rights_books::CallAccount;
 use rights_permits::VolumeName;
 use tickets::NidToken;
 
@@ -16,7 +16,7 @@ use tickets::NidToken;
 /// the bytes that the token shows. It takes no memory, and is never refused.
 pub fn return_node<V: VolumeName, B: Block + Drop>(
     area: &mut OwnedArea<V, B>,
-    hand: &mut Permit,
+    hand: &mut CallAccount,
     token: NidToken,
 )
     requires book { hand.old.book ≡ V.Books.books.book }

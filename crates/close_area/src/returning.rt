@@ -14,14 +14,14 @@ use crate::written::WrittenFile;
 use area_emptying::OwnedArea;
 use device::Block;
 use file_cells::FilePass;
-use rights_books::{FileAccount, Permit};
+use rights_books::{CallAccount, FileAccount};
 use rights_permits::VolumeName;
 
 // Spends each pass, and gives back all that its file has. Where the files that live are no more than the passes, none lives
 // then.
 pub(crate) fn return_files<V: VolumeName, B: Block + Drop>(
     area: &mut OwnedArea<V, B>,
-    hand: &mut Permit,
+    hand: &mut CallAccount,
     files: &mut Vec<WrittenFile<V, B>>,
     mut passes: Vec<FilePass<V>>,
 )

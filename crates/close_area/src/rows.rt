@@ -1,6 +1,6 @@
 //! All files of a volume.
-ghost use Rattle.std.specs.Prelude.{◌≡◌, ◌≤◌, ◌⊎◌, [], vec_len, vec_capacity, IfOk, IfErr};
-ghost use Rattle.geometry.specs.declared.error.Error.TheVariants.{NoSpace, Device};
+ghost use Rattle.std.specs.Prelude.{◌≡◌, ◌≤◌, [], vec_len, vec_capacity, IfOk, IfErr};
+ghost use Rattle.geometry.specs.Refusals.{IsOfAppend};
 ghost use Rattle.rights_permits.specs.Turns.{at_home};
 ghost use Rattle.checkpoint_sync.specs.WrittenFiles.{AreWritten};
 
@@ -11,7 +11,7 @@ use device::Block;
 use file_cells::FileCell;
 use file_flush::FlushBuffer;
 use geometry::Error;
-use rights_books::Permit;
+use rights_books::CallAccount;
 use rights_permits::VolumeName;
 use std::sync::{Mutex, Wait};
 
@@ -24,7 +24,7 @@ use std::sync::{Mutex, Wait};
 pub fn own_files<V: VolumeName, B: Block + Drop, R: Wait>(
     rt: &R,
     area: &MainArea<V, B>,
-    hand: &mut Permit,
+    hand: &mut CallAccount,
     mut locks: Vec<Mutex<FileCell<V, B>>>,
     mut files: Vec<WrittenFile<V, B>>,
     buffer: &mut FlushBuffer,
@@ -42,7 +42,7 @@ pub fn own_files<V: VolumeName, B: Block + Drop, R: Wait>(
     ensures locks { IfOk result (λ owned. (vec_len owned.0 ≡ 0) × (V.Numbers.geometry.files ≤ vec_capacity owned.0)) }
     ensures back { IfErr result (λ refused. vec_len refused.0 ≡ V.Numbers.geometry.files) }
     ensures hand { hand.new ≡ hand.old }
-    ensures error { IfErr result (λ refused. (refused.1 ≡ Device) ⊎ (refused.1 ≡ NoSpace)) }
+    ensures error { IfErr result (λ refused. IsOfAppend refused.1) }
 {
     locks.reverse();
     'files: while let Some(lock) = locks.pop() {

@@ -1,6 +1,6 @@
 //! A file whose nodes are all written.
-ghost use Rattle.std.specs.Prelude.{◌≡◌, ◌⊎◌, Some, None, is_some, IfOk, IfErr};
-ghost use Rattle.geometry.specs.declared.error.Error.TheVariants.{NoSpace, Device};
+ghost use Rattle.std.specs.Prelude.{◌≡◌, Some, None, is_some, IfOk, IfErr};
+ghost use Rattle.geometry.specs.Refusals.{IsOfAppend};
 ghost use Rattle.nodes.specs.File.{file_of};
 ghost use Rattle.rights_permits.specs.Turns.{at_home};
 ghost use Rattle.file_cells.specs.Cell.{IsLodged};
@@ -14,7 +14,7 @@ use file_cells::{FileCell, FilePass};
 use file_flush::FlushBuffer;
 use geometry::Error;
 use nodes::FileState;
-use rights_books::{Audit, Books, Permit};
+use rights_books::{Audit, Books, CallAccount};
 use rights_permits::VolumeName;
 use std::marker::Model;
 use std::sync::Wait;
@@ -44,7 +44,7 @@ impl<V: VolumeName, B: Block + Drop> WrittenFile<V, B> {
     pub fn flush<R: Wait>(
         rt: &R,
         area: &MainArea<V, B>,
-        hand: &mut Permit,
+        hand: &mut CallAccount,
         cell: FileCell<V, B>,
         now: u64,
         buffer: &mut FlushBuffer,
@@ -56,7 +56,7 @@ impl<V: VolumeName, B: Block + Drop> WrittenFile<V, B> {
         ensures written { IfOk result (IsWrittenCell V.Books.books.book V.Numbers.geometry) }
         ensures hand { hand.new ≡ hand.old }
         ensures buffer { buffer.new.shape ≡ buffer.old.shape }
-        ensures error { IfErr result (λ refused. (refused.1 ≡ Device) ⊎ (refused.1 ≡ NoSpace)) }
+        ensures error { IfErr result (λ refused. IsOfAppend refused.1) }
     {
         let mut cell = cell;
         match flush_cell(rt, area, hand, &mut cell, now, buffer) {
@@ -80,7 +80,7 @@ impl<V: VolumeName, B: Block + Drop> WrittenFile<V, B> {
     }
 
     /// Spends the pass, and takes the file, which is what the pass showed: its tickets and tokens are in hand.
-    pub fn take(&mut self, books: &Books, hand: &mut Permit, pass: FilePass<V>) -> FileState<B>
+    pub fn take(&mut self, books: &Books, hand: &mut CallAccount, pass: FilePass<V>) -> FileState<B>
         requires books { books.now ≡ V.Books.books }
         requires hand { hand.old ≡ at_home V.Books.books.book }
         requires number { self.old.number ≡ pass.number }

@@ -1,7 +1,7 @@
 // Bytes that no clause names, and bytes that were spelled by hand.
 use device::{Block, Faulty, Fuse, MemBlock, MemDevice, MemMeta, Parts};
 use geometry::{Geometry, Shape};
-use named_folder::{Entry, decode, encode};
+use named_folder::{FolderRow, decode, encode};
 use std::process::Abort;
 use std::sync::Arc;
 use std::test::Fail;
@@ -48,7 +48,7 @@ fn a_folder_is_spelled_and_read_back(rt: HostRuntime) -> Result<(), Fail> {
     let alloc = rt.alloc();
     let mut entries = Vec::new(alloc);
     for (number, name) in [(2, "a"), (u32::MAX, "ü\n")] {
-        entries.push(Entry {
+        entries.push(FolderRow {
             name: String::from_str(alloc, name)?,
             number,
             bytes: u64::MAX - 1,

@@ -5,8 +5,8 @@ use atomic_table::{Seat, Shared, Split, Table, TableRule};
 use device::MemBlock;
 use nat::NodeTable;
 use rights_books::{
-    Audit, Books, Fact, FileAccount, KeptAccount, Layout, Opened, PartAccount, PassAccount, Permit,
-    SegmentAccount, ShardAccount, Shown, Token, agree_apart,
+    Audit, Books, CallAccount, DealtBooks, Fact, FileAccount, KeptAccount, Layout, NumberClaim,
+    PartAccount, PassAccount, RestingSeat, SegmentAccount, ShardAccount, agree_apart,
 };
 use std::alloc::Global;
 use std::mem::size_of;
@@ -20,11 +20,11 @@ fn accounts_take_one_word(rt: HostRuntime) {
     assert!(rt; size_of::<FileAccount>() == 8);
     assert!(rt; size_of::<ShardAccount>() == 8);
     assert!(rt; size_of::<PassAccount>() == 8);
-    assert!(rt; size_of::<Permit>() == 8);
+    assert!(rt; size_of::<CallAccount>() == 8);
     assert!(rt; size_of::<Audit>() == 8);
     assert!(rt; size_of::<PartAccount>() == 8);
     assert!(rt; size_of::<KeptAccount>() == 8);
-    assert!(rt; size_of::<Token>() == 12);
+    assert!(rt; size_of::<NumberClaim>() == 12);
 }
 
 const LAYOUT: Layout = Layout {
@@ -37,7 +37,7 @@ const LAYOUT: Layout = Layout {
 #[test]
 #[tactic(auto, using(nat::proofs::Handed::entry_first))]
 fn a_number_is_taken_and_given_back(rt: HostRuntime) -> Result<(), Fail> {
-    let Opened {
+    let DealtBooks {
         books,
         permits,
         segments: _,
@@ -103,8 +103,8 @@ fn split(table: &Shared<(), u64, u64, Alike>, seat: &mut Seat<(), u64>) -> Seat<
 fn two_seats_agree(rt: HostRuntime) -> Result<(), Fail> {
     let (table, mut seat) = Table::<(), u64, u64, Alike, Global>::of_words(rt.alloc(), &[0], &7)?;
     let second = split(&table.shared, &mut seat);
-    let mut one = Shown::of_seat(seat);
-    let other = Shown::of_seat(second);
+    let mut one = RestingSeat::of_seat(seat);
+    let other = RestingSeat::of_seat(second);
     agree_apart::<(), u64, u64, Alike, SameView>(&table.shared, &mut one, &other);
     Ok(())
 }

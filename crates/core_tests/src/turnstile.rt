@@ -4,8 +4,8 @@ ghost use Rattle.std.specs.Prelude.{◌≡◌, ◌/◌};
 ghost use Rattle.rights_permits.specs.Turns.{all_permits};
 
 use geometry::{Error, Mark, Owner};
-use rights_books::{Books, Layout, Permit, Permits, SegmentAccount};
-use rights_permits::{BooksName, Named, OpenedTurnstile, TurnName, Turnstile, VolumeName};
+use rights_books::{Books, CallAccount, Layout, Permits, SegmentAccount};
+use rights_permits::{BooksName, OpenedTurnstile, PickedNames, TurnName, Turnstile, VolumeName};
 use std::alloc::Global;
 use std::marker::{Brand, PhantomData};
 use std::sync::atomic::{AtomicU32, Ordering};
@@ -54,7 +54,7 @@ struct First<B: BooksName> {
 
 impl<B: BooksName> First<B> {
     // Marks its first block and clears it again. Nothing stays in hand.
-    fn mark_and_clear(&mut self, books: &Books, hand: &mut Permit)
+    fn mark_and_clear(&mut self, books: &Books, hand: &mut CallAccount)
         requires books { books.now ≡ B.books }
         requires hand { hand.old.book ≡ B.books.book }
         ensures hand { hand.new ≡ hand.old }
@@ -215,7 +215,7 @@ fn with_turnstile<B: BooksName + Send + Sync, J: TurnName + Send + Sync, R: Thre
         alloc,
         callers.len(),
         &|i| match callers.get(i) {
-            Some(caller) => work::<Named<B, Brand, Brand, J, Brand>, R>(
+            Some(caller) => work::<PickedNames<B, Brand, Brand, J, Brand>, R>(
                 rt, &turnstile, &hall, *caller, meet,
             ),
             None => 1,

@@ -3,7 +3,7 @@ ghost use Rattle.std.specs.Prelude.{◌≡◌, ◌+◌, ◌-◌, ◌^◌, min, �
 
 mod tally;
 
-use tally::Tally;
+use tally::FailureTally;
 
 /// How often a device has failed. It takes no memory but a number's.
 ///
@@ -11,7 +11,7 @@ use tally::Tally;
 #[derive(Drop)]
 pub struct Failures {
     told: u64,
-    pub total: Tally,
+    pub total: FailureTally,
     ghost told_is: { told ≡ min total.count (2 ^ 64 - 1) },
 }
 
@@ -22,7 +22,7 @@ impl Failures {
     {
         Failures {
             told: 0,
-            total: Tally::zero(),
+            total: FailureTally::zero(),
         }
     }
 
@@ -31,7 +31,7 @@ impl Failures {
         ensures { self.new.total.count ≡ self.old.total.count + 1 }
     {
         let told = self.told.saturating_add(1);
-        let total = Tally::next(&self.total);
+        let total = FailureTally::next(&self.total);
         *self = Failures { told, total };
     }
 

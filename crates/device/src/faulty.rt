@@ -9,7 +9,7 @@ use std::thread;
 
 /// What a fuse does to a call.
 #[derive(Clone, Copy, Debug, PartialEq, Eq)]
-pub enum Fault {
+pub enum FuseAction {
     /// The call is not done, and fails.
     Before,
     /// The call is done, and fails.
@@ -36,7 +36,11 @@ impl Fuse {
     /// With 0 none fails. Those that were armed before count on; where two come to the same call, the one that was armed first
     /// decides. The only error is want of memory.
     pub fn arm(&self, nth: u32, late: bool) -> Result<(), AllocError> {
-        let fault = if late { Fault::After } else { Fault::Before };
+        let fault = if late {
+            FuseAction::After
+        } else {
+            FuseAction::Before
+        };
         match self.hold() {
             Some(mut waiting) if nth > 0 => waiting.arm(u64::from(nth), fault),
             _ => Ok(()),
@@ -44,7 +48,7 @@ impl Fuse {
     }
 
     /// Counts one call, and says whether it is to fail.
-    pub fn burn(&self) -> Option<Fault> {
+    pub fn burn(&self) -> Option<FuseAction> {
         match self.hold() {
             Some(mut waiting) => waiting.next(),
             None => None,
@@ -121,11 +125,11 @@ impl<M: Meta> Meta for Faulty<M> {
     fn write(&mut self, at: u64, bytes: &[u8]) -> Result<(), DeviceError> {
         match self.fuse.burn() {
             None => self.inner.write(at, bytes),
-            Some(Fault::Before) => {
+            Some(FuseAction::Before) => {
                 self.failures.count();
                 Err(DeviceError)
             }
-            Some(Fault::After) => {
+            Some(FuseAction::After) => {
                 let _done = self.inner.write(at, bytes);
                 self.failures.count();
                 Err(DeviceError)
@@ -136,11 +140,11 @@ impl<M: Meta> Meta for Faulty<M> {
     fn sync(&mut self) -> Result<(), DeviceError> {
         match self.fuse.burn() {
             None => self.inner.sync(),
-            Some(Fault::Before) => {
+            Some(FuseAction::Before) => {
                 self.failures.count();
                 Err(DeviceError)
             }
-            Some(Fault::After) => {
+            Some(FuseAction::After) => {
                 let _done = self.inner.sync();
                 self.failures.count();
                 Err(DeviceError)
@@ -173,11 +177,11 @@ impl<B: Block> Block for Faulty<B> {
     fn write(&mut self, bytes: &[u8]) -> Result<(), DeviceError> {
         match self.fuse.burn() {
             None => self.inner.write(bytes),
-            Some(Fault::Before) => {
+            Some(FuseAction::Before) => {
                 self.failures.count();
                 Err(DeviceError)
             }
-            Some(Fault::After) => {
+            Some(FuseAction::After) => {
                 let _done = self.inner.write(bytes);
                 self.failures.count();
                 Err(DeviceError)

@@ -15,7 +15,7 @@ mod waiting;
 
 pub use block::{Block, DeviceError};
 pub use failures::Failures;
-pub use faulty::{Fault, Faulty, Fuse};
+pub use faulty::{Faulty, Fuse, FuseAction};
 pub use memory::{MemBlock, MemDevice, MemLease, MemMeta};
 pub use meta::Meta;
 pub use parts::Parts;

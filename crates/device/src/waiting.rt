@@ -4,7 +4,7 @@ ghost use Rattle.std.specs.BTreeMap.{IsEmpty, IsUnchanged, get};
 ghost use Rattle.std.specs.Option.{option_or};
 ghost use Rattle.std.specs.Ordering.{nat_cmp};
 
-use crate::faulty::Fault;
+use crate::faulty::FuseAction;
 use std::alloc::{AllocError, Global};
 use std::collections::BTreeMap;
 
@@ -12,7 +12,7 @@ use std::collections::BTreeMap;
 #[derive(Drop)]
 pub struct Waiting {
     calls: u64,
-    due: BTreeMap<u64, Fault>,
+    due: BTreeMap<u64, FuseAction>,
 }
 
 impl Waiting {
@@ -30,7 +30,7 @@ impl Waiting {
     /// Lets the n-th call from now on fail. Where a failure waits for it already, that one stays. The only error is want of memory.
     ///
     /// It costs no more than the logarithm of how many wait.
-    pub fn arm(&mut self, nth: u64, fault: Fault) -> Result<(), AllocError>
+    pub fn arm(&mut self, nth: u64, fault: FuseAction) -> Result<(), AllocError>
         ensures calls { self.new.calls ≡ self.old.calls }
         ensures armed { OnOk result (get nat_cmp self.new.due (min (self.old.calls + nth) (2 ^ 64 - 1))
             ≡ option_or (get nat_cmp self.old.due (min (self.old.calls + nth) (2 ^ 64 - 1))) (Some fault)) }
@@ -46,7 +46,7 @@ impl Waiting {
     }
 
     /// Counts one call, and says whether it is to fail. What waited for it waits no more.
-    pub fn next(&mut self) -> Option<Fault>
+    pub fn next(&mut self) -> Option<FuseAction>
         ensures calls { self.new.calls ≡ min (self.old.calls + 1) (2 ^ 64 - 1) }
         ensures due { result ≡ get nat_cmp self.old.due self.new.calls }
         ensures once { get nat_cmp self.new.due self.new.calls ≡ None }

@@ -1,6 +1,6 @@
 -- Where the blocks of a disk lie.
 use Rattle.std.specs.Prelude.{◌≡◌, ◌<◌, ◌+◌, ◌*◌, ◌↔◌, ◌/◌, ◌%◌, ◌^◌, ◌≤◌, ℕ, List, length, slice_index}
-use Rattle.disk_service.specs.declared.layout.Place.{Place}
+use Rattle.disk_service.specs.declared.layout.BlockPlace.{BlockPlace}
 use Rattle.disk_service.specs.declared.layout.Stripe.{Stripe}
 
 -- no number stands twice
@@ -16,7 +16,7 @@ pub record CanLie (numbers : List ℕ) (block_bytes blocks : ℕ) : Type 0 where
   pub fits : blocks * block_bytes < 2 ^ 64
 
 -- block b lies in the file of the number at b mod n, at the index b / n
-pub record IsPlaceOf (numbers : List ℕ) (block : ℕ) (place : Place) : Type 0 where
+pub record IsPlaceOf (numbers : List ℕ) (block : ℕ) (place : BlockPlace) : Type 0 where
   pub file : slice_index numbers (block % length numbers) ≡ place.number
   pub index : place.index ≡ block / length numbers
 

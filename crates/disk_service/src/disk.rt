@@ -4,13 +4,13 @@ ghost use Rattle.geometry.specs.declared.error.Error.TheVariants.{NoMemory};
 
 use crate::answers::Answers;
 use crate::counts::{Counters, Counts};
+use crate::jobs::JobQueue;
 use crate::layout::DiskLayout;
-use crate::orders::Orders;
 use crate::progress::Progress;
-use crate::reception::{Farewell, MOST_BYTES, take_requests};
+use crate::request_reader::{Farewell, MOST_BYTES, take_requests};
 use crate::room::Cleaner;
 use device::{Block, Meta};
-use flash_volume::{Service, Shelf, flush};
+use flash_volume::{PassTable, Service, flush};
 use geometry::Error;
 use nbd_words::Disk;
 use rights_permits::VolumeName;
@@ -34,7 +34,7 @@ pub struct DiskSettings {
 
 /// A disk on the files of a volume, served to one client that has been greeted: it reads requests from `I` and answers on `O`.
 ///
-/// Station 0 takes the requests, station 1 cleans and writes checkpoints in time, and each other station does requests. They all end once
+/// Thread 0 takes the requests, thread 1 cleans and writes checkpoints in time, and each other thread does requests. They all end once
 /// the client has left, its stream has ended or can't be understood, or an answer could not be sent: each request that was taken is done
 /// and answered before.
 #[derive(Drop)]
@@ -45,7 +45,7 @@ pub struct DiskService<C, I, O> {
     pub(crate) settings: DiskSettings,
     input: Mutex<I>,
     pub(crate) answers: Answers<O>,
-    pub(crate) orders: Orders,
+    pub(crate) jobs: JobQueue,
     pub(crate) cleaner: Cleaner,
     pub(crate) progress: Progress,
     pub(crate) counters: Counters,
@@ -64,7 +64,7 @@ impl<C: Clock + Drop, I: Read + Drop, O: Write + Drop> DiskService<C, I, O> {
     ) -> Result<DiskService<C, I, O>, Error>
         ensures error { IfErr result (λ error. error ≡ NoMemory) }
     {
-        let orders = Orders::new(alloc)?;
+        let jobs = JobQueue::new(alloc)?;
         Ok(DiskService {
             alloc,
             clock,
@@ -72,7 +72,7 @@ impl<C: Clock + Drop, I: Read + Drop, O: Write + Drop> DiskService<C, I, O> {
             settings,
             input: Mutex::new(input),
             answers: Answers::new(output),
-            orders,
+            jobs,
             cleaner: Cleaner::new(),
             progress: Progress::new(),
             counters: Counters::new(),
@@ -80,8 +80,8 @@ impl<C: Clock + Drop, I: Read + Drop, O: Write + Drop> DiskService<C, I, O> {
         })
     }
 
-    /// On how many stations it is to be served: the reception, the keeper, and the workers.
-    pub fn stations(&self) -> usize {
+    /// On how many threads it is to be served: the reader of requests, the background cleaner, and the workers.
+    pub fn threads(&self) -> usize {
         self.settings.workers.saturating_add(2)
     }
 
@@ -117,10 +117,10 @@ impl<C: Clock + Drop, I: Read + Drop, O: Write + Drop> DiskService<C, I, O> {
         &self,
         rt: &R,
         volume: &Volume<V, M, B>,
-        shelf: &Shelf<V>,
+        pass_table: &PassTable<V>,
     ) -> Result<(), Error> {
         let written = self.progress.written();
-        flush(rt, self.alloc, volume, shelf)?;
+        flush(rt, self.alloc, volume, pass_table)?;
         self.progress.keep(written);
         Ok(())
     }
@@ -128,30 +128,30 @@ impl<C: Clock + Drop, I: Read + Drop, O: Write + Drop> DiskService<C, I, O> {
     // Takes requests until there is a reason to end, and has the workers leave.
     fn receive<R: Wait>(&self, rt: &R) {
         let mut input = self.input.lock(rt);
-        let farewell = take_requests(rt, self.alloc, &mut *input, &self.orders, &self.answers);
+        let farewell = take_requests(rt, self.alloc, &mut *input, &self.jobs, &self.answers);
         *self.farewell.lock(rt) = Some(farewell);
-        self.orders.end(rt);
+        self.jobs.end(rt);
     }
 }
 
 impl<M: Meta, B: Block + Drop, C: Clock + Drop, I: Read + Drop, O: Write + Drop> Service<M, B>
     for DiskService<C, I, O> {
-    // The only error is BadGeometry, of each station, where the blocks of the volume are not as large as those of the disk.
+    // The only error is BadGeometry, of each thread, where the blocks of the volume are not as large as those of the disk.
     fn serve<V: VolumeName, R: Wait>(
         &self,
         rt: &R,
         _alloc: Global,
         volume: &Volume<V, M, B>,
-        shelf: &Shelf<V>,
-        station: usize,
+        pass_table: &PassTable<V>,
+        thread: usize,
     ) -> Result<(), Error> {
         if volume.geometry().shape.block_bytes() != self.layout.block_bytes() {
             return Err(Error::BadGeometry);
         }
-        match station {
+        match thread {
             0 => self.receive(rt),
-            1 => self.keep(rt, volume, shelf),
-            _ => self.work(rt, volume, shelf),
+            1 => self.keep(rt, volume, pass_table),
+            _ => self.work(rt, volume, pass_table),
         }
         Ok(())
     }

@@ -7,7 +7,7 @@ use crate::layout::{Stripe, first_index};
 use crate::writing::{Writing, write_zeros};
 use device::{Block, Meta};
 use file_cells::FilePass;
-use flash_volume::{Shelf, erase_in_room};
+use flash_volume::{PassTable, erase_in_room};
 use geometry::Error;
 use rights_permits::VolumeName;
 use std::alloc::Global;
@@ -17,12 +17,12 @@ use volume::Volume;
 /// Gives back each block of a disk that lies whole in an access: it reads as zeros then. What of the access lies in other blocks stays as
 /// it is.
 ///
-/// Answers NoFile where a file of the disk is not on the shelf, and what a checkpoint or an erasure of the volume answers. What was given
+/// Answers NoFile where a file of the disk is not in the pass table, and what a checkpoint or an erasure of the volume answers. What was given
 /// back before stays so.
 pub(crate) fn erase_blocks<V: VolumeName, M: Meta, B: Block + Drop, R: Wait>(
     rt: &R,
     volume: &Volume<V, M, B>,
-    shelf: &Shelf<V>,
+    pass_table: &PassTable<V>,
     writing: Writing<'_>,
     offset: u64,
     length: u32,
@@ -35,7 +35,7 @@ pub(crate) fn erase_blocks<V: VolumeName, M: Meta, B: Block + Drop, R: Wait>(
     }
     for stripe in 0..writing.layout.stripes() {
         let run = writing.layout.stripe(stripe, first, end);
-        erase_stripe(rt, volume, shelf, writing, run)?;
+        erase_stripe(rt, volume, pass_table, writing, run)?;
     }
     Ok(())
 }
@@ -46,7 +46,7 @@ pub(crate) fn zero_bytes<V: VolumeName, M: Meta, B: Block + Drop, R: Wait>(
     rt: &R,
     alloc: Global,
     volume: &Volume<V, M, B>,
-    shelf: &Shelf<V>,
+    pass_table: &PassTable<V>,
     writing: Writing<'_>,
     offset: u64,
     length: u32,
@@ -58,15 +58,23 @@ pub(crate) fn zero_bytes<V: VolumeName, M: Meta, B: Block + Drop, R: Wait>(
     let to = offset + u64::from(length);
     let Whole { first, end } = whole_blocks(offset, length, writing.layout.block_bytes());
     if first >= end {
-        return write_zeros(rt, alloc, volume, shelf, writing, offset, length as usize);
+        return write_zeros(
+            rt,
+            alloc,
+            volume,
+            pass_table,
+            writing,
+            offset,
+            length as usize,
+        );
     }
     let start = first * size;
     let stop = end * size;
     let front = (start - offset) as usize;
-    write_zeros(rt, alloc, volume, shelf, writing, offset, front)?;
-    erase_blocks(rt, volume, shelf, writing, offset, length)?;
+    write_zeros(rt, alloc, volume, pass_table, writing, offset, front)?;
+    erase_blocks(rt, volume, pass_table, writing, offset, length)?;
     let back = (to - stop) as usize;
-    write_zeros(rt, alloc, volume, shelf, writing, stop, back)
+    write_zeros(rt, alloc, volume, pass_table, writing, stop, back)
 }
 
 // The blocks of a disk from one up to another, which is not among them.
@@ -96,12 +104,12 @@ fn whole_blocks(offset: u64, length: u32, block_bytes: u32) -> Whole
 fn erase_stripe<V: VolumeName, M: Meta, B: Block + Drop, R: Wait>(
     rt: &R,
     volume: &Volume<V, M, B>,
-    shelf: &Shelf<V>,
+    pass_table: &PassTable<V>,
     writing: Writing<'_>,
     run: Stripe,
 ) -> Result<(), Error> {
     let _beside = writing.cleaner.beside_others(rt);
-    let Some(mut guard) = shelf.write(rt, run.number) else {
+    let Some(mut guard) = pass_table.write(rt, run.number) else {
         return Err(Error::NoFile);
     };
     let Some(pass) = &mut *guard else {

@@ -7,7 +7,7 @@ ghost use Rattle.disk_service.specs.declared.handshake.Next.TheVariants.{End, Op
 ghost use Rattle.nbd_words.specs.Export.{export_flags, old_export_bytes};
 ghost use Rattle.nbd_words.specs.declared.options.OptionKind.TheVariants.{ExportName, Go, Info as InfoOf};
 
-use crate::reception::{MOST_BYTES, skip};
+use crate::request_reader::{MOST_BYTES, skip};
 use nbd_words::{
     CLIENT_FLAGS_BYTES, ClientFlags, GREETING, OPTION_HEAD_BYTES, OptionHead, OptionKind,
     ReplyKind, info_block_size, info_export, parse_client_flags, parse_name, parse_option,

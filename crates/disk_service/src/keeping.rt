@@ -1,8 +1,8 @@
-//! The keeper: cleans where few segments are free, and writes a checkpoint of what none has for long.
+//! The background cleaner: cleans where few segments are free, and writes a checkpoint of what none has for long.
 use crate::disk::DiskService;
 use crate::room::Thresholds;
 use device::{Block, Meta};
-use flash_volume::{Ending, Shelf};
+use flash_volume::{Ending, PassTable};
 use rights_permits::VolumeName;
 use std::io::{Read, Write};
 use std::sync::Wait;
@@ -12,7 +12,7 @@ use volume::Volume;
 // The time between two looks.
 const PAUSE_MILLISECONDS: u64 = 10;
 
-/// What the keeper remembers from one look to the next.
+/// What the background cleaner remembers from one look to the next.
 #[derive(Drop)]
 struct Watch {
     /// It has begun to clean, and goes on until enough segments are free.
@@ -29,7 +29,7 @@ impl<C: Clock + Drop, I: Read + Drop, O: Write + Drop> DiskService<C, I, O> {
         &self,
         rt: &R,
         volume: &Volume<V, M, B>,
-        shelf: &Shelf<V>,
+        pass_table: &PassTable<V>,
     ) {
         let mut watch = Watch {
             cleans: false,
@@ -37,13 +37,13 @@ impl<C: Clock + Drop, I: Read + Drop, O: Write + Drop> DiskService<C, I, O> {
             waits: None,
         };
         for _ in rt.forever() {
-            if self.orders.are_over() {
+            if self.jobs.are_over() {
                 return;
             }
             self.clock.sleep(Duration::from_millis(PAUSE_MILLISECONDS));
             if !self.settings.read_only {
                 self.clean_in_time(rt, volume, &mut watch);
-                self.flush_in_time(rt, volume, shelf, &mut watch);
+                self.flush_in_time(rt, volume, pass_table, &mut watch);
             }
         }
     }
@@ -84,7 +84,7 @@ impl<C: Clock + Drop, I: Read + Drop, O: Write + Drop> DiskService<C, I, O> {
         &self,
         rt: &R,
         volume: &Volume<V, M, B>,
-        shelf: &Shelf<V>,
+        pass_table: &PassTable<V>,
         watch: &mut Watch,
     ) {
         let Some(seconds) = self.settings.flush_every else {
@@ -104,7 +104,7 @@ impl<C: Clock + Drop, I: Read + Drop, O: Write + Drop> DiskService<C, I, O> {
                 if waited < Duration::from_secs(u64::from(seconds)) {
                     return;
                 }
-                if self.flush(rt, volume, shelf).is_ok() {
+                if self.flush(rt, volume, pass_table).is_ok() {
                     self.counters.kept.add(1);
                 }
                 watch.waits = None;

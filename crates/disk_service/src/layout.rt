@@ -17,7 +17,7 @@ pub struct DiskLayout {
 
 /// Where a block of a disk lies: in the file of a number, at an index.
 #[derive(Clone, Copy, Debug, PartialEq, Eq)]
-pub struct Place {
+pub struct BlockPlace {
     pub number: u32,
     pub index: u32,
 }
@@ -54,7 +54,7 @@ impl DiskLayout {
     }
 
     /// The place of a block. None just where the disk has no such block.
-    pub fn place(&self, block: u64) -> Option<Place>
+    pub fn place(&self, block: u64) -> Option<BlockPlace>
         ensures some { IfSome result (λ place. (block < self.now.blocks) × IsPlaceOf self.now.numbers.items block place) }
         ensures none { IfNone result (self.now.blocks ≤ block) }
     {
@@ -62,7 +62,7 @@ impl DiskLayout {
             return None;
         }
         let stripes = self.numbers.len() as u64;
-        Some(Place {
+        Some(BlockPlace {
             number: self.numbers[(block % stripes) as usize],
             index: (block / stripes) as u32,
         })
@@ -152,5 +152,5 @@ fn stands_in(numbers: &[u32], wanted: u32) -> bool
 ///
 /// It runs nothing: its contract is the law.
 pub fn place_law()
-    ensures apart { (numbers : List ℕ) (size blocks one other : ℕ) (place : Place) → CanLie numbers size blocks → IsPlaceOf numbers one place → IsPlaceOf numbers other place → one ≡ other }
+    ensures apart { (numbers : List ℕ) (size blocks one other : ℕ) (place : BlockPlace) → CanLie numbers size blocks → IsPlaceOf numbers one place → IsPlaceOf numbers other place → one ≡ other }
 {}

@@ -2,7 +2,7 @@
 //! with many requests in flight, a cleaner in the background and a checkpoint at each flush.
 //!
 //! Who serves greets the client (`greet`), makes a `DiskService` of what it reads from and writes to, and hands that to
-//! `flash_volume::serve_volume` with as many stations as `DiskService::stations` tells.
+//! `flash_volume::serve_volume` with as many threads as `DiskService::threads` tells.
 #![tactic(auto)]
 
 mod answers;
@@ -10,13 +10,13 @@ mod counts;
 mod disk;
 mod erasing;
 mod handshake;
+mod jobs;
 mod keeping;
 mod layout;
-mod orders;
 mod parts;
 mod progress;
 mod reading;
-mod reception;
+mod request_reader;
 mod room;
 mod working;
 mod writing;
@@ -24,6 +24,6 @@ mod writing;
 pub use counts::Counts;
 pub use disk::{DiskService, DiskSettings};
 pub use handshake::{Export, Greeted, LONGEST_NAME, greet};
-pub use layout::{DiskLayout, Place, Stripe, place_law};
-pub use parts::{Part, part_at};
-pub use reception::{Farewell, MOST_BYTES};
+pub use layout::{BlockPlace, DiskLayout, Stripe, place_law};
+pub use parts::{BlockPart, part_at};
+pub use request_reader::{Farewell, MOST_BYTES};

@@ -3,7 +3,7 @@ ghost use Rattle.std.specs.Prelude.{◌≡◌, ◌≤◌, ◌<◌, ◌+◌, ◌*
 
 /// Bytes of an access to a disk that lie in one block.
 #[derive(Clone, Copy, Debug, PartialEq, Eq)]
-pub struct Part {
+pub struct BlockPart {
     /// The block of the disk.
     pub block: u64,
     /// The byte of the block with which it begins.
@@ -16,7 +16,7 @@ pub struct Part {
 
 /// The part of an access that begins at its byte `at`: all that is left of the access, or up to the end of the block. Whoever goes on where
 /// a part ends, from 0 on, has the whole access, each byte once.
-pub fn part_at(offset: u64, length: usize, at: usize, block_bytes: u32) -> Part
+pub fn part_at(offset: u64, length: usize, at: usize, block_bytes: u32) -> BlockPart
     requires sized { 0 < block_bytes }
     requires fits { offset + length < 2 ^ 64 }
     requires left { at < length }
@@ -31,7 +31,7 @@ pub fn part_at(offset: u64, length: usize, at: usize, block_bytes: u32) -> Part
     let size = u64::from(block_bytes);
     let from = (place % size) as usize;
     let room = block_bytes as usize - from;
-    Part {
+    BlockPart {
         block: place / size,
         from,
         size: room.min(length - at),

@@ -3,7 +3,7 @@ use crate::counts::Counter;
 use std::sync::atomic::{AtomicU64, Ordering};
 
 /// How many parts of blocks were written, and how many of them the last flush has for sure. It is counted beside the volume, for the
-/// keeper alone: no promise rests on it.
+/// background cleaner alone: no promise rests on it.
 #[derive(Drop)]
 pub(crate) struct Progress {
     written: Counter,

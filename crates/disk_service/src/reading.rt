@@ -4,10 +4,10 @@ ghost use Rattle.flash_volume.specs.Answers.{block_of};
 ghost use Rattle.geometry.specs.Shape.{block_bytes};
 
 use crate::layout::DiskLayout;
-use crate::parts::{Part, part_at};
+use crate::parts::{BlockPart, part_at};
 use device::{Block, Meta};
 use file_cells::FilePass;
-use flash_volume::{Shelf, read_block, read_part};
+use flash_volume::{PassTable, read_block, read_part};
 use geometry::Error;
 use rights_permits::VolumeName;
 use std::alloc::Global;
@@ -16,13 +16,13 @@ use volume::Volume;
 
 /// Reads bytes of a disk from an offset on, part by part, each under the lock of its file.
 ///
-/// Answers NoMemory before anything is read, TooFar where the disk ends before, NoFile where a file of the disk is not on the shelf, and
+/// Answers NoMemory before anything is read, TooFar where the disk ends before, NoFile where a file of the disk is not in the pass table, and
 /// Device; after each of them `out` has any bytes.
 pub(crate) fn read_bytes<V: VolumeName, M: Meta, B: Block + Drop, R: Wait>(
     rt: &R,
     alloc: Global,
     volume: &Volume<V, M, B>,
-    shelf: &Shelf<V>,
+    pass_table: &PassTable<V>,
     layout: &DiskLayout,
     offset: u64,
     out: &mut [u8],
@@ -38,7 +38,7 @@ pub(crate) fn read_bytes<V: VolumeName, M: Meta, B: Block + Drop, R: Wait>(
         let Some(place) = layout.place(part.block) else {
             return Err(Error::TooFar);
         };
-        let Some(guard) = shelf.read(rt, place.number) else {
+        let Some(guard) = pass_table.read(rt, place.number) else {
             return Err(Error::NoFile);
         };
         let Some(pass) = &*guard else {
@@ -57,7 +57,7 @@ fn show_part<V: VolumeName, M: Meta, B: Block + Drop, R: Wait>(
     volume: &Volume<V, M, B>,
     pass: &FilePass<V>,
     index: u32,
-    part: &Part,
+    part: &BlockPart,
     block: &mut [u8],
     out: &mut [u8],
 ) -> Result<(), Error>

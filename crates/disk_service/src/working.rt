@@ -6,11 +6,11 @@ ghost use Rattle.nbd_words.specs.Request.{reply_bytes};
 use crate::answers::read_reply;
 use crate::disk::DiskService;
 use crate::erasing::{erase_blocks, zero_bytes};
-use crate::orders::{Errand, Order};
+use crate::jobs::{Job, ReceivedRequest};
 use crate::reading::read_bytes;
 use crate::writing::{Writing, write_bytes, write_zeros};
 use device::{Block, Meta};
-use flash_volume::Shelf;
+use flash_volume::PassTable;
 use geometry::Error;
 use nbd_words::{Access, ErrorNumber, REPLY_BYTES, judge};
 use rights_permits::VolumeName;
@@ -25,17 +25,17 @@ impl<C: Clock + Drop, I: Read + Drop, O: Write + Drop> DiskService<C, I, O> {
         &self,
         rt: &R,
         volume: &Volume<V, M, B>,
-        shelf: &Shelf<V>,
+        pass_table: &PassTable<V>,
     )
         requires block { self.now.layout.block_bytes ≡ block_bytes V.Numbers.geometry.shape }
     {
         for _ in rt.forever() {
-            match self.orders.take(rt) {
-                Errand::Do(order) => self.obey(rt, volume, shelf, &order),
-                Errand::Refuse { cookie } => self.refuse(rt, ErrorNumber::NoMemory, cookie),
-                Errand::Leave => return,
+            match self.jobs.take(rt) {
+                Job::Do(received) => self.obey(rt, volume, pass_table, &received),
+                Job::Refuse { cookie } => self.refuse(rt, ErrorNumber::NoMemory, cookie),
+                Job::Leave => return,
             }
-            self.orders.finish();
+            self.jobs.finish();
         }
     }
 
@@ -44,15 +44,15 @@ impl<C: Clock + Drop, I: Read + Drop, O: Write + Drop> DiskService<C, I, O> {
         &self,
         rt: &R,
         volume: &Volume<V, M, B>,
-        shelf: &Shelf<V>,
-        order: &Order,
+        pass_table: &PassTable<V>,
+        received: &ReceivedRequest,
     )
         requires block { self.now.layout.block_bytes ≡ block_bytes V.Numbers.geometry.shape }
     {
-        let cookie = order.request.cookie;
-        let done = match judge(self.disk(), &order.request) {
+        let cookie = received.request.cookie;
+        let done = match judge(self.disk(), &received.request) {
             Ok(Access::Read { offset, length }) => {
-                return self.answer_read(rt, volume, shelf, cookie, offset, length);
+                return self.answer_read(rt, volume, pass_table, cookie, offset, length);
             }
             Ok(
                 Access::Write {
@@ -60,7 +60,14 @@ impl<C: Clock + Drop, I: Read + Drop, O: Write + Drop> DiskService<C, I, O> {
                     through,
                     ..
                 },
-            ) => self.write(rt, volume, shelf, offset, order.bytes.as_slice(), through),
+            ) => self.write(
+                rt,
+                volume,
+                pass_table,
+                offset,
+                received.bytes.as_slice(),
+                through,
+            ),
             Ok(
                 Access::Zero {
                     offset,
@@ -68,15 +75,15 @@ impl<C: Clock + Drop, I: Read + Drop, O: Write + Drop> DiskService<C, I, O> {
                     through,
                     keep,
                 },
-            ) => self.write_zeros(rt, volume, shelf, offset, length, through, keep),
-            Ok(Access::Flush) => self.obey_flush(rt, volume, shelf),
+            ) => self.write_zeros(rt, volume, pass_table, offset, length, through, keep),
+            Ok(Access::Flush) => self.obey_flush(rt, volume, pass_table),
             Ok(
                 Access::Trim {
                     offset,
                     length,
                     through,
                 },
-            ) => self.erase(rt, volume, shelf, offset, length, through),
+            ) => self.erase(rt, volume, pass_table, offset, length, through),
             Ok(Access::Leave) => Ok(()),
             Err(refusal) => return self.refuse(rt, refusal.error_number(), cookie),
         };
@@ -96,7 +103,7 @@ impl<C: Clock + Drop, I: Read + Drop, O: Write + Drop> DiskService<C, I, O> {
         &self,
         rt: &R,
         volume: &Volume<V, M, B>,
-        shelf: &Shelf<V>,
+        pass_table: &PassTable<V>,
         cookie: u64,
         offset: u64,
         length: u32,
@@ -104,7 +111,7 @@ impl<C: Clock + Drop, I: Read + Drop, O: Write + Drop> DiskService<C, I, O> {
         requires block { self.now.layout.block_bytes ≡ block_bytes V.Numbers.geometry.shape }
         requires fits { offset + length < 2 ^ 64 }
     {
-        match self.read(rt, volume, shelf, cookie, offset, length) {
+        match self.read(rt, volume, pass_table, cookie, offset, length) {
             Ok(reply) => {
                 self.counters.reads.add(1);
                 self.counters.bytes_read.add(u64::from(length));
@@ -119,7 +126,7 @@ impl<C: Clock + Drop, I: Read + Drop, O: Write + Drop> DiskService<C, I, O> {
         &self,
         rt: &R,
         volume: &Volume<V, M, B>,
-        shelf: &Shelf<V>,
+        pass_table: &PassTable<V>,
         cookie: u64,
         offset: u64,
         length: u32,
@@ -131,7 +138,15 @@ impl<C: Clock + Drop, I: Read + Drop, O: Write + Drop> DiskService<C, I, O> {
     {
         let mut reply = read_reply(self.alloc, cookie, length)?;
         let out = &mut reply.as_mut_slice()[REPLY_BYTES..];
-        read_bytes(rt, self.alloc, volume, shelf, &self.layout, offset, out)?;
+        read_bytes(
+            rt,
+            self.alloc,
+            volume,
+            pass_table,
+            &self.layout,
+            offset,
+            out,
+        )?;
         Ok(reply)
     }
 
@@ -139,7 +154,7 @@ impl<C: Clock + Drop, I: Read + Drop, O: Write + Drop> DiskService<C, I, O> {
         &self,
         rt: &R,
         volume: &Volume<V, M, B>,
-        shelf: &Shelf<V>,
+        pass_table: &PassTable<V>,
         offset: u64,
         bytes: &[u8],
         through: bool,
@@ -148,15 +163,15 @@ impl<C: Clock + Drop, I: Read + Drop, O: Write + Drop> DiskService<C, I, O> {
         requires fits { offset + length bytes.now < 2 ^ 64 }
     {
         let writing = self.writing();
-        write_bytes(rt, self.alloc, volume, shelf, writing, offset, bytes)?;
-        self.finish_write(rt, volume, shelf, bytes.len() as u64, through)
+        write_bytes(rt, self.alloc, volume, pass_table, writing, offset, bytes)?;
+        self.finish_write(rt, volume, pass_table, bytes.len() as u64, through)
     }
 
     fn write_zeros<V: VolumeName, M: Meta, B: Block + Drop, R: Wait>(
         &self,
         rt: &R,
         volume: &Volume<V, M, B>,
-        shelf: &Shelf<V>,
+        pass_table: &PassTable<V>,
         offset: u64,
         length: u32,
         through: bool,
@@ -168,18 +183,18 @@ impl<C: Clock + Drop, I: Read + Drop, O: Write + Drop> DiskService<C, I, O> {
         let writing = self.writing();
         if keep {
             let count = length as usize;
-            write_zeros(rt, self.alloc, volume, shelf, writing, offset, count)?;
+            write_zeros(rt, self.alloc, volume, pass_table, writing, offset, count)?;
         } else {
-            zero_bytes(rt, self.alloc, volume, shelf, writing, offset, length)?;
+            zero_bytes(rt, self.alloc, volume, pass_table, writing, offset, length)?;
         }
-        self.finish_write(rt, volume, shelf, u64::from(length), through)
+        self.finish_write(rt, volume, pass_table, u64::from(length), through)
     }
 
     fn erase<V: VolumeName, M: Meta, B: Block + Drop, R: Wait>(
         &self,
         rt: &R,
         volume: &Volume<V, M, B>,
-        shelf: &Shelf<V>,
+        pass_table: &PassTable<V>,
         offset: u64,
         length: u32,
         through: bool,
@@ -187,9 +202,9 @@ impl<C: Clock + Drop, I: Read + Drop, O: Write + Drop> DiskService<C, I, O> {
         requires fits { offset + length < 2 ^ 64 }
     {
         let writing = self.writing();
-        erase_blocks(rt, volume, shelf, writing, offset, length)?;
+        erase_blocks(rt, volume, pass_table, writing, offset, length)?;
         if through {
-            self.flush(rt, volume, shelf)?;
+            self.flush(rt, volume, pass_table)?;
             self.counters.asked.add(1);
         }
         self.counters.trims.add(1);
@@ -212,12 +227,12 @@ impl<C: Clock + Drop, I: Read + Drop, O: Write + Drop> DiskService<C, I, O> {
         &self,
         rt: &R,
         volume: &Volume<V, M, B>,
-        shelf: &Shelf<V>,
+        pass_table: &PassTable<V>,
         bytes: u64,
         through: bool,
     ) -> Result<(), Error> {
         if through {
-            self.flush(rt, volume, shelf)?;
+            self.flush(rt, volume, pass_table)?;
             self.counters.asked.add(1);
         }
         self.counters.writes.add(1);
@@ -229,10 +244,10 @@ impl<C: Clock + Drop, I: Read + Drop, O: Write + Drop> DiskService<C, I, O> {
         &self,
         rt: &R,
         volume: &Volume<V, M, B>,
-        shelf: &Shelf<V>,
+        pass_table: &PassTable<V>,
     ) -> Result<(), Error> {
         if !self.settings.read_only {
-            self.flush(rt, volume, shelf)?;
+            self.flush(rt, volume, pass_table)?;
             self.counters.asked.add(1);
         }
         self.counters.flushes.add(1);

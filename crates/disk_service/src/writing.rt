@@ -3,11 +3,11 @@ ghost use Rattle.std.specs.Prelude.{◌≡◌, ◌≤◌, ◌<◌, ◌+◌, ◌^
 ghost use Rattle.geometry.specs.Shape.{block_bytes};
 
 use crate::layout::DiskLayout;
-use crate::parts::{Part, part_at};
+use crate::parts::{BlockPart, part_at};
 use crate::progress::Progress;
 use crate::room::Cleaner;
 use device::{Block, Meta};
-use flash_volume::{Shelf, write_part};
+use flash_volume::{PassTable, write_part};
 use geometry::Error;
 use rights_permits::VolumeName;
 use std::alloc::Global;
@@ -28,13 +28,13 @@ pub(crate) struct Writing<'a> {
 
 /// Writes bytes of a disk from an offset on, part by part, each under the lock of its file. Where a part finds no room, some is made.
 ///
-/// Answers NoMemory before anything is written, TooFar where the disk ends before, NoFile where a file of the disk is not on the shelf, and
+/// Answers NoMemory before anything is written, TooFar where the disk ends before, NoFile where a file of the disk is not in the pass table, and
 /// what a write or a checkpoint of the volume answers. Parts that were written before stay so.
 pub(crate) fn write_bytes<V: VolumeName, M: Meta, B: Block + Drop, R: Wait>(
     rt: &R,
     alloc: Global,
     volume: &Volume<V, M, B>,
-    shelf: &Shelf<V>,
+    pass_table: &PassTable<V>,
     writing: Writing<'_>,
     offset: u64,
     bytes: &[u8],
@@ -49,7 +49,15 @@ pub(crate) fn write_bytes<V: VolumeName, M: Meta, B: Block + Drop, R: Wait>(
     'parts: while at < bytes.len() {
         let part = part_at(offset, bytes.len(), at, size);
         let end = at + part.size;
-        write_making_room(rt, volume, shelf, writing, &part, block, &bytes[at..end])?;
+        write_making_room(
+            rt,
+            volume,
+            pass_table,
+            writing,
+            &part,
+            block,
+            &bytes[at..end],
+        )?;
         at = end;
     }
     Ok(())
@@ -60,7 +68,7 @@ pub(crate) fn write_zeros<V: VolumeName, M: Meta, B: Block + Drop, R: Wait>(
     rt: &R,
     alloc: Global,
     volume: &Volume<V, M, B>,
-    shelf: &Shelf<V>,
+    pass_table: &PassTable<V>,
     writing: Writing<'_>,
     offset: u64,
     length: usize,
@@ -78,7 +86,7 @@ pub(crate) fn write_zeros<V: VolumeName, M: Meta, B: Block + Drop, R: Wait>(
         write_making_room(
             rt,
             volume,
-            shelf,
+            pass_table,
             writing,
             &part,
             block,
@@ -93,9 +101,9 @@ pub(crate) fn write_zeros<V: VolumeName, M: Meta, B: Block + Drop, R: Wait>(
 fn write_making_room<V: VolumeName, M: Meta, B: Block + Drop, R: Wait>(
     rt: &R,
     volume: &Volume<V, M, B>,
-    shelf: &Shelf<V>,
+    pass_table: &PassTable<V>,
     writing: Writing<'_>,
-    part: &Part,
+    part: &BlockPart,
     block: &mut [u8],
     bytes: &[u8],
 ) -> Result<(), Error>
@@ -103,14 +111,14 @@ fn write_making_room<V: VolumeName, M: Meta, B: Block + Drop, R: Wait>(
     requires within { part.now.from + length bytes.now ≤ block_bytes V.Numbers.geometry.shape }
 {
     let beside = writing.cleaner.beside_others(rt);
-    let written = write_in_place(rt, volume, shelf, writing, part, block, bytes);
+    let written = write_in_place(rt, volume, pass_table, writing, part, block, bytes);
     drop(beside);
     if written != Err(Error::NoSpace) {
         return written;
     }
     let _alone = writing.cleaner.alone(rt);
     for attempt in 0..ATTEMPTS {
-        match write_in_place(rt, volume, shelf, writing, part, block, bytes) {
+        match write_in_place(rt, volume, pass_table, writing, part, block, bytes) {
             Err(Error::NoSpace) => {
                 writing.cleaner.make_room(rt, volume, attempt, writing.now)?;
             }
@@ -124,9 +132,9 @@ fn write_making_room<V: VolumeName, M: Meta, B: Block + Drop, R: Wait>(
 fn write_in_place<V: VolumeName, M: Meta, B: Block + Drop, R: Wait>(
     rt: &R,
     volume: &Volume<V, M, B>,
-    shelf: &Shelf<V>,
+    pass_table: &PassTable<V>,
     writing: Writing<'_>,
-    part: &Part,
+    part: &BlockPart,
     block: &mut [u8],
     bytes: &[u8],
 ) -> Result<(), Error>
@@ -136,7 +144,7 @@ fn write_in_place<V: VolumeName, M: Meta, B: Block + Drop, R: Wait>(
     let Some(place) = writing.layout.place(part.block) else {
         return Err(Error::TooFar);
     };
-    let Some(mut guard) = shelf.write(rt, place.number) else {
+    let Some(mut guard) = pass_table.write(rt, place.number) else {
         return Err(Error::NoFile);
     };
     let Some(pass) = &mut *guard else {

@@ -4,12 +4,12 @@
 mod help;
 mod saving;
 
-use flash_volume::{Packing, Threading};
+use flash_volume::{HoleReuse, Packing};
 use help::{HELP, asks_for_help};
 use program_run::status::{DONE, FAILED, MISUSED};
 use program_run::{OpenGate, Rules, check_image, run_script, tell_files, tell_io_failure};
 use program_script::words::USAGE;
-use program_script::{Words, WordsError};
+use program_script::{CommandLine, WordsError};
 use saving::save;
 use std::fs::File;
 use std::io::{LineWriter, Write};
@@ -64,16 +64,16 @@ fn called<R: Runtime + AllocGlobal + Threads + Wait + Sync, W: Write, E: Write>(
         Err(error) if error.kind() == io::ErrorKind::InvalidData => return misused(errors),
         Err(error) => return Err(error),
     }
-    match Words::parse(rt.alloc(), words.as_slice()) {
-        Ok(Words::Check { image }) => {
+    match CommandLine::parse(rt.alloc(), words.as_slice()) {
+        Ok(CommandLine::Check { image }) => {
             let mut file = File::open(rt, image)?;
             Ok(check_image(rt.alloc(), &mut file, out, errors))
         }
-        Ok(Words::Files { image }) => {
+        Ok(CommandLine::Files { image }) => {
             let mut file = File::open(rt, image)?;
             Ok(tell_files(rt, rt.alloc(), &mut file, out, errors))
         }
-        Ok(Words::Run { save, threading }) => match rule_named(threading) {
+        Ok(CommandLine::Run { save, hole_reuse }) => match rule_named(hole_reuse) {
             Some(rule) => run_saving(rt, out, errors, save, rule),
             None => misused(errors),
         },
@@ -84,10 +84,10 @@ fn called<R: Runtime + AllocGlobal + Threads + Wait + Sync, W: Write, E: Write>(
 }
 
 // The rule of a name. Where none is named, volumes thread whenever they can.
-fn rule_named(name: Option<&str>) -> Option<Threading> {
+fn rule_named(name: Option<&str>) -> Option<HoleReuse> {
     match name {
-        None | Some("whenever") => Some(Threading::Whenever),
-        Some("while-reserve-is-full") => Some(Threading::WhileReserveIsFull),
+        None | Some("whenever") => Some(HoleReuse::Always),
+        Some("while-reserve-is-full") => Some(HoleReuse::WhileReserveIsFull),
         Some(_) => None,
     }
 }
@@ -110,7 +110,7 @@ fn run_saving<R: Runtime + AllocGlobal + Threads + Wait + Sync, W: Write, E: Wri
     out: &mut W,
     errors: &mut E,
     path: Option<&str>,
-    threading: Threading,
+    hole_reuse: HoleReuse,
 ) -> io::Result<u8> {
     let mut bytes = Vec::new(rt.alloc());
     let saved = match path {
@@ -126,7 +126,7 @@ fn run_saving<R: Runtime + AllocGlobal + Threads + Wait + Sync, W: Write, E: Wri
         saved,
         Rules {
             packing: Packing::Slots,
-            threading,
+            hole_reuse,
         },
         &OpenGate,
     );

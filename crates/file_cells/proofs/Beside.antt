@@ -4,7 +4,7 @@ use Rattle.std.proofs.Common.{◌≡◌, ℕ, ◌+◌, ◌<◌, ◌≤◌, refl,
 use Rattle.geometry.specs.Weights.{weigh}
 use Rattle.geometry.specs.Path.{node_entries, largest_length}
 use Rattle.rights_books.specs.Accounts.{HandView}
-use Rattle.rights_books.specs.declared.claim.Entry.{Entry}
+use Rattle.rights_books.specs.declared.claim.TakenNumber.{TakenNumber}
 use Rattle.nodes.specs.Tree.{Same}
 use Rattle.nodes.specs.Spares.{KeepsNames}
 use Rattle.nodes.specs.Owners.{namer_at}
@@ -58,8 +58,8 @@ module _ {B L : Type 0} where
   }
 
 -- a spare node is made
-module _ {B L : Type 0} (f : FileState B L) (s t : SparePath B L) (x y : HandView) (k : Entry) (is : IsStored f) (spare : IsSpareFor f s) where
-  pub beside_made : y ≡ with_token k x → 0 < k.number → AreEmptyNodes (node_entries f.shape) t → ((h : Entry → ℕ) → spare_tokens h t ≡ spare_tokens h s + h k)
+module _ {B L : Type 0} (f : FileState B L) (s t : SparePath B L) (x y : HandView) (k : TakenNumber) (is : IsStored f) (spare : IsSpareFor f s) where
+  pub beside_made : y ≡ with_token k x → 0 < k.number → AreEmptyNodes (node_entries f.shape) t → ((h : TakenNumber → ℕ) → spare_tokens h t ≡ spare_tokens h s + h k)
       → ServesBeside f f s t x y
   beside_made hand some empty tokens = record {
     stored = is;
@@ -77,14 +77,14 @@ module _ {B L : Type 0} (f : FileState B L) (s t : SparePath B L) (x y : HandVie
 -- a spare node comes into the file
 module _ {B L : Type 0} (old new : FileState B L) (s t : SparePath B L) where
   pub spare_planted : IsSpareFor old s → new.shape ≡ old.shape → AreEmptyNodes (node_entries old.shape) t → (n : TreeNode)
-      → ((h : Entry → ℕ) → spare_tokens h t + h n.token ≡ spare_tokens h s) → IsSpareFor new t
+      → ((h : TakenNumber → ℕ) → spare_tokens h t + h n.token ≡ spare_tokens h s) → IsSpareFor new t
   spare_planted spare shape empty n tokens = record {
     empty = subst (λ e. AreEmptyNodes e t) (ap node_entries (sym shape)) empty;
     numbered = let more = tokens unnumbered in let none = spare.numbered in omega arith;
   }
 
   pub stored_planted : IsStored old → IsSpareFor old s → IsFile new → new.shape ≡ old.shape → new.kind ≡ old.kind → new.length ≡ old.length → Same (ticket_at old) (ticket_at new) → KeepsNames (namer_at old) (namer_at new)
-      → (n : TreeNode) → MarksNode unchanged old new nothing (λ w. w.node n) → ((h : Entry → ℕ) → spare_tokens h t + h n.token ≡ spare_tokens h s) → IsStored new
+      → (n : TreeNode) → MarksNode unchanged old new nothing (λ w. w.node n) → ((h : TakenNumber → ℕ) → spare_tokens h t + h n.token ≡ spare_tokens h s) → IsStored new
   stored_planted is spare now shape kind length same keeps n change tokens = stored_same old new is now shape kind length same
       (named_planted old new is.named now (let s = is.short in let top = ap largest_length shape in omega arith) shape same keeps)
       (let all = weigh_tickets unchanged old new nothing (λ w. w.node n) change (λ m. 1) in omega arith)
@@ -95,25 +95,25 @@ module _ {B L : Type 0} (old new : FileState B L) (s t : SparePath B L) where
 
   pub beside_planted : (x : HandView) → IsStored old → IsSpareFor old s → IsFile new → new.shape ≡ old.shape → new.kind ≡ old.kind → new.length ≡ old.length
       → Same (ticket_at old) (ticket_at new) → KeepsNames (namer_at old) (namer_at new) → AreEmptyNodes (node_entries old.shape) t → (n : TreeNode) → MarksNode unchanged old new nothing (λ w. w.node n)
-      → ((h : Entry → ℕ) → spare_tokens h t + h n.token ≡ spare_tokens h s) → ServesBeside old new s t x x
+      → ((h : TakenNumber → ℕ) → spare_tokens h t + h n.token ≡ spare_tokens h s) → ServesBeside old new s t x x
   beside_planted x is spare now shape kind length same keeps empty n change tokens = record {
     stored = stored_planted is spare now shape kind length same keeps n change tokens;
     spare = spare_planted spare shape empty n tokens;
     shape = shape;
-    number = ap (λ (e : Entry). e.number) change.token;
+    number = ap (λ (e : TakenNumber). e.number) change.token;
     others = λ others was. held_planted others old s x.tickets x.tokens was new t n change tokens;
     book = refl;
   }
 
 -- what is left of the spare nodes is given back
-module _ {B L : Type 0} (old new : FileState B L) (s t : SparePath B L) (x y : HandView) (none : (h : Entry → ℕ) → spare_tokens h s ≡ 0) (serves : ServesBeside old new s t x y) where
+module _ {B L : Type 0} (old new : FileState B L) (s t : SparePath B L) (x y : HandView) (none : (h : TakenNumber → ℕ) → spare_tokens h s ≡ 0) (serves : ServesBeside old new s t x y) where
   with_none : (others : Others) → InHand others old x → InHand (with_spares s others) old x
   with_none others was = held_none others old s x.tickets x.tokens none was
 
-  pub spares_there : (others : Others) → InHand others old x → (h : Entry → ℕ) → spare_tokens h t ≤ weigh h y.tokens
+  pub spares_there : (others : Others) → InHand others old x → (h : TakenNumber → ℕ) → spare_tokens h t ≤ weigh h y.tokens
   spares_there others was = held_all others new t y.tickets y.tokens (serves.others others (with_none others was))
 
-  pub serves_beside : (z : HandView) → ((h : Entry → ℕ) → weigh h z.tokens + spare_tokens h t ≡ weigh h y.tokens) → z.tickets ≡ y.tickets → z.book ≡ y.book → Serves old new x z
+  pub serves_beside : (z : HandView) → ((h : TakenNumber → ℕ) → weigh h z.tokens + spare_tokens h t ≡ weigh h y.tokens) → z.tickets ≡ y.tickets → z.book ≡ y.book → Serves old new x z
   serves_beside z tokens tickets book = record {
     stored = serves.stored;
     shape = serves.shape;

@@ -3,7 +3,7 @@ use Rattle.std.proofs.Common.{◌≡◌, ◌<◌, ◌∷◌, [], Some, ap, ◌�
 use Rattle.std.specs.FinMap.{len, len-empty}
 use Rattle.std.specs.Ordering.{nat_cmp}
 use Rattle.geometry.specs.File.{Block}
-use Rattle.rights_books.specs.declared.claim.Entry.{Entry}
+use Rattle.rights_books.specs.declared.claim.TakenNumber.{TakenNumber}
 use Rattle.nodes.specs.Change.{of_tickets, of_tokens, unnumbered}
 use Rattle.nodes.specs.declared.file.FileState.{FileState}
 use Rattle.nodes.specs.File.{IsFile, IsBare, ticket_at, blocks_below}
@@ -13,7 +13,7 @@ use Rattle.rights_books.specs.Accounts.{HandView}
 use Rattle.nodes_law.specs.Contents.{IsStored, InHand}
 use Rattle.nodes_law.proofs.Serving.{has_number}
 
-module _ {B L : Type 0} (f : FileState B L) (k : Entry) (token : f.token ≡ k) (bare : IsBare f) where
+module _ {B L : Type 0} (f : FileState B L) (k : TakenNumber) (token : f.token ≡ k) (bare : IsBare f) where
   pub stored_new : IsFile f → f.length ≡ 0 → 0 < k.number → IsStored f
   stored_new is none number = record {
     file = is;

@@ -4,7 +4,7 @@ use Rattle.geometry.specs.declared.shape.Shape.{Shape}
 use Rattle.geometry.specs.Mark.{same_mark}
 use Rattle.geometry.specs.Shape.{block_bytes}
 use Rattle.rights_books.specs.Accounts.{HandView}
-use Rattle.rights_books.specs.declared.claim.Entry.{Entry}
+use Rattle.rights_books.specs.declared.claim.TakenNumber.{TakenNumber}
 use Rattle.rights_books.specs.Lists.{times}
 use Rattle.rights_books.specs.Sameness.{same_entry}
 use Rattle.tickets.specs.Placed.{Placed}
@@ -42,7 +42,7 @@ module _ {B L : Type 0} (first old new : FileState B L) (start x : HandView) (n 
     ticket_given y law keeps hand =
         (law_after law, serves_both first old new start x y was (serves_out old new x y n was.stored now shape kind long t hands change.0 weighs_ticket change.2 keeps hand))
 
-  module _ (k : Entry) (is : spare ≡ Token k) (same : Same (ticket_at old) (ticket_at new)) where
+  module _ (k : TakenNumber) (is : spare ≡ Token k) (same : Same (ticket_at old) (ticket_at new)) where
     weighs_token : WeighsAs (Token k) change.0
     weighs_token = subst (λ (s : Spare Placed). WeighsAs s change.0) is change.1
 

@@ -1,7 +1,7 @@
 -- The law of a file with spare nodes beside it, through the calls on both.
 use Rattle.std.proofs.Common.{◌≡◌, ℕ, ◌+◌, true, sym, ap, subst}
 use Rattle.geometry.specs.declared.shape.Shape.{Shape}
-use Rattle.rights_books.specs.declared.claim.Entry.{Entry}
+use Rattle.rights_books.specs.declared.claim.TakenNumber.{TakenNumber}
 use Rattle.nodes.specs.Change.{TreeNode, nothing}
 use Rattle.nodes.specs.declared.file.FileState.{FileState}
 use Rattle.nodes.specs.declared.spare_path.SparePath.{SparePath}
@@ -19,10 +19,10 @@ module _ {B L : Type 0} (files : ℕ) (old new : FileState B L) (s t : SparePath
 
   -- a spare node comes into the file
   pub lawful_planted : (n : TreeNode) → n.dirty ≡ true → MarksNode unchanged old new nothing (λ w. w.node n)
-      → ((h : Entry → ℕ) → spare_tokens h t + h n.token ≡ spare_tokens h s) → HasLawBeside files new t
+      → ((h : TakenNumber → ℕ) → spare_tokens h t + h n.token ≡ spare_tokens h s) → HasLawBeside files new t
   lawful_planted n fresh change tokens = record {
     law = law_plant files old new was.law shape s t was.own n fresh tokens change;
-    own = own_of (ap (λ (k : Entry). k.number) change.token) t (own_planted files old.shape old.token.number s t was.own n tokens);
+    own = own_of (ap (λ (k : TakenNumber). k.number) change.token) t (own_planted files old.shape old.token.number s t was.own n tokens);
   }
 
   -- a call that does nothing to the spare nodes

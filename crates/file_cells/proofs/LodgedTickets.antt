@@ -10,7 +10,7 @@ use Rattle.geometry.specs.declared.owner.Mark.{Mark}
 use Rattle.geometry.specs.Mark.{same_mark}
 use Rattle.geometry.proofs.MarkTests.{mark_self}
 use Rattle.geometry.specs.Path.{inode_entries, node_entries}
-use Rattle.rights_books.specs.declared.claim.Entry.{Entry}
+use Rattle.rights_books.specs.declared.claim.TakenNumber.{TakenNumber}
 use Rattle.rights_books.specs.Lists.{times}
 use Rattle.tickets.specs.Placed.{Placed}
 use Rattle.nodes.specs.Tree.{find_in, only_at_zero, entry_at}
@@ -89,7 +89,7 @@ module _ (h : Placed → ℕ) where
         ]
 
 -- a ticket of a file is lodged in its account
-pub lodged : {B L : Type 0} (f : FileState B L) (tickets : List Mark) (tokens : List Entry) → AreHeld f tickets tokens
+pub lodged : {B L : Type 0} (f : FileState B L) (tickets : List Mark) (tokens : List TakenNumber) → AreHeld f tickets tokens
     → (i : ℕ) (t : Placed) → ticket_at f i ≡ Some t → 0 < times same_mark t.mark tickets
 lodged f tickets tokens held i t is =
     let all = held.tickets (λ y. if same_mark t.mark y then 1 else 0) in

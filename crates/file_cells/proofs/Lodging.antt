@@ -11,8 +11,8 @@ use Rattle.geometry.specs.declared.kind.Kind.{Kind}
 use Rattle.geometry.specs.File.{File, Block, bytes_at, new_file}
 use Rattle.geometry.specs.Shape.{block_bytes}
 use Rattle.rights_books.specs.Accounts.{FileView, HandView, PassView}
-use Rattle.rights_books.specs.declared.claim.Content.{Content}
-use Rattle.rights_books.specs.declared.claim.Entry.{Entry}
+use Rattle.rights_books.specs.declared.claim.FileContent.{FileContent}
+use Rattle.rights_books.specs.declared.claim.TakenNumber.{TakenNumber}
 use Rattle.rights_books.specs.Contents.{as_content, as_file}
 use Rattle.rights_books.specs.Rules.{bare_entry}
 use Rattle.rights_books.proofs.Contents.{as_file_again}
@@ -91,20 +91,20 @@ module _ (book : TableId) (a : FileView) (h h1 : HandView) (home : h ≡ at_home
 
 -- ---- the file that a pass shows
 
-abbrev some_content : Option Content → Content → Content
+abbrev some_content : Option FileContent → FileContent → FileContent
 some_content None other = other
 some_content (Some c) other = c
 
-pub same_content : (c d : Content) → Some c ≡ Some d → c ≡ d
+pub same_content : (c d : FileContent) → Some c ≡ Some d → c ≡ d
 same_content c d e = ap (λ o. some_content o c) e
 
 -- what the account shows is the file of its state
-pub shown_file : {B L : Type 0} (f : FileState B L) (o : Option Content) (c : Content) → o ≡ Some (as_content (file_of f)) → o ≡ Some c → as_file c ≡ file_of f
+pub shown_file : {B L : Type 0} (f : FileState B L) (o : Option FileContent) (c : FileContent) → o ≡ Some (as_content (file_of f)) → o ≡ Some c → as_file c ≡ file_of f
 shown_file f o c state pass = ap as_file (same_content c (as_content (file_of f)) (sym pass ∙ state)) ∙ as_file_again (file_of f)
 
 -- a file without a state is shown by no pass
-pub no_pass : (o : Option Content) (c : Content) → o ≡ None → o ≡ Some c → ⊥
-no_pass o c none some = let no = ap (λ (x : Option Content). is_some x) (sym some ∙ none) in cc
+pub no_pass : (o : Option FileContent) (c : FileContent) → o ≡ None → o ≡ Some c → ⊥
+no_pass o c none some = let no = ap (λ (x : Option FileContent). is_some x) (sym some ∙ none) in cc
 
 -- ---- the cell and the pass after a call
 
@@ -128,7 +128,7 @@ module _ {B L : Type 0} (book : TableId) (geometry : Geometry) (number : ℕ) (a
   })
 
   -- the pass shows the file of the state
-  pub pass_shows : (c : Content) → a.content ≡ Some c → as_file c ≡ file_of f
+  pub pass_shows : (c : FileContent) → a.content ≡ Some c → as_file c ≡ file_of f
   pass_shows c same = shown_file f a.content c was.keeps.2 same
 
 -- a cell that is known to have a file
@@ -136,11 +136,11 @@ module _ {B L : Type 0} (book : TableId) (geometry : Geometry) (number : ℕ) (a
   pub cell_has : IsCell book geometry number a (Some f)
   cell_has = subst (IsCell book geometry number a) is was
 
-  pub cell_shows : (c : Content) → a.content ≡ Some c → as_file c ≡ file_of f
+  pub cell_shows : (c : FileContent) → a.content ≡ Some c → as_file c ≡ file_of f
   cell_shows = pass_shows book geometry number a f cell_has
 
 -- no pass shows a file that is not there
-pub no_cell : {B L : Type 0} (book : TableId) (geometry : Geometry) (number : ℕ) (a : FileView) → IsCell {B = B} {L = L} book geometry number a None → (c : Content) → a.content ≡ Some c → ⊥
+pub no_cell : {B L : Type 0} (book : TableId) (geometry : Geometry) (number : ℕ) (a : FileView) → IsCell {B = B} {L = L} book geometry number a None → (c : FileContent) → a.content ≡ Some c → ⊥
 no_cell book geometry number a was c same = no_pass a.content c was.keeps.2 same
 
 -- ---- the blocks that a pass shows
@@ -172,7 +172,7 @@ module _ {B L : Type 0} (book : TableId) (geometry : Geometry) (number : ℕ) (p
     inode_is = inode_is;
     some = some;
     within = within;
-    length_is = ap (λ (c : Content). c.length) shows ∙ sym long;
+    length_is = ap (λ (c : FileContent). c.length) shows ∙ sym long;
     whole = subst (λ c. AreWhole (block_bytes geometry.shape) (as_file c)) (sym shows) (shown_whole geometry g is same whole);
     inside = subst (λ c. AreWithin (as_file c)) (sym shows) (shown_inside geometry g is);
   }
@@ -231,7 +231,7 @@ module _ {B L : Type 0} (f : FileState B L) (kind : Kind) where
   fresh_pass p number shows same none =
       ap (λ (x : File). record { number = number; file = x }) (ap as_file shows ∙ (as_file_again (file_of f) ∙ fresh_file same none))
 
-module _ {B L : Type 0} (book : TableId) (geometry : Geometry) (number : ℕ) (a a1 a2 : FileView) (was : IsCell {B = B} {L = L} book geometry number a None) (h : HandView) (k : Entry)
+module _ {B L : Type 0} (book : TableId) (geometry : Geometry) (number : ℕ) (a a1 a2 : FileView) (was : IsCell {B = B} {L = L} book geometry number a None) (h : HandView) (k : TakenNumber)
     (token : k ≡ bare_entry number number) (hand : h ≡ record { book = book; tickets = []; tokens = k ∷ [] }) (full : a1 ≡ refilled h a)
     (f : FileState B L) (note : a2 ≡ record a1 { content = Some (as_content (file_of f)) }) where
   both : a2 ≡ record (refilled h a) { content = Some (as_content (file_of f)) }
@@ -249,7 +249,7 @@ module _ {B L : Type 0} (book : TableId) (geometry : Geometry) (number : ℕ) (a
     inode_is = ap (λ (x : FileView). x.inode) both ∙ was.inode_is;
     keeps = (
       record {
-        stored = stored_new f k own bare is none (let n = ap (λ (e : Entry). e.number) token in omega arith);
+        stored = stored_new f k own bare is none (let n = ap (λ (e : TakenNumber). e.number) token in omega arith);
         shape_is = shape;
         law = law_new geometry.files f bare marked (own ∙ (token ∙ ap (λ n. bare_entry n n) (sym numbered)));
         lodged = in_hand_new f k own bare (record { book = book; tickets = a2.tickets; tokens = a2.tokens }) tickets_born tokens_born;
@@ -260,4 +260,4 @@ module _ {B L : Type 0} (book : TableId) (geometry : Geometry) (number : ℕ) (a
   }
     where
       numbered : f.token.number ≡ number
-      numbered = ap (λ (e : Entry). e.number) (own ∙ token)
+      numbered = ap (λ (e : TakenNumber). e.number) (own ∙ token)

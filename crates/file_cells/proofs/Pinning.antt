@@ -15,7 +15,7 @@ use Rattle.geometry.specs.Address.{segment_of}
 use Rattle.geometry.specs.Area.{block_count}
 use Rattle.geometry.proofs.Addresses.{segment_blocks-positive}
 use Rattle.rights_books.specs.declared.claim.Layout.{Layout}
-use Rattle.rights_books.specs.declared.claim.Entry.{Entry}
+use Rattle.rights_books.specs.declared.claim.TakenNumber.{TakenNumber}
 use Rattle.rights_books.specs.Lists.{times}
 use Rattle.rights_books.specs.Lodged.{AreWithin}
 use Rattle.rights_permits.specs.Names.{layout_of}
@@ -36,7 +36,7 @@ pub record IsPlaced (geometry : Geometry) (tickets : List Mark) (address : ℕ) 
   pub within : segment_of geometry.shape address < geometry.segments
   pub ticket : (m : Mark) × (segment_of geometry.shape m.address ≡ segment_of geometry.shape address) × (0 < times same_mark m tickets)
 
-module _ {B L : Type 0} (geometry : Geometry) (f : FileState B L) (tickets : List Mark) (tokens : List Entry)
+module _ {B L : Type 0} (geometry : Geometry) (f : FileState B L) (tickets : List Mark) (tokens : List TakenNumber)
     (held : AreHeld f tickets tokens) (layout : Layout) (laid : layout ≡ layout_of geometry) (within : AreWithin layout tickets) where
   pub placed : (from i address : ℕ) → IsNextData (ticket_at f) from (Some i) → address ≡ address_of (ticket_at f i) → IsPlaced geometry tickets address
   placed from i address next is =

@@ -17,7 +17,7 @@ use area::MainArea;
 use device::Block;
 use geometry::{Error, Kind};
 use nodes::FileState;
-use rights_books::{Books, FileAccount, Noted, PassAccount, Permit};
+use rights_books::{Books, CallAccount, FileAccount, Noted, PassAccount};
 use rights_permits::VolumeName;
 use std::alloc::Global;
 use std::marker::{Brand, PhantomData};
@@ -71,7 +71,7 @@ impl<V: VolumeName, B: Block + Drop> FileCell<V, B> {
         rt: &R,
         alloc: Global,
         area: &MainArea<V, B>,
-        hand: &mut Permit,
+        hand: &mut CallAccount,
         kind: Kind,
         token: NidToken,
     ) -> Result<FilePass<V>, Error>
@@ -112,7 +112,7 @@ impl<V: VolumeName, B: Block + Drop> FileCell<V, B> {
         &mut self,
         rt: &R,
         area: &MainArea<V, B>,
-        hand: &mut Permit,
+        hand: &mut CallAccount,
         pass: FilePass<V>,
     )
         requires hand { hand.old ≡ at_home V.Books.books.book }
@@ -127,7 +127,7 @@ impl<V: VolumeName, B: Block + Drop> FileCell<V, B> {
     }
 
     /// Spends the pass, and takes the file, which is what the pass showed: its tickets and tokens are in hand.
-    pub fn take(&mut self, books: &Books, hand: &mut Permit, pass: FilePass<V>) -> FileState<B>
+    pub fn take(&mut self, books: &Books, hand: &mut CallAccount, pass: FilePass<V>) -> FileState<B>
         requires books { books.now ≡ V.Books.books }
         requires hand { hand.old ≡ at_home V.Books.books.book }
         requires number { self.old.number ≡ pass.number }
@@ -175,7 +175,12 @@ impl<V: VolumeName, B: Block + Drop> FileCell<V, B> {
 
     /// What is left of a file's lock where the volume is left: its account, with nothing lodged. All that the file has is given
     /// back, and no pass is asked for.
-    pub fn give_up<R: Wait>(self, rt: &R, area: &MainArea<V, B>, hand: &mut Permit) -> FileAccount
+    pub fn give_up<R: Wait>(
+        self,
+        rt: &R,
+        area: &MainArea<V, B>,
+        hand: &mut CallAccount,
+    ) -> FileAccount
         requires hand { hand.old ≡ at_home V.Books.books.book }
         ensures hand { hand.new ≡ hand.old }
         ensures book { result.book ≡ V.Books.books.book }

@@ -1,6 +1,7 @@
 //! A file in its lock, and the calls on it.
-ghost use Rattle.std.specs.Prelude.{◌≡◌, ◌<◌, ◌≤◌, ◌⊎◌, true, false, length, OnOk, OnErr, IfOk, IfErr};
-ghost use Rattle.geometry.specs.declared.error.Error.TheVariants.{NoMemory, NoNode, NoSpace, Device};
+ghost use Rattle.std.specs.Prelude.{◌≡◌, ◌<◌, ◌≤◌, true, false, length, OnOk, OnErr, IfOk, IfErr};
+ghost use Rattle.geometry.specs.Refusals.{IsOfPut};
+ghost use Rattle.geometry.specs.declared.error.Error.TheVariants.{Device};
 ghost use Rattle.geometry.specs.File.{bytes_at, written, cut_to, erased};
 ghost use Rattle.geometry.specs.Path.{largest_length};
 ghost use Rattle.geometry.specs.Shape.{block_bytes};
@@ -14,7 +15,7 @@ use area::{MainArea, Numbered};
 use device::Block;
 use geometry::Error;
 use nodes::FileState;
-use rights_books::{Books, FileAccount, Permit};
+use rights_books::{Books, CallAccount, FileAccount};
 use rights_permits::VolumeName;
 use std::alloc::Global;
 use std::marker::{Brand, Model, PhantomData};
@@ -68,7 +69,7 @@ impl<V: VolumeName, B: Block + Drop> FileCell<V, B> {
         rt: &R,
         alloc: Global,
         area: &MainArea<V, B>,
-        hand: &mut Permit,
+        hand: &mut CallAccount,
         pass: &mut FilePass<V>,
         block: &NewBlock<'_>,
     ) -> Result<(), Error>
@@ -80,7 +81,7 @@ impl<V: VolumeName, B: Block + Drop> FileCell<V, B> {
         ensures err { OnErr result (pass.new ≡ pass.old) }
         ensures hand { hand.new ≡ hand.old }
         ensures number { self.new.number ≡ self.old.number }
-        ensures error { IfErr result (λ error. (error ≡ NoMemory) ⊎ ((error ≡ NoNode) ⊎ ((error ≡ NoSpace) ⊎ (error ≡ Device)))) }
+        ensures error { IfErr result IsOfPut }
     {
         area.books().compare(&self.account, &pass.account);
         let Some(file) = &mut self.state else {
@@ -130,7 +131,7 @@ impl<V: VolumeName, B: Block + Drop> FileCell<V, B> {
         &mut self,
         rt: &R,
         area: &MainArea<V, B>,
-        hand: &mut Permit,
+        hand: &mut CallAccount,
         pass: &mut FilePass<V>,
         length: u32,
     )
@@ -157,7 +158,7 @@ impl<V: VolumeName, B: Block + Drop> FileCell<V, B> {
         &mut self,
         rt: &R,
         area: &MainArea<V, B>,
-        hand: &mut Permit,
+        hand: &mut CallAccount,
         pass: &mut FilePass<V>,
         from: u32,
         to: u32,

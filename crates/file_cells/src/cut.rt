@@ -2,7 +2,7 @@
 ghost use Rattle.std.specs.Prelude.{◌≡◌, ℕ};
 ghost use Rattle.geometry.specs.declared.owner.Mark.{Mark};
 ghost use Rattle.geometry.specs.File.{cut_to};
-ghost use Rattle.rights_books.specs.declared.claim.Entry.{Entry};
+ghost use Rattle.rights_books.specs.declared.claim.TakenNumber.{TakenNumber};
 ghost use Rattle.geometry.specs.Weights.{weigh};
 ghost use Rattle.nodes.specs.File.{IsBare, file_of};
 ghost use Rattle.nodes.specs.Held.{Others};
@@ -15,7 +15,7 @@ use crate::node::give_node;
 use area::MainArea;
 use device::Block;
 use nodes::{FileState, Spare};
-use rights_books::Permit;
+use rights_books::CallAccount;
 use rights_permits::VolumeName;
 use std::sync::Wait;
 
@@ -24,7 +24,7 @@ use std::sync::Wait;
 pub fn cut_blocks<V: VolumeName, B: Block + Drop, R: Wait>(
     rt: &R,
     area: &MainArea<V, B>,
-    hand: &mut Permit,
+    hand: &mut CallAccount,
     file: &mut FileState<B>,
     length: u32,
 )
@@ -47,12 +47,12 @@ pub fn cut_blocks<V: VolumeName, B: Block + Drop, R: Wait>(
 pub fn give_up<V: VolumeName, B: Block + Drop, R: Wait>(
     rt: &R,
     area: &MainArea<V, B>,
-    hand: &mut Permit,
+    hand: &mut CallAccount,
     file: FileState<B>,
 )
     requires file { CanServe V.Numbers.geometry V.Books.books.book file hand.old }
     ensures tickets { (others : Others) → InHand others file hand.old → (h : Mark → ℕ) → weigh h hand.new.tickets ≡ others.tickets h }
-    ensures tokens { (others : Others) → InHand others file hand.old → (h : Entry → ℕ) → weigh h hand.new.tokens ≡ others.tokens h }
+    ensures tokens { (others : Others) → InHand others file hand.old → (h : TakenNumber → ℕ) → weigh h hand.new.tokens ≡ others.tokens h }
     ensures book { hand.new.book ≡ hand.old.book }
 {
     let mut file = file;

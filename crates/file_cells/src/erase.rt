@@ -13,7 +13,7 @@ use crate::node::give_node;
 use area::MainArea;
 use device::Block;
 use nodes::{FileState, Spare};
-use rights_books::Permit;
+use rights_books::CallAccount;
 use rights_permits::VolumeName;
 use std::sync::Wait;
 
@@ -23,7 +23,7 @@ use std::sync::Wait;
 pub fn erase_blocks<V: VolumeName, B: Block + Drop, R: Wait>(
     rt: &R,
     area: &MainArea<V, B>,
-    hand: &mut Permit,
+    hand: &mut CallAccount,
     file: &mut FileState<B>,
     from: u32,
     to: u32,
@@ -44,7 +44,7 @@ pub fn erase_blocks<V: VolumeName, B: Block + Drop, R: Wait>(
 fn erase_block<V: VolumeName, B: Block + Drop, R: Wait>(
     rt: &R,
     area: &MainArea<V, B>,
-    hand: &mut Permit,
+    hand: &mut CallAccount,
     file: &mut FileState<B>,
     index: u32,
 )

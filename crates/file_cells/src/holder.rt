@@ -14,7 +14,7 @@ use words::Words;
 /// A reader's seat of the words, by the volume's name. To contracts it is the pins that it holds.
 #[derive(Drop)]
 pub(crate) struct Holder<V: VolumeName> {
-    seat: words::Seat,
+    seat: words::SeatToken,
     volume: PhantomData<V>,
 }
 
@@ -32,7 +32,7 @@ impl<V: VolumeName> Model for Holder<V> {
 
 impl<V: VolumeName> Holder<V> {
     // A reader's seat of the words, by the volume's name.
-    pub(crate) fn new(seat: words::Seat) -> Holder<V>
+    pub(crate) fn new(seat: words::SeatToken) -> Holder<V>
         requires { seat.table ≡ V.Words.words }
         ensures { result ≡ seat.pins }
     {

@@ -1,7 +1,7 @@
 //! A call works on a file whose tickets and tokens are lodged in its account: it has them in hand meanwhile, and lodges them
 //! again.
-ghost use Rattle.std.specs.Prelude.{◌≡◌, ◌<◌, ◌⊎◌, Some, length, OnOk, OnErr, IfErr};
-ghost use Rattle.geometry.specs.declared.error.Error.TheVariants.{NoMemory, NoNode, NoSpace, Device};
+ghost use Rattle.std.specs.Prelude.{◌≡◌, ◌<◌, Some, length, OnOk, OnErr, IfErr};
+ghost use Rattle.geometry.specs.Refusals.{IsOfPut};
 ghost use Rattle.geometry.specs.File.{written, cut_to, erased};
 ghost use Rattle.geometry.specs.Path.{largest_length};
 ghost use Rattle.geometry.specs.Shape.{block_bytes};
@@ -16,7 +16,7 @@ use area::MainArea;
 use device::Block;
 use geometry::{Error, Kind, Shape};
 use nodes::FileState;
-use rights_books::{Books, FileAccount, Noted, PassAccount, Permit};
+use rights_books::{Books, CallAccount, FileAccount, Noted, PassAccount};
 use rights_permits::VolumeName;
 use std::alloc::Global;
 use std::sync::Wait;
@@ -64,7 +64,7 @@ pub(crate) fn write_lodged<V: VolumeName, B: Block + Drop, R: Wait>(
     rt: &R,
     alloc: Global,
     area: &MainArea<V, B>,
-    hand: &mut Permit,
+    hand: &mut CallAccount,
     account: &mut FileAccount,
     file: &mut FileState<B>,
     marks: &mut Marks,
@@ -81,7 +81,7 @@ pub(crate) fn write_lodged<V: VolumeName, B: Block + Drop, R: Wait>(
     ensures hand { hand.new ≡ hand.old }
     ensures file { OnOk result (file_of file.new ≡ written (file_of file.old) block.now.index block.now.bytes.now) }
     ensures err { OnErr result (file.new ≡ file.old) }
-    ensures error { IfErr result (λ error. (error ≡ NoMemory) ⊎ ((error ≡ NoNode) ⊎ ((error ≡ NoSpace) ⊎ (error ≡ Device)))) }
+    ensures error { IfErr result IsOfPut }
 {
     let before = *marks;
     let length = file.length().max(block.index.saturating_add(1));
@@ -100,7 +100,7 @@ pub(crate) fn write_lodged<V: VolumeName, B: Block + Drop, R: Wait>(
 pub(crate) fn cut_lodged<V: VolumeName, B: Block + Drop, R: Wait>(
     rt: &R,
     area: &MainArea<V, B>,
-    hand: &mut Permit,
+    hand: &mut CallAccount,
     account: &mut FileAccount,
     file: &mut FileState<B>,
     marks: &mut Marks,
@@ -126,7 +126,7 @@ pub(crate) fn cut_lodged<V: VolumeName, B: Block + Drop, R: Wait>(
 pub(crate) fn erase_lodged<V: VolumeName, B: Block + Drop, R: Wait>(
     rt: &R,
     area: &MainArea<V, B>,
-    hand: &mut Permit,
+    hand: &mut CallAccount,
     account: &mut FileAccount,
     file: &mut FileState<B>,
     marks: &mut Marks,

@@ -1,6 +1,6 @@
 //! At most how many nodes of a file are marked as changed since they were written last.
 //!
-//! It is counted beside the file, for the rule that keeps segments for the next checkpoint: see `area::Threading`. No promise rests on
+//! It is counted beside the file, for the rule that keeps segments for the next checkpoint: see `area::HoleReuse`. No promise rests on
 //! it.
 use area::MarkedNodes;
 use geometry::{Owner, Shape};

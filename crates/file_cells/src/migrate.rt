@@ -1,6 +1,6 @@
 //! A block of the file is moved.
-ghost use Rattle.std.specs.Prelude.{◌≡◌, ◌<◌, ◌⊎◌, length, OnErr, IfOk, IfErr};
-ghost use Rattle.geometry.specs.declared.error.Error.TheVariants.{NoSpace, Device};
+ghost use Rattle.std.specs.Prelude.{◌≡◌, ◌<◌, length, OnErr, IfOk, IfErr};
+ghost use Rattle.geometry.specs.Refusals.{IsOfAppend};
 ghost use Rattle.geometry.specs.Shape.{block_bytes};
 ghost use Rattle.nodes.specs.File.{file_of};
 ghost use Rattle.rights_permits.specs.Turns.{at_home};
@@ -15,7 +15,7 @@ use cleaning::{Fate, migrate};
 use device::Block;
 use geometry::{Error, Mark, Owner};
 use nodes::FileState;
-use rights_books::{FileAccount, Permit};
+use rights_books::{CallAccount, FileAccount};
 use rights_permits::VolumeName;
 use std::sync::Wait;
 
@@ -28,7 +28,7 @@ impl<V: VolumeName, B: Block + Drop> FileCell<V, B> {
         &mut self,
         rt: &R,
         area: &MainArea<V, B>,
-        hand: &mut Permit,
+        hand: &mut CallAccount,
         address: u32,
         owner: Owner,
         now: u64,
@@ -43,7 +43,7 @@ impl<V: VolumeName, B: Block + Drop> FileCell<V, B> {
         ensures err { OnErr result (KeepsLodged self.old.account self.new.account) }
         ensures hand { hand.new ≡ hand.old }
         ensures number { self.new.number ≡ self.old.number }
-        ensures error { IfErr result (λ error. (error ≡ Device) ⊎ (error ≡ NoSpace)) }
+        ensures error { IfErr result IsOfAppend }
     {
         let Some(file) = &mut self.state else {
             return Ok(Fate::Gone);
@@ -64,7 +64,7 @@ impl<V: VolumeName, B: Block + Drop> FileCell<V, B> {
 fn migrate_lodged<V: VolumeName, B: Block + Drop, R: Wait>(
     rt: &R,
     area: &MainArea<V, B>,
-    hand: &mut Permit,
+    hand: &mut CallAccount,
     account: &mut FileAccount,
     file: &mut FileState<B>,
     mark: Mark,
@@ -84,7 +84,7 @@ fn migrate_lodged<V: VolumeName, B: Block + Drop, R: Wait>(
     ensures moved { IfOk result (λ fate. fate ≡ Moved → HasMovedLodged mark.address mark.owner account.old account.new) }
     ensures gone { IfOk result (λ fate. fate ≡ Gone → KeepsLodged account.old account.new) }
     ensures err { OnErr result (KeepsLodged account.old account.new) }
-    ensures error { IfErr result (λ error. (error ≡ Device) ⊎ (error ≡ NoSpace)) }
+    ensures error { IfErr result IsOfAppend }
 {
     area.books().unlodge_all(account, hand);
     let done = migrate(rt, area, hand, file, mark.address, mark.owner, now, bytes);

@@ -7,7 +7,7 @@ ghost use Rattle.nodes_law.specs.Law.{ragged};
 
 use area::MainArea;
 use device::Block;
-use rights_books::Permit;
+use rights_books::CallAccount;
 use rights_permits::VolumeName;
 use std::sync::Wait;
 use tickets::NidToken;
@@ -16,7 +16,7 @@ use tickets::NidToken;
 pub fn give_node<V: VolumeName, B: Block + Drop, R: Wait>(
     rt: &R,
     area: &MainArea<V, B>,
-    hand: &mut Permit,
+    hand: &mut CallAccount,
     token: NidToken,
 )
     requires book { hand.old.book ≡ V.Books.books.book }

@@ -2,7 +2,7 @@
 ghost use Rattle.std.specs.Prelude.{◌≡◌, ℕ, ◌+◌, ◌<◌, ◌≤◌, ◌⊎◌, Some, OnOk, IfErr};
 ghost use Rattle.geometry.specs.Weights.{weigh};
 ghost use Rattle.rights_books.specs.Accounts.{HandView};
-ghost use Rattle.rights_books.specs.declared.claim.Entry.{Entry};
+ghost use Rattle.rights_books.specs.declared.claim.TakenNumber.{TakenNumber};
 ghost use Rattle.geometry.specs.declared.error.Error.TheVariants.{NoMemory, NoNode};
 ghost use Rattle.geometry.specs.Path.{largest_length};
 ghost use Rattle.geometry.specs.Shape.{block_bytes};
@@ -20,7 +20,7 @@ use area::MainArea;
 use device::Block;
 use geometry::Error;
 use nodes::{FileState, SparePath};
-use rights_books::Permit;
+use rights_books::CallAccount;
 use rights_permits::VolumeName;
 use std::alloc::Global;
 use std::sync::Wait;
@@ -31,7 +31,7 @@ pub(crate) fn prepare_path<V: VolumeName, B: Block + Drop, R: Wait>(
     rt: &R,
     alloc: Global,
     area: &MainArea<V, B>,
-    hand: &mut Permit,
+    hand: &mut CallAccount,
     file: &FileState<B>,
     spares: &mut SparePath<B>,
     index: u32,
@@ -80,14 +80,14 @@ pub(crate) fn plant_path<B: Block>(file: &mut FileState<B>, spares: &mut SparePa
 pub(crate) fn give_back<V: VolumeName, B: Block + Drop, R: Wait>(
     rt: &R,
     area: &MainArea<V, B>,
-    hand: &mut Permit,
+    hand: &mut CallAccount,
     spares: SparePath<B>,
 )
     requires book { hand.old.book ≡ V.Books.books.book }
     requires empty { (e : ℕ) × AreEmptyNodes e spares }
     requires whole { spare_tokens (ragged (block_bytes V.Numbers.geometry.shape)) spares ≡ 0 }
-    requires held { (h : Entry → ℕ) → spare_tokens h spares ≤ weigh h hand.old.tokens }
-    ensures tokens { (h : Entry → ℕ) → weigh h hand.new.tokens + spare_tokens h spares ≡ weigh h hand.old.tokens }
+    requires held { (h : TakenNumber → ℕ) → spare_tokens h spares ≤ weigh h hand.old.tokens }
+    ensures tokens { (h : TakenNumber → ℕ) → weigh h hand.new.tokens + spare_tokens h spares ≡ weigh h hand.old.tokens }
     ensures tickets { hand.new.tickets ≡ hand.old.tickets }
     ensures book { hand.new.book ≡ hand.old.book }
 {

@@ -9,9 +9,7 @@ use geometry::Error;
 use rights_permits::VolumeName;
 use std::alloc::Global;
 use std::marker::Model;
-
-/// How many seats a volume has.
-const SEATS: usize = 64;
+use words::SEATS;
 
 /// The right to hold one snapshot of the volume of this name, which has 64. It holds no pin: while a snapshot is held, its
 /// seat lies in the snapshot. To contracts it is what a reader's seat of the words is. Closing the volume asks for all of
@@ -35,7 +33,7 @@ impl<V: VolumeName> Model for Seat<V> {
 
 impl<V: VolumeName> Seat<V> {
     /// A reader's seat of the words that holds no pin, by the volume's name.
-    pub fn new(seat: words::Seat) -> Seat<V>
+    pub fn new(seat: words::SeatToken) -> Seat<V>
         requires table { seat.table ≡ V.Words.words }
         requires none { seat.pins.held ≡ [] }
         ensures { result ≡ seat.pins }
@@ -49,7 +47,7 @@ impl<V: VolumeName> Seat<V> {
 /// The seats that the words deal, by the volume's name. The only error is NoMemory.
 pub fn name_seats<V: VolumeName>(
     alloc: Global,
-    seats: Vec<words::Seat>,
+    seats: Vec<words::SeatToken>,
 ) -> Result<Vec<Seat<V>>, Error>
     requires { seats.items ≡ replicate (vec_len seats) (fresh_holder V.Words.words) }
     ensures seats { IfOk result (λ named. named.items ≡ replicate (vec_len seats) fresh_pins) }
@@ -68,5 +66,5 @@ pub fn name_seats<V: VolumeName>(
 pub fn seats_out<V: VolumeName>(seats: &[Seat<V>]) -> u32
     ensures { result ≡ 64 - length seats.now }
 {
-    SEATS.saturating_sub(seats.len()) as u32
+    (SEATS as usize).saturating_sub(seats.len()) as u32
 }

@@ -1,6 +1,6 @@
 //! A snapshot of the file in its lock.
-ghost use Rattle.std.specs.Prelude.{◌≡◌, ◌⊎◌, IfOk, IfErr};
-ghost use Rattle.geometry.specs.declared.error.Error.TheVariants.{NoMemory, Device};
+ghost use Rattle.std.specs.Prelude.{◌≡◌, IfOk, IfErr};
+ghost use Rattle.geometry.specs.Refusals.{IsOfRead};
 ghost use Rattle.file_cells.specs.Reader.{IsPinned};
 
 use crate::cell::FileCell;
@@ -31,7 +31,7 @@ impl<V: VolumeName, B: Block + Drop> FileCell<V, B> {
         ensures file { IfOk result (λ reader. reader.file ≡ pass.now.file) }
         ensures pins { IfOk result (λ reader. IsPinned reader) }
         ensures seat { IfErr result (λ refused. refused.0 ≡ seat) }
-        ensures error { IfErr result (λ refused. (refused.1 ≡ NoMemory) ⊎ (refused.1 ≡ Device)) }
+        ensures error { IfErr result (λ refused. IsOfRead refused.1) }
         ensures same { self.new ≡ self.old }
     {
         area.books().compare(&self.account, &pass.account);

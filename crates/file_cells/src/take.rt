@@ -1,6 +1,6 @@
 //! How a snapshot is taken, with the file's lock held.
-ghost use Rattle.std.specs.Prelude.{◌≡◌, ◌≤◌, ◌<◌, ◌⊎◌, [], ℕ, length, vec_len, Some, IfOk, IfErr};
-ghost use Rattle.geometry.specs.declared.error.Error.TheVariants.{NoMemory, Device};
+ghost use Rattle.std.specs.Prelude.{◌≡◌, ◌≤◌, ◌<◌, [], ℕ, length, vec_len, Some, IfOk, IfErr};
+ghost use Rattle.geometry.specs.Refusals.{IsOfRead};
 ghost use Rattle.geometry.specs.Path.{largest_length};
 ghost use Rattle.geometry.specs.Shape.{block_bytes};
 ghost use Rattle.geometry.specs.Address.{segment_of};
@@ -52,7 +52,7 @@ pub fn take_reader<'a, V: VolumeName, B: Block + Drop, R: Wait>(
     ensures segments { IfOk result (λ reader. reader.segments ≡ segments_of file.old) }
     ensures pins { IfOk result (λ reader. IsPinned reader) }
     ensures seat { IfErr result (λ refused. refused.0 ≡ seat) }
-    ensures error { IfErr result (λ refused. (refused.1 ≡ NoMemory) ⊎ (refused.1 ≡ Device)) }
+    ensures error { IfErr result (λ refused. IsOfRead refused.1) }
     ensures same { (file.new ≡ file.old) × (account.new ≡ account.old) }
 {
     match prepare(alloc, area, file, account) {
@@ -103,7 +103,7 @@ fn prepare<V: VolumeName, B: Block + Drop>(
     ensures sized { IfOk result (λ made. length made.noted.items ≡ V.Numbers.geometry.segments) }
     ensures covered { IfOk result (λ made. AreCovered made.noted.items file.old) }
     ensures occupied { IfOk result (λ made. AreOccupied V.Numbers.geometry.shape made.noted.items account.old.tickets) }
-    ensures error { IfErr result (λ error. (error ≡ NoMemory) ⊎ (error ≡ Device)) }
+    ensures error { IfErr result IsOfRead }
     ensures same { (file.new ≡ file.old) × (account.new ≡ account.old) }
 {
     let segments = area.geometry().segments as usize;

@@ -1,6 +1,6 @@
 //! One block of a file is written.
-ghost use Rattle.std.specs.Prelude.{◌≡◌, ◌<◌, ◌⊎◌, ◌∷◌, ℕ, Some, length, OnOk, OnErr, IfErr};
-ghost use Rattle.geometry.specs.declared.error.Error.TheVariants.{NoMemory, NoNode, NoSpace, Device};
+ghost use Rattle.std.specs.Prelude.{◌≡◌, ◌<◌, ◌∷◌, ℕ, Some, length, OnOk, OnErr, IfErr};
+ghost use Rattle.geometry.specs.Refusals.{IsOfAppend, IsOfPut};
 ghost use Rattle.geometry.specs.File.{written};
 ghost use Rattle.geometry.specs.Path.{path, largest_length};
 ghost use Rattle.geometry.specs.Owner.{IsOwner};
@@ -20,7 +20,7 @@ use area::{MainArea, Who, log_for};
 use device::Block;
 use geometry::{Class, Error, Owner};
 use nodes::{FileState, SparePath};
-use rights_books::Permit;
+use rights_books::CallAccount;
 use rights_permits::VolumeName;
 use std::alloc::Global;
 use std::sync::Wait;
@@ -44,7 +44,7 @@ pub fn write_block<V: VolumeName, B: Block + Drop, R: Wait>(
     rt: &R,
     alloc: Global,
     area: &MainArea<V, B>,
-    hand: &mut Permit,
+    hand: &mut CallAccount,
     file: &mut FileState<B>,
     block: &NewBlock<'_>,
 ) -> Result<(), Error>
@@ -60,7 +60,7 @@ pub fn write_block<V: VolumeName, B: Block + Drop, R: Wait>(
     ensures file { OnOk result (file_of file.new ≡ written (file_of file.old) block.now.index block.now.bytes.now) }
     ensures useful { IsUseful each_node file.old → IsUseful each_node file.new }
     ensures err { OnErr result (file.new ≡ file.old) }
-    ensures error { IfErr result (λ error. (error ≡ NoMemory) ⊎ ((error ≡ NoNode) ⊎ ((error ≡ NoSpace) ⊎ (error ≡ Device)))) }
+    ensures error { IfErr result IsOfPut }
 {
     if let Some(owner) = file.owner(block.index) {
         return append_over(rt, area, hand, file, owner, block);
@@ -76,7 +76,7 @@ fn write_with<V: VolumeName, B: Block + Drop, R: Wait>(
     rt: &R,
     alloc: Global,
     area: &MainArea<V, B>,
-    hand: &mut Permit,
+    hand: &mut CallAccount,
     file: &mut FileState<B>,
     spares: &mut SparePath<B>,
     block: &NewBlock<'_>,
@@ -87,7 +87,7 @@ fn write_with<V: VolumeName, B: Block + Drop, R: Wait>(
     ensures file { OnOk result (file_of file.new ≡ written (file_of file.old) block.now.index block.now.bytes.now) }
     ensures useful { IsUseful each_node file.old → IsUseful each_node file.new }
     ensures err { OnErr result (file.new ≡ file.old) }
-    ensures error { IfErr result (λ error. (error ≡ NoMemory) ⊎ ((error ≡ NoNode) ⊎ ((error ≡ NoSpace) ⊎ (error ≡ Device)))) }
+    ensures error { IfErr result IsOfPut }
 {
     prepare_path(rt, alloc, area, hand, file, spares, block.index)?;
     append_at(rt, area, hand, file, spares, block)
@@ -97,7 +97,7 @@ fn write_with<V: VolumeName, B: Block + Drop, R: Wait>(
 fn append_at<V: VolumeName, B: Block + Drop, R: Wait>(
     rt: &R,
     area: &MainArea<V, B>,
-    hand: &mut Permit,
+    hand: &mut CallAccount,
     file: &mut FileState<B>,
     spares: &mut SparePath<B>,
     block: &NewBlock<'_>,
@@ -109,7 +109,7 @@ fn append_at<V: VolumeName, B: Block + Drop, R: Wait>(
     ensures file { OnOk result (file_of file.new ≡ written (file_of file.old) block.now.index block.now.bytes.now) }
     ensures useful { IsUseful each_node file.old → IsUseful each_node file.new }
     ensures err { OnErr result (file.new ≡ file.old) }
-    ensures error { IfErr result (λ error. (error ≡ Device) ⊎ (error ≡ NoSpace)) }
+    ensures error { IfErr result IsOfAppend }
 {
     let owner = file.owner_with(block.index, spares);
     let log = log_for(file.kind(), Class::Data, false);
@@ -123,7 +123,7 @@ fn append_at<V: VolumeName, B: Block + Drop, R: Wait>(
 fn append_over<V: VolumeName, B: Block + Drop, R: Wait>(
     rt: &R,
     area: &MainArea<V, B>,
-    hand: &mut Permit,
+    hand: &mut CallAccount,
     file: &mut FileState<B>,
     owner: Owner,
     block: &NewBlock<'_>,
@@ -141,7 +141,7 @@ fn append_over<V: VolumeName, B: Block + Drop, R: Wait>(
     ensures file { OnOk result (file_of file.new ≡ written (file_of file.old) block.now.index block.now.bytes.now) }
     ensures useful { IsUseful each_node file.old → IsUseful each_node file.new }
     ensures err { OnErr result (file.new ≡ file.old) }
-    ensures error { IfErr result (λ error. (error ≡ Device) ⊎ (error ≡ NoSpace)) }
+    ensures error { IfErr result IsOfAppend }
 {
     let log = log_for(file.kind(), Class::Data, false);
     let ticket = area.append(rt, hand, log, owner, block.time, block.bytes, Who::Ordinary)?;
@@ -153,7 +153,7 @@ fn append_over<V: VolumeName, B: Block + Drop, R: Wait>(
 fn put_ticket<V: VolumeName, B: Block + Drop, R: Wait>(
     rt: &R,
     area: &MainArea<V, B>,
-    hand: &mut Permit,
+    hand: &mut CallAccount,
     file: &mut FileState<B>,
     index: u32,
     ticket: Ticket<B>,

@@ -1,7 +1,7 @@
 //! A count of failures in two bytes.
 ghost use Rattle.std.specs.Prelude.{◌≡◌, ◌+◌, ◌-◌, ◌^◌, ◌<◌, min};
 
-use device::log::Log;
+use device::log::History;
 use std::marker::Model;
 
 /// How often a block has failed; to contracts it is that number, which has no upper end. It takes two bytes.
@@ -11,7 +11,7 @@ use std::marker::Model;
 #[derive(Drop)]
 pub struct FewFailures {
     told: u16,
-    past: Log<(), ()>,
+    past: History<(), ()>,
 }
 
 impl Model for FewFailures {
@@ -29,7 +29,7 @@ impl FewFailures {
     {
         FewFailures {
             told: 0,
-            past: Log::new(),
+            past: History::new(),
         }
     }
 

@@ -2,7 +2,7 @@
 ghost use Rattle.std.specs.Prelude.{◌≡◌, ◌+◌, ◌≤◌, length, true, false};
 ghost use Rattle.device.specs.Disk.{Elapses, Follows, Holds, IsQuiet, Only, Torn};
 
-use crate::store::{Settled, Written};
+use crate::store::{Settled, StoredRange};
 use device::{MemMeta, Meta};
 
 /// What the meta area holds that stands at the front of the file.
@@ -16,7 +16,7 @@ pub struct KeptArea {
 
 impl KeptArea {
     /// The area holds what was written there.
-    pub(crate) fn take(&mut self, written: Written<'_>)
+    pub(crate) fn take(&mut self, written: StoredRange<'_>)
         requires { written.at + length written.bytes.now ≤ length (⟦<MemMeta as Meta>⟧.seen self.old.area) }
         ensures lost { self.new.lost ≡ self.old.lost }
         ensures written { Holds (⟦<MemMeta as Meta>⟧.seen self.old.area) written.entry.at written.entry.bytes.now (⟦<MemMeta as Meta>⟧.seen self.new.area) }

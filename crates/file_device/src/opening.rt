@@ -11,7 +11,7 @@ ghost use Rattle.geometry.specs.Shape.{block_bytes};
 use crate::block::FileBlock;
 use crate::fault::FileFault;
 use crate::held::Held;
-use crate::kept::{Kept, Site};
+use crate::kept::{SharedBytes, Site};
 use crate::meta::FileMeta;
 use crate::runs::Run;
 use crate::store::{Asked, Settled};
@@ -56,7 +56,7 @@ fn open_blocks(
 {
     let count = site.geometry.blocks();
     let mut blocks = Vec::with_capacity(alloc, count as usize)?;
-    let zeros = Kept::new(site, Held::Zeros, Vec::new(alloc))?;
+    let zeros = SharedBytes::new(site, Held::Zeros, Vec::new(alloc))?;
     let mut run = Run::none(alloc, site)?;
     for place in 0..count {
         blocks.push(open_block(alloc, site, named, place, &zeros, &mut run)?)?;
@@ -70,7 +70,7 @@ fn open_block(
     site: &Arc<Site<File>>,
     named: &[bool],
     place: u32,
-    zeros: &Arc<Kept<File>>,
+    zeros: &Arc<SharedBytes<File>>,
     run: &mut Run,
 ) -> Result<FileBlock<File>, FileFault>
     requires named { length named.now ≡ block_count (arc_value site.now).geometry }

@@ -8,7 +8,7 @@ ghost use Rattle.geometry.specs.Shape.{block_bytes};
 
 use crate::fault::FileFault;
 use crate::held::Held;
-use crate::kept::{Kept, Site};
+use crate::kept::{SharedBytes, Site};
 use crate::reading::fault_of;
 use crate::whole::place_of;
 use geometry::Error;
@@ -23,7 +23,7 @@ const MOST_BYTES: u32 = 131_072;
 /// Neighbouring blocks that were read in one call: so many, from a place on.
 #[derive(Drop)]
 pub(crate) struct Run {
-    kept: Arc<Kept<File>>,
+    kept: Arc<SharedBytes<File>>,
     first: u32,
     count: u32,
     ghost begins: { (arc_value kept).held ≡ From (first + 1) },
@@ -35,7 +35,7 @@ impl Run {
     pub(crate) fn none(alloc: Global, site: &Arc<Site<File>>) -> Result<Run, AllocError>
         ensures { IfOk result (λ run. geometry_of (arc_value run.kept) ≡ (arc_value site.now).geometry) }
     {
-        let kept = Kept::new(site, Held::From(1), Vec::new(alloc))?;
+        let kept = SharedBytes::new(site, Held::From(1), Vec::new(alloc))?;
         Ok(Run {
             kept,
             first: 0,
@@ -44,7 +44,7 @@ impl Run {
     }
 
     /// What the block at a place holds, which the run has.
-    pub(crate) fn block(&self, place: u32) -> Result<Arc<Kept<File>>, AllocError>
+    pub(crate) fn block(&self, place: u32) -> Result<Arc<SharedBytes<File>>, AllocError>
         requires from { self.now.first ≤ place }
         requires below { place < self.now.first + self.now.count }
         ensures numbers { IfOk result (λ kept. geometry_of (arc_value kept) ≡ geometry_of (arc_value self.now.kept)) }
@@ -97,7 +97,7 @@ fn read_run(
     let at = place_of(&site.geometry, place + 1);
     match site.store.store.read_exact_at(bytes.as_mut_slice(), at) {
         Ok(()) => Ok(Run {
-            kept: Kept::new(site, Held::From(place + 1), bytes)?,
+            kept: SharedBytes::new(site, Held::From(place + 1), bytes)?,
             first: place,
             count,
         }),

@@ -9,7 +9,7 @@ ghost use Rattle.geometry.specs.Shape.{block_bytes};
 
 use crate::block::FileBlock;
 use crate::held::Held;
-use crate::kept::{Kept, Site};
+use crate::kept::{SharedBytes, Site};
 use crate::meta::FileMeta;
 use crate::store::{Asked, Settled, Store};
 use device::{Block, MemBlock, MemDevice, MemMeta, Meta, Parts};
@@ -79,7 +79,7 @@ fn keep<S: Store + Drop>(
 {
     let address = block.address();
     let bytes = Vec::from_slice(alloc, block.as_slice())?;
-    let kept = Kept::new(site, Held::From(address), bytes)?;
+    let kept = SharedBytes::new(site, Held::From(address), bytes)?;
     Ok(FileBlock::of(address, kept))
 }
 

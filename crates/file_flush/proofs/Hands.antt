@@ -6,7 +6,7 @@ use Rattle.std.proofs.lemmas.List.{get_or_default}
 use Rattle.geometry.specs.Weights.{weigh}
 use Rattle.geometry.specs.declared.owner.Mark.{Mark}
 use Rattle.geometry.specs.Mark.{same_mark}
-use Rattle.rights_books.specs.declared.claim.Entry.{Entry}
+use Rattle.rights_books.specs.declared.claim.TakenNumber.{TakenNumber}
 use Rattle.rights_books.specs.Accounts.{HandView}
 use Rattle.rights_books.specs.Lists.{times, without}
 use Rattle.rights_books.specs.Rules.{with_lodged}
@@ -24,19 +24,19 @@ abbrev none_placed : Option Placed
 none_placed = None
 
 -- the ticket of the block before it goes back
-went : (b : Bool) (e : Entry) (ts : List Mark) (before : Placed) → Some before ≡ (if b then None else Some (record { mark = mark_of e; content = e.bytes }))
+went : (b : Bool) (e : TakenNumber) (ts : List Mark) (before : Placed) → Some before ≡ (if b then None else Some (record { mark = mark_of e; content = e.bytes }))
     → without same_mark before.mark (if b then ts else mark_of e ∷ ts) ≡ ts
 went true e ts before is = absurd (cc)
 went false e ts before is =
     let one : before ≡ record { mark = mark_of e; content = e.bytes } = cc in
     ap (λ (p : Placed). without same_mark p.mark (mark_of e ∷ ts)) one ∙ without_mark_first (mark_of e) ts
 
-none_went : (b : Bool) (e : Entry) (ts : List Mark) → none_placed ≡ (if b then None else Some (record { mark = mark_of e; content = e.bytes }))
+none_went : (b : Bool) (e : TakenNumber) (ts : List Mark) → none_placed ≡ (if b then None else Some (record { mark = mark_of e; content = e.bytes }))
     → (if b then ts else mark_of e ∷ ts) ≡ ts
 none_went true e ts is = refl
 none_went false e ts is = absurd (cc)
 
-module _ (start one two : HandView) (m : Mark) (old new : Entry) (there : 0 < times same_entry old start.tokens)
+module _ (start one two : HandView) (m : Mark) (old new : TakenNumber) (there : 0 < times same_entry old start.tokens)
     (appended : one ≡ record start { tickets = m ∷ start.tickets })
     (swapped : two ≡ record one { tickets = with_lodged old (without same_mark m one.tickets); tokens = new ∷ without same_entry old one.tokens }) where
   lodged : two.tickets ≡ with_lodged old start.tickets
@@ -44,7 +44,7 @@ module _ (start one two : HandView) (m : Mark) (old new : Entry) (there : 0 < ti
       ap (λ (h : HandView). h.tickets) swapped
       ∙ (ap (λ (h : HandView). with_lodged old (without same_mark m h.tickets)) appended ∙ ap (with_lodged old) (without_mark_first m start.tickets))
 
-  exchanged : (h : Entry → ℕ) → weigh h two.tokens + h old ≡ weigh h start.tokens + h new
+  exchanged : (h : TakenNumber → ℕ) → weigh h two.tokens + h old ≡ weigh h start.tokens + h new
   exchanged h =
       let all : weigh h two.tokens ≡ h new + weigh h (without same_entry old start.tokens)
       = ap (λ (k : HandView). weigh h k.tokens) swapped ∙ ap (λ (k : HandView). h new + weigh h (without same_entry old k.tokens)) appended in

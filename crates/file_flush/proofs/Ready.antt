@@ -9,7 +9,7 @@ use Rattle.geometry.specs.Shape.{block_bytes}
 use Rattle.geometry.specs.Path.{node_entries}
 use Rattle.image_law.specs.Items.{Among}
 use Rattle.image_law.proofs.Weighing.{among_split}
-use Rattle.rights_books.specs.declared.claim.Entry.{Entry}
+use Rattle.rights_books.specs.declared.claim.TakenNumber.{TakenNumber}
 use Rattle.rights_books.specs.Accounts.{HandView}
 use Rattle.tickets.specs.Placed.{Placed}
 use Rattle.nodes.specs.declared.branch.Branch.{Branch}
@@ -40,11 +40,11 @@ module _ (shape : Shape) where
   abbrev Fits : TreeNode → Type 0
   Fits n = (inode : ℕ) → 1 ≤ inode → 1 ≤ n.token.number → IsWritable shape inode n
 
-  leaf_fits : (token : Entry) (numbers : List ℕ) (dirty : Bool) → length numbers ≡ node_entries shape → Fits (tree_node true token numbers dirty)
+  leaf_fits : (token : TakenNumber) (numbers : List ℕ) (dirty : Bool) → length numbers ≡ node_entries shape → Fits (tree_node true token numbers dirty)
   leaf_fits token numbers dirty long inode some nid =
       record { inode_is = some; nid = nid; class = omega arith; entries = (long, refl); plain = inr (refl, refl) }
 
-  inner_fits : (token : Entry) (numbers : List ℕ) (dirty : Bool) → length numbers ≡ node_entries shape → Fits (tree_node false token numbers dirty)
+  inner_fits : (token : TakenNumber) (numbers : List ℕ) (dirty : Bool) → length numbers ≡ node_entries shape → Fits (tree_node false token numbers dirty)
   inner_fits token numbers dirty long inode some nid =
       record { inode_is = some; nid = nid; class = omega arith; entries = (refl, long); plain = inr (refl, refl) }
 
@@ -66,7 +66,7 @@ module _ (shape : Shape) where
       subst Fits e (inner_fits b.token (map nid_of b.entries.slots.items) b.entries.dirty (length-map b.entries.slots.items nid_of ∙ shaped.0.0))
   double_fit (Some b) shaped n (inr m) = each_slot Fits (shaped_indirect (node_entries shape)) indirect_nodes indirect_fit b.entries.slots.items shaped.0.1 n m
 
-numbered_one : (e : Entry) → unnumbered e ≡ 0 → 1 ≤ e.number
+numbered_one : (e : TakenNumber) → unnumbered e ≡ 0 → 1 ≤ e.number
 numbered_one e none = go e.number none
   where
     go : (n : ℕ) → ◌≡◌ {A = ℕ} (if n == 0 then 1 else 0) 0 → 1 ≤ n

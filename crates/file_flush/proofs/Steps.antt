@@ -6,7 +6,7 @@ use Rattle.geometry.specs.declared.geometry.Geometry.{Geometry}
 use Rattle.geometry.specs.declared.shape.Shape.{Shape}
 use Rattle.geometry.specs.Shape.{block_bytes}
 use Rattle.image_codec.proofs.SpellingLemmas.{length-node_bytes}
-use Rattle.rights_books.specs.declared.claim.Entry.{Entry}
+use Rattle.rights_books.specs.declared.claim.TakenNumber.{TakenNumber}
 use Rattle.rights_books.specs.Accounts.{HandView}
 use Rattle.tickets.specs.Placed.{Placed}
 use Rattle.nodes.specs.Change.{TreeNode, of_tickets, of_tokens, unnumbered}
@@ -28,7 +28,7 @@ use Rattle.file_flush.specs.Written.{HasSwapped, IsWrittenTo}
 use Rattle.file_flush.specs.Flushed.{CanFlush, HasFlushed}
 use Rattle.file_flush.proofs.Ready.{nodes_among}
 
-whole_spelled : (shape : Shape) (inode : ℕ) (n : TreeNode) (token : Entry) → IsSpelled shape inode (rewritten token n) → ragged (block_bytes shape) token ≡ 0
+whole_spelled : (shape : Shape) (inode : ℕ) (n : TreeNode) (token : TakenNumber) → IsSpelled shape inode (rewritten token n) → ragged (block_bytes shape) token ≡ 0
 whole_spelled shape inode n token spelled =
     let long : length token.bytes ≡ block_bytes shape = ap length spelled.1.1 ∙ length-node_bytes shape (node_in inode (rewritten token n)) spelled.1.0 in
     ap (λ (b : Bool). if (token.address == 0) || b then 0 else 1) (eq-eqb (length token.bytes) (block_bytes shape) long) ∙ by_bit (token.address == 0)
@@ -51,14 +51,14 @@ module _ {B L : Type 0} (files : ℕ) (f : FileState B L) (is : IsFile f) (numbe
   }
 
 module _ {B L : Type 0} (files : ℕ) (first old new : FileState B L) (start before after : HandView) (so_far : HasFlushed files first old start before)
-    (n : TreeNode) (token : Entry) (one : WritesOne (weight_of old) (weight_of new) n token) (swapped : HasSwapped before after n.token token)
+    (n : TreeNode) (token : TakenNumber) (one : WritesOne (weight_of old) (weight_of new) n token) (swapped : HasSwapped before after n.token token)
     (written : IsWrittenTo old.shape old.token.number n token)
     (kept : KeepsFile old new) where
   old_is : IsFile old
   old_is = so_far.kept.file
 
   -- what weighs a token by its number and its inode alone
-  even : (h : Entry → ℕ) → h token ≡ h n.token → weight_of new (of_tokens h) ≡ weight_of old (of_tokens h)
+  even : (h : TakenNumber → ℕ) → h token ≡ h n.token → weight_of new (of_tokens h) ≡ weight_of old (of_tokens h)
   even h e = let all = one.trades (of_tokens h) in omega arith
 
   strange_same : (inode : ℕ) → strange files inode token ≡ strange files inode n.token

@@ -3,7 +3,7 @@ use Rattle.std.specs.Prelude.{◌≡◌, ◌≤◌, ℕ, ◌+◌}
 use Rattle.atomic_table.specs.Seated.{TableId}
 use Rattle.geometry.specs.declared.geometry.Geometry.{Geometry}
 use Rattle.geometry.specs.Weights.{weigh, SameItems}
-use Rattle.rights_books.specs.declared.claim.Entry.{Entry}
+use Rattle.rights_books.specs.declared.claim.TakenNumber.{TakenNumber}
 use Rattle.rights_books.specs.Accounts.{HandView}
 use Rattle.tickets.specs.Placed.{Placed}
 use Rattle.nodes.specs.Change.{of_tickets, of_tokens, each_marked}
@@ -33,4 +33,4 @@ pub record HasFlushed {B L : Type 0} (files : ℕ) (old new : FileState B L) (be
   pub tickets : (h : Placed → ℕ) → weight_of new (of_tickets h) ≡ weight_of old (of_tickets h)
   pub book : after.book ≡ before.book
   pub hand_tickets : SameItems after.tickets before.tickets
-  pub hand_tokens : (h : Entry → ℕ) → weigh h after.tokens + weight_of old (of_tokens h) ≡ weigh h before.tokens + weight_of new (of_tokens h)
+  pub hand_tokens : (h : TakenNumber → ℕ) → weigh h after.tokens + weight_of old (of_tokens h) ≡ weigh h before.tokens + weight_of new (of_tokens h)

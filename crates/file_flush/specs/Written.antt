@@ -6,7 +6,7 @@ use Rattle.geometry.specs.declared.shape.Shape.{Shape}
 use Rattle.geometry.specs.declared.kind.Kind.TheVariants.{File}
 use Rattle.geometry.specs.Shape.{block_bytes}
 use Rattle.image.specs.Node.{HasEntries}
-use Rattle.rights_books.specs.declared.claim.Entry.{Entry}
+use Rattle.rights_books.specs.declared.claim.TakenNumber.{TakenNumber}
 use Rattle.rights_books.specs.Accounts.{HandView}
 use Rattle.rights_books.specs.Lists.{times}
 use Rattle.rights_books.specs.Sameness.{same_entry}
@@ -24,19 +24,19 @@ pub record IsWritable (shape : Shape) (inode : ℕ) (n : TreeNode) : Type 0 wher
   pub plain : (n.class ≡ 0) ⊎ ((n.length ≡ 0) × (n.kind ≡ File))
 
 -- its token is in hand, and its block before was whole
-pub record IsInHand (shape : Shape) (book : TableId) (hand : HandView) (token : Entry) : Type 0 where
+pub record IsInHand (shape : Shape) (book : TableId) (hand : HandView) (token : TakenNumber) : Type 0 where
   pub book_is : hand.book ≡ book
   pub there : 0 < times same_entry token hand.tokens
   pub whole : ragged (block_bytes shape) token ≡ 0
 
 -- the tickets in hand are as they were, and of the tokens one is another
-pub record HasSwapped (before after : HandView) (old new : Entry) : Type 0 where
+pub record HasSwapped (before after : HandView) (old new : TakenNumber) : Type 0 where
   pub book : after.book ≡ before.book
   pub tickets : SameItems after.tickets before.tickets
-  pub tokens : (h : Entry → ℕ) → weigh h after.tokens + h old ≡ weigh h before.tokens + h new
+  pub tokens : (h : TakenNumber → ℕ) → weigh h after.tokens + h old ≡ weigh h before.tokens + h new
 
 -- the node has a block that spells it, and is of the file that it was of
-pub record IsWrittenTo (shape : Shape) (inode : ℕ) (n : TreeNode) (token : Entry) : Type 0 where
+pub record IsWrittenTo (shape : Shape) (inode : ℕ) (n : TreeNode) (token : TakenNumber) : Type 0 where
   pub number : token.number ≡ n.token.number
   pub inode_is : token.inode ≡ n.token.inode
   pub spelled : IsSpelled shape inode (rewritten token n)

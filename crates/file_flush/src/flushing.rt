@@ -1,9 +1,9 @@
 //! All marked nodes of a file are written.
-ghost use Rattle.std.specs.Prelude.{◌≡◌, ◌≤◌, ◌⊎◌, true, false, length, OnOk, OnErr, IfOk, IfErr};
-ghost use Rattle.geometry.specs.declared.error.Error.TheVariants.{Device, NoSpace};
+ghost use Rattle.std.specs.Prelude.{◌≡◌, ◌≤◌, true, false, length, OnOk, OnErr, IfOk, IfErr};
+ghost use Rattle.geometry.specs.Refusals.{IsOfAppend};
 ghost use Rattle.geometry.specs.Path.{node_entries};
 ghost use Rattle.geometry.specs.Shape.{block_bytes};
-ghost use Rattle.rights_books.specs.declared.claim.Entry.{Entry};
+ghost use Rattle.rights_books.specs.declared.claim.TakenNumber.{TakenNumber};
 ghost use Rattle.nodes.specs.Change.{TreeNode, each_marked};
 ghost use Rattle.nodes_walks.specs.Writing.{WritesOne};
 ghost use Rattle.nodes.specs.File.{IsFile, weight_of, file_of};
@@ -22,7 +22,7 @@ use device::Block;
 use geometry::Error;
 use nodes::FileState;
 use nodes_walks::flush_next;
-use rights_books::Permit;
+use rights_books::CallAccount;
 use rights_permits::VolumeName;
 use std::sync::Wait;
 
@@ -34,7 +34,7 @@ use std::sync::Wait;
 pub fn flush_file<R: Wait, V: VolumeName, B: Block + Drop>(
     rt: &R,
     area: &MainArea<V, B>,
-    hand: &mut Permit,
+    hand: &mut CallAccount,
     file: &mut FileState<B>,
     now: u64,
     buffer: &mut FlushBuffer,
@@ -52,7 +52,7 @@ pub fn flush_file<R: Wait, V: VolumeName, B: Block + Drop>(
     ensures same { file_of file.new ≡ file_of file.old }
     ensures held { (others : Others) → AreHeldBeside others file.old hand.old.tickets hand.old.tokens
         → AreHeldBeside others file.new hand.new.tickets hand.new.tokens }
-    ensures error { IfErr result (λ error. (error ≡ Device) ⊎ (error ≡ NoSpace)) }
+    ensures error { IfErr result IsOfAppend }
     ensures buffer { buffer.new.shape ≡ buffer.old.shape }
 {
     let numbers = buffer.numbers.as_mut_slice();
@@ -64,7 +64,7 @@ pub fn flush_file<R: Wait, V: VolumeName, B: Block + Drop>(
 fn flush_all<R: Wait, V: VolumeName, B: Block + Drop>(
     rt: &R,
     area: &MainArea<V, B>,
-    hand: &mut Permit,
+    hand: &mut CallAccount,
     file: &mut FileState<B>,
     now: u64,
     numbers: &mut [u32],
@@ -75,7 +75,7 @@ fn flush_all<R: Wait, V: VolumeName, B: Block + Drop>(
     requires file { CanFlush V.Numbers.geometry V.Books.books.book file.old hand.old }
     ensures clean { OnOk result (weight_of file.new each_marked ≡ 0) }
     ensures flushed { HasFlushed V.Numbers.geometry.files file.old file.new hand.old hand.new }
-    ensures error { IfErr result (λ error. (error ≡ Device) ⊎ (error ≡ NoSpace)) }
+    ensures error { IfErr result IsOfAppend }
 {
     // One walk writes them all. The next begins at the front, and so tells that none is left: it looks at the inode and at its entries alone.
     let mut from = 0;
@@ -91,7 +91,7 @@ fn flush_all<R: Wait, V: VolumeName, B: Block + Drop>(
 fn flush_node<R: Wait, V: VolumeName, B: Block + Drop>(
     rt: &R,
     area: &MainArea<V, B>,
-    hand: &mut Permit,
+    hand: &mut CallAccount,
     file: &mut FileState<B>,
     now: u64,
     from: &mut usize,
@@ -101,11 +101,11 @@ fn flush_node<R: Wait, V: VolumeName, B: Block + Drop>(
     requires room { node_entries V.Numbers.geometry.shape ≤ length numbers.old }
     requires block { length bytes.old ≡ block_bytes V.Numbers.geometry.shape }
     requires file { CanFlush V.Numbers.geometry V.Books.books.book file.old hand.old }
-    ensures one { IfOk result (λ found. found ≡ true → (n : TreeNode) × (token : Entry) × WritesOne (weight_of file.old) (weight_of file.new) n token
+    ensures one { IfOk result (λ found. found ≡ true → (n : TreeNode) × (token : TakenNumber) × WritesOne (weight_of file.old) (weight_of file.new) n token
         × HasSwapped hand.old hand.new n.token token × IsWrittenTo file.old.shape file.old.token.number n token) }
     ensures none { IfOk result (λ found. found ≡ false → (from.old ≡ 0 → weight_of file.old each_marked ≡ 0) × (file.new ≡ file.old) × (hand.new ≡ hand.old)) }
     ensures refused { OnErr result ((file.new ≡ file.old) × (hand.new ≡ hand.old)) }
-    ensures error { IfErr result (λ error. (error ≡ Device) ⊎ (error ≡ NoSpace)) }
+    ensures error { IfErr result IsOfAppend }
     ensures kept { KeepsFile file.old file.new }
 {
     let source = Source {

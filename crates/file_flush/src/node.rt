@@ -1,6 +1,6 @@
 //! One node is written.
-ghost use Rattle.std.specs.Prelude.{◌≡◌, ◌<◌, ◌⊎◌, ◌^◌, All, length, OnOk, OnErr, IfErr};
-ghost use Rattle.geometry.specs.declared.error.Error.TheVariants.{Device, NoSpace};
+ghost use Rattle.std.specs.Prelude.{◌≡◌, ◌<◌, ◌^◌, All, length, OnOk, OnErr, IfErr};
+ghost use Rattle.geometry.specs.Refusals.{IsOfAppend};
 ghost use Rattle.geometry.specs.Shape.{block_bytes};
 ghost use Rattle.image.specs.Node.{Spells};
 ghost use Rattle.nodes_walks.specs.Writing.{marked_node};
@@ -12,7 +12,7 @@ use device::Block;
 use geometry::{Error, Kind, Owner, Shape};
 use image_codec::{LentNode, encode_lent};
 use nodes_walks::NodeBlock;
-use rights_books::Permit;
+use rights_books::CallAccount;
 use rights_permits::VolumeName;
 use std::sync::Wait;
 use tickets::NidToken;
@@ -32,7 +32,7 @@ pub(crate) struct Source {
 pub(crate) fn write_block<R: Wait, V: VolumeName, B: Block + Drop>(
     rt: &R,
     area: &MainArea<V, B>,
-    hand: &mut Permit,
+    hand: &mut CallAccount,
     source: Source,
     token: &mut NidToken,
     block: &NodeBlock,
@@ -48,7 +48,7 @@ pub(crate) fn write_block<R: Wait, V: VolumeName, B: Block + Drop>(
     ensures number { token.new.number ≡ token.old.number }
     ensures same { OnErr result (token.new ≡ token.old) }
     ensures err { OnErr result (hand.new ≡ hand.old) }
-    ensures error { IfErr result (λ error. (error ≡ Device) ⊎ (error ≡ NoSpace)) }
+    ensures error { IfErr result IsOfAppend }
     ensures room { length bytes.new ≡ length bytes.old }
 {
     spell_node(area.geometry().shape, source.inode, token, block, bytes);

@@ -1,12 +1,13 @@
 //! The writer of a file's nodes.
 ghost use Rattle.std.specs.Prelude.{◌≡◌};
+ghost use Rattle.geometry.specs.Refusals.{IsOfAppend};
 
 use crate::node::{Source, write_block};
 use area::MainArea;
 use device::Block;
 use geometry::Error;
 use nodes_walks::{NodeBlock, NodeWriter};
-use rights_books::Permit;
+use rights_books::CallAccount;
 use rights_permits::VolumeName;
 use std::sync::Wait;
 use tickets::NidToken;
@@ -15,7 +16,7 @@ use tickets::NidToken;
 pub(crate) struct AreaWriter<'a, R: Wait, V: VolumeName, B: Block + Drop> {
     pub(crate) rt: &'a R,
     pub(crate) area: &'a MainArea<V, B>,
-    pub(crate) hand: &'a mut Permit,
+    pub(crate) hand: &'a mut CallAccount,
     pub(crate) source: Source,
     pub(crate) bytes: &'a mut [u8],
 }
@@ -32,7 +33,7 @@ impl<'a, R: Wait, V: VolumeName, B: Block + Drop> NodeWriter for AreaWriter<'a, 
     ghost wrote = { λ w n token v. HasSwapped w.hand.now v.hand.now n.token token × IsWrittenTo V.Numbers.geometry.shape w.source.inode n token
         × (v.hand.ghost_name ≡ w.hand.ghost_name) × (v.bytes.ghost_name ≡ w.bytes.ghost_name) };
 
-    ghost refused = { λ w n error v. (v.hand.now ≡ w.hand.now) × ((error ≡ Device) ⊎ (error ≡ NoSpace))
+    ghost refused = { λ w n error v. (v.hand.now ≡ w.hand.now) × IsOfAppend error
         × (v.hand.ghost_name ≡ w.hand.ghost_name) × (v.bytes.ghost_name ≡ w.bytes.ghost_name) };
 
     fn write_node(&mut self, token: &mut NidToken, block: &NodeBlock) -> Result<(), Error> {

@@ -65,17 +65,17 @@ module _ {X Y : Type 0} (f : X → List Y) where
   flat_more whole front now others new x next is so_far =
       so_far ∙ ap (λ (xs : List X). front ++ flat_map f xs) next ∙ sym (append_assoc front (f x) (flat_map f new)) ∙ ap (λ (ys : List Y). ys ++ flat_map f new) (sym is)
 
-module _ {J D A P E : Type 0} (R : J → A → Type 0) (S : P → E → Type 0) (duty_of : J → D) (lot_of : D → P) (end_of : A → E)
-    (same : (job : J) (answer : A) → R job answer → S (lot_of (duty_of job)) (end_of answer)) where
-  ended : (jobs : List J) (answers : List A) → AllZip R jobs answers → AllZip S (map lot_of (map duty_of jobs)) (map end_of answers)
+module _ {J D A P E : Type 0} (R : J → A → Type 0) (S : P → E → Type 0) (part_job_of : J → D) (lot_of : D → P) (end_of : A → E)
+    (same : (job : J) (answer : A) → R job answer → S (lot_of (part_job_of job)) (end_of answer)) where
+  ended : (jobs : List J) (answers : List A) → AllZip R jobs answers → AllZip S (map lot_of (map part_job_of jobs)) (map end_of answers)
   ended [] [] zip = tt
   ended [] (answer ∷ answers) zip = absurd zip
   ended (job ∷ jobs) [] zip = absurd zip
   ended (job ∷ jobs) (answer ∷ answers) zip = (same job answer zip.0, ended jobs answers zip.1)
 
-  -- the duties ended so, where each was sent on an errand
-  pub duties_ended : (duties : List D) (jobs : List J) (answers : List A) → map duty_of jobs ≡ duties → AllZip R jobs answers → AllZip S (map lot_of duties) (map end_of answers)
-  duties_ended duties jobs answers sent zip = subst (λ (ds : List D). AllZip S (map lot_of ds) (map end_of answers)) sent (ended jobs answers zip)
+  -- the jobs ended so, where each was sent on an job
+  pub part_jobs_ended : (part_jobs : List D) (jobs : List J) (answers : List A) → map part_job_of jobs ≡ part_jobs → AllZip R jobs answers → AllZip S (map lot_of part_jobs) (map end_of answers)
+  part_jobs_ended part_jobs jobs answers sent zip = subst (λ (ds : List D). AllZip S (map lot_of ds) (map end_of answers)) sent (ended jobs answers zip)
 
 module _ {X Y : Type 0} (P : Y → Type 0) (f : X → Y) where
   -- what holds of all images holds of what they are images of

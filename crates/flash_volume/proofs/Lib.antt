@@ -1,4 +1,4 @@
-pub mod Crewed
+pub mod Scheduled
 pub mod Dealing
 pub mod Following
 pub mod Laid

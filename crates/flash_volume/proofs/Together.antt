@@ -4,7 +4,7 @@ use Rattle.std.proofs.Common.{◌≡◌, ◌<◌, ℕ, suc, List, [], ◌∷◌,
 use Rattle.std.specs.List.{AllZip, flat_map}
 use Rattle.file_cells.specs.Pass.{Pass}
 use Rattle.flash_volume.specs.Beside.{AreDealt, AreDoneBeside, OneEnded, OneFailed, Share}
-use Rattle.flash_volume.specs.Turns.{Lot}
+use Rattle.flash_volume.specs.Rounds.{Lot}
 use Rattle.flash_volume.specs.declared.beside.Beside.{Beside}
 use Rattle.geometry.specs.declared.error.Error.{Error}
 use Rattle.geometry.specs.declared.geometry.Geometry.{Geometry}

@@ -9,7 +9,7 @@ use Rattle.flash_volume.proofs.Working.{left_run}
 use Rattle.flash_volume.specs.Visited.{ArePassesOf, VisitedFrom, VisitedOn, base_of}
 use Rattle.flash_volume.specs.Worked.{AreGivenUp, IsNotClosed, IsSoOf, WasWorked, WorkedOn}
 use Rattle.flash_volume.specs.declared.leave.Done.{Done}
-use Rattle.flash_volume.specs.declared.leave.Fault.{Fault}
+use Rattle.flash_volume.specs.declared.leave.LeaveFault.{LeaveFault}
 use Rattle.flash_volume.specs.declared.leave.Leave.{Leave}
 use Rattle.flash_volume.specs.declared.leave.Stage.{Stage}
 use Rattle.flash_volume.specs.declared.leave.Stage.TheVariants.{Format, Mount, Work, Close}
@@ -49,7 +49,7 @@ is_late stage error (inl (at_work, why)) = (λ is. absurd (let no = sym at_work 
 is_late stage error (inr (at_close, why)) = (λ is. absurd (let no = sym at_close ∙ is in cc), λ is. absurd (let no = sym at_close ∙ is in cc))
 
 module _ {M B O : Type 0} (seen : M → List ℕ) (may_leave : M → List ℕ → Type 0) (address_of : B → ℕ) (content_of : B → List ℕ) (promise : Geometry → List Pass → O → List Pass → Type 0)
-    (failing : Geometry → List Pass → Error → Type 0) (leave : Leave) (parts : Parts M B) (result : Result (Done M B O) (Fault M B)) where
+    (failing : Geometry → List Pass → Error → Type 0) (leave : Leave) (parts : Parts M B) (result : Result (Done M B O) (LeaveFault M B)) where
   -- the volume of these parts was visited, to do work that promises this, and fails only so
   abbrev pub IsWorked : Type 0
   IsWorked = VisitedOn seen address_of content_of (λ geometry base before left. WasWorked seen may_leave address_of content_of (promise geometry before) (failing geometry before) leave geometry left) parts result
@@ -75,7 +75,7 @@ module _ {M B O : Type 0} (seen : M → List ℕ) (may_leave : M → List ℕ �
     pub not_format : IfErr result (λ fault. fault.stage ≢ Format)
     not_format = err_then result _ _ (λ fault cause. (is_late fault.stage fault.error cause).0) on.from.visited.cause
 
-    pub not_mount : (P : Fault M B → Type 0) → IfErr result (λ fault. fault.stage ≡ Mount → P fault)
+    pub not_mount : (P : LeaveFault M B → Type 0) → IfErr result (λ fault. fault.stage ≡ Mount → P fault)
     not_mount P = err_then result _ _ (λ fault cause is. absurd ((is_late fault.stage fault.error cause).1 is)) on.from.visited.cause
 
     pub failed : IfErr result (λ fault. fault.stage ≡ Work → IsSoOf seen address_of content_of parts (λ geometry before. failing geometry before fault.error))

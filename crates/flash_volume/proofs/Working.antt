@@ -7,7 +7,7 @@ use Rattle.file_cells.specs.Pass.{Pass}
 use Rattle.flash_volume.proofs.Results.{err_both, ok_both}
 use Rattle.flash_volume.specs.Worked.{AreGivenUp, AreLeft, EndedWith, IsNotClosed, IsSoOf, WasWorked, WorkedOn}
 use Rattle.flash_volume.specs.declared.leave.Done.{Done}
-use Rattle.flash_volume.specs.declared.leave.Fault.{Fault}
+use Rattle.flash_volume.specs.declared.leave.LeaveFault.{LeaveFault}
 use Rattle.flash_volume.specs.declared.leave.Leave.{Leave}
 use Rattle.flash_volume.specs.declared.leave.Leave.TheVariants.{Close, Discard}
 use Rattle.flash_volume.specs.declared.leave.Stage.TheVariants.{Work as AtWork, Close as AtClose}
@@ -49,7 +49,7 @@ module _ {M B : Type 0} (seen : M → List ℕ) (address_of : B → ℕ) (conten
 
 module _ {M B O : Type 0} (seen : M → List ℕ) (may_leave : M → List ℕ → Type 0) (address_of : B → ℕ) (content_of : B → List ℕ) (promise : O → List Pass → Type 0) (failing : Error → Type 0) (leave : Leave) (geometry : Geometry) where
   -- work kept its promise with these passes, and its volume was left with them, or the close was refused
-  pub was_left : (output : O) (after : List Pass) (result : Result (Done M B O) (Fault M B)) → promise output after → IfOk result (λ done. done.output ≡ output)
+  pub was_left : (output : O) (after : List Pass) (result : Result (Done M B O) (LeaveFault M B)) → promise output after → IfOk result (λ done. done.output ≡ output)
       → IfOk result (λ done. AreLeft seen may_leave address_of content_of leave geometry after done.parts)
       → IfErr result (λ fault. AreGivenUp seen may_leave address_of content_of geometry fault.parts) → IfErr result (λ fault. fault.stage ≡ AtClose)
       → IfErr result (λ fault. IsNotClosed fault.error) → WasWorked seen may_leave address_of content_of promise failing leave geometry result
@@ -60,6 +60,6 @@ module _ {M B O : Type 0} (seen : M → List ℕ) (may_leave : M → List ℕ �
   }
 
   -- work failed, and its volume was given up
-  pub was_given_up : (error : Error) (fault : Fault M B) → failing error → AreGivenUp seen may_leave address_of content_of geometry fault.parts → fault.stage ≡ AtWork
+  pub was_given_up : (error : Error) (fault : LeaveFault M B) → failing error → AreGivenUp seen may_leave address_of content_of geometry fault.parts → fault.stage ≡ AtWork
       → fault.error ≡ error → WasWorked seen may_leave address_of content_of promise failing leave geometry (Err fault)
   was_given_up error fault failed given_up stage same = record { done = tt; given_up = given_up; cause = inl (stage, subst (λ (e : Error). failing e) (sym same) failed) }

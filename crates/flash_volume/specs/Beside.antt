@@ -2,7 +2,7 @@
 use Rattle.std.specs.Prelude.{◌≡◌, ◌⊎◌, ℕ, ◌==◌, not, Bool, List, [], ◌∷◌, ◌++◌, map, filter, Result, Ok, Err}
 use Rattle.std.specs.List.{AllZip, flat_map, list_any}
 use Rattle.file_cells.specs.Pass.{Pass}
-use Rattle.flash_volume.specs.Turns.{Held, Lot}
+use Rattle.flash_volume.specs.Rounds.{Held, Lot}
 use Rattle.flash_volume.specs.declared.beside.Beside.{Beside}
 use Rattle.flash_volume.specs.declared.leave.Leave.{Leave}
 use Rattle.flash_volume.specs.declared.works.Works.{Works}

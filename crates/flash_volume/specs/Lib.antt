@@ -1,6 +1,6 @@
 pub mod Answers
 pub mod Beside
 pub mod Refused
-pub mod Turns
+pub mod Rounds
 pub mod Visited
 pub mod Worked

@@ -8,7 +8,7 @@ use Rattle.device.specs.Parts.{HasSize}
 use Rattle.device.specs.declared.parts.Parts.{Parts}
 use Rattle.file_cells.specs.Pass.{Pass}
 use Rattle.flash_volume.specs.declared.leave.Done.{Done}
-use Rattle.flash_volume.specs.declared.leave.Fault.{Fault}
+use Rattle.flash_volume.specs.declared.leave.LeaveFault.{LeaveFault}
 use Rattle.flash_volume.specs.declared.leave.Leave.{Leave}
 use Rattle.flash_volume.specs.declared.leave.Leave.TheVariants.{Close, Discard}
 use Rattle.flash_volume.specs.declared.leave.Stage.TheVariants.{Work as AtWork, Close as AtClose}
@@ -66,7 +66,7 @@ module _ {M B : Type 0} (seen : M → List ℕ) (may_leave : M → List ℕ → 
 
   -- Work was done, which promises this of what it answers and of the passes that it ends with, and its volume was left; or it
   -- failed so, or the close was refused, and nothing more was written.
-  pub record WasWorked {O : Type 0} (promise : O → List Pass → Type 0) (failing : Error → Type 0) (leave : Leave) (geometry : Geometry) (result : Result (Done M B O) (Fault M B)) : Type 0 where
+  pub record WasWorked {O : Type 0} (promise : O → List Pass → Type 0) (failing : Error → Type 0) (leave : Leave) (geometry : Geometry) (result : Result (Done M B O) (LeaveFault M B)) : Type 0 where
     pub done : IfOk result (λ done. EndedWith (promise done.output) leave geometry done.parts)
     pub given_up : IfErr result (λ fault. AreGivenUp geometry fault.parts)
     pub cause : IfErr result (λ fault. ((fault.stage ≡ AtWork) × failing fault.error) ⊎ ((fault.stage ≡ AtClose) × IsNotClosed fault.error))

@@ -1,5 +1,6 @@
 //! What a request for bytes comes to, under the lock of its file.
-ghost use Rattle.std.specs.Prelude.{◌≡◌, ◌<◌, ◌≤◌, ◌+◌, ◌⊎◌, length, map, reverse, take, drop, IfOk, IfErr, OnOk, OnErr};
+ghost use Rattle.std.specs.Prelude.{◌≡◌, ◌<◌, ◌≤◌, ◌+◌, length, map, reverse, take, drop, IfOk, IfErr, OnOk, OnErr};
+ghost use Rattle.geometry.specs.Refusals.{IsOfWrite};
 ghost use Rattle.checkpoint.specs.Files.{files_of};
 ghost use Rattle.checkpoint.specs.Holding.{IsInPack};
 ghost use Rattle.checkpoint_image.specs.View.{taken_view};
@@ -8,10 +9,10 @@ ghost use Rattle.close_area.specs.Refused.{IsNotWritten};
 ghost use Rattle.flash_volume.specs.Answers.{block_of, laid_over};
 ghost use Rattle.geometry.specs.File.{written};
 ghost use Rattle.geometry.specs.Shape.{block_bytes};
-ghost use Rattle.geometry.specs.declared.error.Error.TheVariants.{TooFar, Wounded, NoMemory, NoNode, NoSpace, Device};
+ghost use Rattle.geometry.specs.declared.error.Error.TheVariants.{Device};
 ghost use Rattle.image.specs.Rules.{IsLawful};
 
-use crate::shelf::Shelf;
+use crate::pass_table::PassTable;
 use checkpoint::Stored;
 use device::{Block, Meta};
 use file_cells::FilePass;
@@ -79,7 +80,7 @@ pub fn write_part<V: VolumeName, M: Meta, B: Block + Drop, R: Wait>(
     requires within { from + length bytes.now ≤ block_bytes V.Numbers.geometry.shape }
     ensures file { OnOk result (pass.new ≡ record pass.old { file = written pass.old.file index (laid_over (block_of (block_bytes V.Numbers.geometry.shape) pass.old.file index) from bytes.now) }) }
     ensures err { OnErr result (pass.new ≡ pass.old) }
-    ensures error { IfErr result (λ error. (error ≡ TooFar) ⊎ ((error ≡ Wounded) ⊎ ((error ≡ NoMemory) ⊎ ((error ≡ NoNode) ⊎ ((error ≡ NoSpace) ⊎ (error ≡ Device)))))) }
+    ensures error { IfErr result IsOfWrite }
 {
     pass.blocks_law();
     if bytes.len() == block.len() {
@@ -91,7 +92,7 @@ pub fn write_part<V: VolumeName, M: Meta, B: Block + Drop, R: Wait>(
     volume.write(rt, pass, index, block, now)
 }
 
-/// Writes a checkpoint that has what each pass on the shelf shows at one moment: the places with passes are held until it is written.
+/// Writes a checkpoint that has what each pass in the pass table shows at one moment: the places with passes are held until it is written.
 /// Readers of snapshots go on meanwhile.
 ///
 /// Answers NoMemory before any place is held or anything is written, else what a sync answers. The passes are in their places again
@@ -100,7 +101,7 @@ pub fn flush<V: VolumeName, M: Meta, B: Block + Drop, R: Wait>(
     rt: &R,
     alloc: Global,
     volume: &Volume<V, M, B>,
-    shelf: &Shelf<V>,
+    pass_table: &PassTable<V>,
 ) -> Result<Stored<M, B>, Error>
     ensures lawful { IfOk result (λ stored. IsLawful V.Numbers.geometry (taken_view stored.taken.image)) }
     ensures written { IfOk result (λ stored. IsInPack M.may_leave V.Numbers.geometry (taken_view stored.taken.image) stored.pack.shown.items) }
@@ -111,7 +112,7 @@ pub fn flush<V: VolumeName, M: Meta, B: Block + Drop, R: Wait>(
     let mut guards = Vec::with_capacity(alloc, files as usize)?;
     let mut passes = Vec::with_capacity(alloc, files as usize)?;
     for place in 0..files {
-        if let Some(mut guard) = shelf.write(rt, place + 1)
+        if let Some(mut guard) = pass_table.write(rt, place + 1)
             && let Some(pass) = guard.take()
         {
             passes.push_reserved(pass);

@@ -4,9 +4,9 @@ ghost use Rattle.flash_volume.specs.Beside.{AreDealt, is_named, passes_named, pa
 ghost use Rattle.geometry.specs.Weights.{weigh};
 ghost use Rattle.geometry.specs.declared.error.Error.TheVariants.{NoMemory};
 
-use crate::crew::Duty;
 use crate::lent::Lent;
 use crate::rights::Rights;
+use crate::scheduler::PartJob;
 use crate::works::OneBeside;
 use device::Block;
 use file_cells::{FilePass, Seat};
@@ -41,26 +41,26 @@ pub(crate) fn deal<'v, V: VolumeName, B: Block + Drop, W: Drop>(
     alloc: Global,
     rights: &mut Rights<V>,
     works: Vec<Beside<W>>,
-) -> Result<Vec<Duty<'v, V, B, OneBeside<W>>>, Error>
-    ensures works { IfOk result (λ duties. map (λ duty. duty.part.work) duties.items ≡ map (λ beside. beside.work) works.items) }
-    ensures passes { IfOk result (λ duties. AreDealt (map (λ beside. beside.files.items) works.items) rights.old.passes.items (map (λ duty. duty.lent.passes) duties.items) rights.new.passes.items) }
-    ensures seats { IfOk result (λ duties. vec_len rights.old.seats ≡ vec_len rights.new.seats + weigh (λ duty. duty.lent.seats) duties.items) }
+) -> Result<Vec<PartJob<'v, V, B, OneBeside<W>>>, Error>
+    ensures works { IfOk result (λ part_jobs. map (λ part_job. part_job.part.work) part_jobs.items ≡ map (λ beside. beside.work) works.items) }
+    ensures passes { IfOk result (λ part_jobs. AreDealt (map (λ beside. beside.files.items) works.items) rights.old.passes.items (map (λ part_job. part_job.lent.passes) part_jobs.items) rights.new.passes.items) }
+    ensures seats { IfOk result (λ part_jobs. vec_len rights.old.seats ≡ vec_len rights.new.seats + weigh (λ part_job. part_job.lent.seats) part_jobs.items) }
     ensures error { IfErr result (λ error. error ≡ NoMemory) }
 {
     let each = match works.len() {
         0 => 0,
         count => rights.seats.len() / count,
     };
-    let mut duties = Vec::new(alloc);
+    let mut part_jobs = Vec::new(alloc);
     for beside in works {
         let Beside { work, files } = beside;
         let passes = take_passes(alloc, &mut rights.passes, files.as_slice())?;
         let seats = take_seats(&mut rights.seats, each)?;
         let part = OneBeside { work };
         let lent = Lent::new(Rights { seats, passes }, Vec::new(alloc));
-        duties.push(Duty { part, lent })?;
+        part_jobs.push(PartJob { part, lent })?;
     }
-    Ok(duties)
+    Ok(part_jobs)
 }
 
 // Takes the passes of these files out of the others. Their order stays.

@@ -1,13 +1,13 @@
 //! A fault is an error, for who lets go of the device.
 ghost use Rattle.std.specs.Prelude.{◌≡◌};
 
-use crate::leave::Fault;
+use crate::leave::LeaveFault;
 use geometry::Error;
 
-impl<M: Drop, B: Drop> From<Fault<M, B>> for Error {
+impl<M: Drop, B: Drop> From<LeaveFault<M, B>> for Error {
     ghost from_gives = { λ fault error. error ≡ fault.error };
 
-    fn from(fault: Fault<M, B>) -> Error {
+    fn from(fault: LeaveFault<M, B>) -> Error {
         fault.error
     }
 }

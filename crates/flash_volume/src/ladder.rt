@@ -8,12 +8,12 @@ ghost use Rattle.geometry.specs.declared.error.Error.TheVariants.{NoMemory};
 ghost use Rattle.image_codec.specs.Blocks.{bytes_at};
 ghost use Rattle.volume.specs.Picked.{HaveNames};
 
-use crate::leave::{Done, Fault, Leave};
+use crate::leave::{Done, Leave, LeaveFault};
 use crate::leaving::visit_and_leave;
 use crate::mounting::mount_parts;
 use crate::rights::Rights;
 use crate::visit::Visit;
-use area::Threading;
+use area::HoleReuse;
 use device::{Block, Meta, Parts};
 use mount::{Mounted, MountedQueues};
 use mount_reading::OpenFault;
@@ -32,16 +32,18 @@ pub fn visit_volume<M: Meta, B: Block + Drop, R: Wait, X: Visit<M, B> + Drop>(
     rt: &R,
     alloc: Global,
     parts: Parts<M, B>,
-    threading: Threading,
+    hole_reuse: HoleReuse,
     leave: Leave,
     visit: X,
-) -> Result<Result<Done<M, B, X::Output>, Fault<M, B>>, OpenFault<M, B>>
+) -> Result<Result<Done<M, B, X::Output>, LeaveFault<M, B>>, OpenFault<M, B>>
     requires run { (bytes : ℕ) × IsBlockRun B.address_of B.content_of bytes 1 parts.blocks.items }
     ensures done { IfOk result (VisitedOn M.seen B.address_of B.content_of (λ geometry base before left. WasWorked M.seen M.may_leave B.address_of B.content_of (λ output after. X.did visit geometry base before output after) (λ error. X.failed visit geometry base before error) leave geometry left) parts) }
     ensures handed_back { IfErr result (λ fault. HandsBack M.seen M.may_leave M.moment M.left_since M.failed B.address_of B.content_of B.failed parts fault.parts fault.error) }
 {
     match mount_parts(alloc, parts) {
-        Ok(mounted) => on_mounted::<Brand, M, B, R, X>(rt, alloc, mounted, threading, leave, visit),
+        Ok(mounted) => on_mounted::<Brand, M, B, R, X>(
+            rt, alloc, mounted, hole_reuse, leave, visit,
+        ),
         Err(fault) => Err(fault),
     }
 }
@@ -50,10 +52,10 @@ fn on_mounted<K: TablesName, M: Meta, B: Block + Drop, R: Wait, X: Visit<M, B> +
     rt: &R,
     alloc: Global,
     mounted: Mounted<M, B>,
-    threading: Threading,
+    hole_reuse: HoleReuse,
     leave: Leave,
     visit: X,
-) -> Result<Result<Done<M, B, X::Output>, Fault<M, B>>, OpenFault<M, B>>
+) -> Result<Result<Done<M, B, X::Output>, LeaveFault<M, B>>, OpenFault<M, B>>
     requires books { mounted.books ≡ K.books }
     requires rows { mounted.rows ≡ K.rows }
     requires words { mounted.words ≡ K.words }
@@ -64,7 +66,7 @@ fn on_mounted<K: TablesName, M: Meta, B: Block + Drop, R: Wait, X: Visit<M, B> +
 {
     match mounted.name::<BooksOf<K>, WordsOf<K>, NumbersOf<K>>() {
         Ok(opened) => on_opened::<K, Brand, Brand, M, B, R, X>(
-            rt, alloc, opened, threading, leave, visit,
+            rt, alloc, opened, hole_reuse, leave, visit,
         ),
         Err(fault) => Err(fault),
     }
@@ -82,10 +84,10 @@ fn on_opened<
     rt: &R,
     alloc: Global,
     opened: MountedQueues<BooksOf<K>, WordsOf<K>, NumbersOf<K>, M, B>,
-    threading: Threading,
+    hole_reuse: HoleReuse,
     leave: Leave,
     visit: X,
-) -> Result<Result<Done<M, B, X::Output>, Fault<M, B>>, OpenFault<M, B>>
+) -> Result<Result<Done<M, B, X::Output>, LeaveFault<M, B>>, OpenFault<M, B>>
     requires named { HaveNames opened.queues opened.channel P.ordinary P.reserve T.turns T.key }
     ensures done { IfOk result (VisitedFrom (λ geometry base before left. WasWorked M.seen M.may_leave B.address_of B.content_of (λ output after. X.did visit geometry base before output after) (λ error. X.failed visit geometry base before error) leave geometry left) opened.named.mounted.geometry opened.named.mounted.image (bytes_at B.content_of opened.named.mounted.parts.blocks.items)) }
     ensures back { IfErr result (λ fault. fault.parts ≡ opened.named.mounted.parts) }
@@ -93,7 +95,7 @@ fn on_opened<
 {
     match opened.name::<P, T, R>(rt) {
         Ok((volume, seats, passes)) => {
-            let volume = volume.with_threading(rt, threading);
+            let volume = volume.with_hole_reuse(rt, hole_reuse);
             let rights = Rights { seats, passes };
             Ok(visit_and_leave(rt, alloc, volume, rights, leave, visit))
         }

@@ -33,7 +33,7 @@ pub enum Stage {
 
 /// Why a call was refused, and at which stage, with the parts of the device.
 #[derive(Drop)]
-pub struct Fault<M, B> {
+pub struct LeaveFault<M, B> {
     pub parts: Parts<M, B>,
     pub stage: Stage,
     pub error: Error,

@@ -1,14 +1,14 @@
 //! A volume is worked on, and left.
 ghost use Rattle.std.specs.Prelude.{◌≡◌, [], IfOk, IfErr, vec_len};
-ghost use Rattle.flash_volume.specs.Turns.{WasCrewed};
+ghost use Rattle.flash_volume.specs.Rounds.{WasScheduled};
 ghost use Rattle.flash_volume.specs.Worked.{AreClosed, AreGivenUp, AreLeft, IsNotClosed, WasWorked};
 ghost use Rattle.flash_volume.specs.declared.leave.Stage.TheVariants.{Work as AtWork, Close as AtClose};
 
 use crate::block::SharedBlock;
-use crate::crew::{Crew, Part};
-use crate::leave::{Done, Fault, Leave, Stage};
+use crate::leave::{Done, Leave, LeaveFault, Stage};
 use crate::rights::Rights;
-use crate::turns::take_turns;
+use crate::rounds::run_rounds;
+use crate::scheduler::{ScheduledPart, Scheduler};
 use crate::visit::Visit;
 use device::{Block, Meta, Parts};
 use geometry::Error;
@@ -26,7 +26,7 @@ pub(crate) fn visit_and_leave<V: VolumeName, M: Meta, B: Block + Drop, R: Wait, 
     rights: Rights<V>,
     leave: Leave,
     visit: X,
-) -> Result<Done<M, B, X::Output>, Fault<M, B>>
+) -> Result<Done<M, B, X::Output>, LeaveFault<M, B>>
     ensures { WasWorked M.seen M.may_leave B.address_of B.content_of (λ output after. X.did visit V.Numbers.geometry volume.base rights.passes.items output after) (λ error. X.failed visit V.Numbers.geometry volume.base rights.passes.items error) leave V.Numbers.geometry result }
 {
     let mut rights = rights;
@@ -36,27 +36,27 @@ pub(crate) fn visit_and_leave<V: VolumeName, M: Meta, B: Block + Drop, R: Wait, 
     }
 }
 
-// Has the turns of a crew on a volume, and leaves it. Where one is refused, nothing more is written.
-pub(crate) fn take_turns_and_leave<
+// Runs the rounds of a scheduler on a volume, and leaves it. Where one is refused, nothing more is written.
+pub(crate) fn run_rounds_and_leave<
     V: SharedName,
     M: Meta + Send,
     B: SharedBlock,
     R: Threads + Wait + Sync,
-    X: Crew<M, B> + Drop,
+    X: Scheduler<M, B> + Drop,
 >(
     rt: &R,
     alloc: Global,
     volume: Volume<V, M, B>,
     rights: Rights<V>,
-    crew: X,
-) -> Result<Done<M, B, X::Output>, Fault<M, B>>
+    scheduler: X,
+) -> Result<Done<M, B, X::Output>, LeaveFault<M, B>>
 where
     X::Part: Send + Drop,
-    <X::Part as Part<M, B>>::Done: Send,
-    requires { X.fits crew V.Numbers.geometry (record { passes = rights.passes.items; seats = vec_len rights.seats; readers = [] }) [] }
-    ensures { WasCrewed M.seen M.may_leave B.address_of B.content_of (X.did crew V.Numbers.geometry volume.base (record { passes = rights.passes.items; seats = vec_len rights.seats; readers = [] }) []) (X.failed crew V.Numbers.geometry volume.base (record { passes = rights.passes.items; seats = vec_len rights.seats; readers = [] }) []) V.Numbers.geometry result }
+    <X::Part as ScheduledPart<M, B>>::Done: Send,
+    requires { X.fits scheduler V.Numbers.geometry (record { passes = rights.passes.items; seats = vec_len rights.seats; readers = [] }) [] }
+    ensures { WasScheduled M.seen M.may_leave B.address_of B.content_of (X.did scheduler V.Numbers.geometry volume.base (record { passes = rights.passes.items; seats = vec_len rights.seats; readers = [] }) []) (X.failed scheduler V.Numbers.geometry volume.base (record { passes = rights.passes.items; seats = vec_len rights.seats; readers = [] }) []) V.Numbers.geometry result }
 {
-    match take_turns(rt, alloc, &volume, rights, crew) {
+    match run_rounds(rt, alloc, &volume, rights, scheduler) {
         Ok((rights, output, leave)) => leave_with(rt, volume, rights, leave, output),
         Err(error) => Err(give_up(rt, volume, error)),
     }
@@ -69,7 +69,7 @@ pub(crate) fn leave_with<V: VolumeName, M: Meta, B: Block + Drop, R: Wait, O: Dr
     rights: Rights<V>,
     leave: Leave,
     output: O,
-) -> Result<Done<M, B, O>, Fault<M, B>>
+) -> Result<Done<M, B, O>, LeaveFault<M, B>>
     ensures output { IfOk result (λ done. done.output ≡ output) }
     ensures left { IfOk result (λ done. AreLeft M.seen M.may_leave B.address_of B.content_of leave V.Numbers.geometry rights.passes.items done.parts) }
     ensures given_up { IfErr result (λ fault. AreGivenUp M.seen M.may_leave B.address_of B.content_of V.Numbers.geometry fault.parts) }
@@ -87,12 +87,12 @@ pub(crate) fn give_up<V: VolumeName, M: Meta, B: Block + Drop, R: Wait>(
     rt: &R,
     volume: Volume<V, M, B>,
     error: Error,
-) -> Fault<M, B>
+) -> LeaveFault<M, B>
     ensures given_up { AreGivenUp M.seen M.may_leave B.address_of B.content_of V.Numbers.geometry result.parts }
     ensures stage { result.stage ≡ AtWork }
     ensures error { result.error ≡ error }
 {
-    Fault {
+    LeaveFault {
         parts: volume.discard(rt),
         stage: Stage::Work,
         error,
@@ -105,7 +105,7 @@ fn leave_volume<V: VolumeName, M: Meta, B: Block + Drop, R: Wait>(
     volume: Volume<V, M, B>,
     rights: Rights<V>,
     leave: Leave,
-) -> Result<Parts<M, B>, Fault<M, B>>
+) -> Result<Parts<M, B>, LeaveFault<M, B>>
     ensures left { IfOk result (AreLeft M.seen M.may_leave B.address_of B.content_of leave V.Numbers.geometry rights.passes.items) }
     ensures given_up { IfErr result (λ fault. AreGivenUp M.seen M.may_leave B.address_of B.content_of V.Numbers.geometry fault.parts) }
     ensures stage { IfErr result (λ fault. fault.stage ≡ AtClose) }
@@ -122,7 +122,7 @@ fn close_volume<V: VolumeName, M: Meta, B: Block + Drop, R: Wait>(
     rt: &R,
     volume: Volume<V, M, B>,
     rights: Rights<V>,
-) -> Result<Parts<M, B>, Fault<M, B>>
+) -> Result<Parts<M, B>, LeaveFault<M, B>>
     ensures closed { IfOk result (AreClosed M.seen M.may_leave B.address_of B.content_of V.Numbers.geometry rights.passes.items) }
     ensures given_up { IfErr result (λ fault. AreGivenUp M.seen M.may_leave B.address_of B.content_of V.Numbers.geometry fault.parts) }
     ensures stage { IfErr result (λ fault. fault.stage ≡ AtClose) }
@@ -141,7 +141,7 @@ fn close_volume<V: VolumeName, M: Meta, B: Block + Drop, R: Wait>(
                 passes: _,
                 error,
             } = fault;
-            Err(Fault {
+            Err(LeaveFault {
                 parts: volume.discard(rt),
                 stage: Stage::Close,
                 error,

@@ -1,4 +1,4 @@
-//! What a crew has of a volume, or one of its parts.
+//! What a scheduler has of a volume, or one of its parts.
 ghost use Rattle.std.specs.Prelude.{◌≡◌, [], vec_len};
 
 use crate::rights::Rights;
@@ -21,7 +21,7 @@ impl<'v, V: VolumeName, B: Block + Drop> Model for Lent<'v, V, B> {
     ghost use Rattle.std.specs.Coded.{codes};
     ghost use Rattle.geometry.specs.File.{blocks_code};
     ghost use Rattle.file_cells.specs.Reader.{segments_code};
-    ghost use Rattle.flash_volume.specs.Turns.{Held};
+    ghost use Rattle.flash_volume.specs.Rounds.{Held};
 
     ghost Value = { Held };
 

@@ -1,16 +1,16 @@
 //! A volume is made, worked on and left.
 ghost use Rattle.std.specs.Prelude.{◌≡◌, ◌⊎◌, ℕ, [], IfOk, IfErr};
+ghost use Rattle.geometry.specs.Refusals.{IsOfRead};
 ghost use Rattle.device.specs.Parts.{HasSize, IsBlockRun};
 ghost use Rattle.flash_volume.specs.Beside.{AreDoneBeside, HaveFailed};
 ghost use Rattle.flash_volume.specs.Worked.{EndedWith, IsNotClosed};
 ghost use Rattle.flash_volume.specs.declared.leave.Stage.TheVariants.{Format as AtFormat, Mount as AtMount, Work as AtWork, Close as AtClose};
-ghost use Rattle.geometry.specs.declared.error.Error.TheVariants.{NoMemory, Device};
 ghost use Rattle.image.specs.Empty.{empty_image};
 ghost use Rattle.volume_format.specs.Mountable.{IsMountable};
 
 use crate::beside::Beside;
 use crate::block::SharedBlock;
-use crate::leave::{Done, Fault, Leave, Stage};
+use crate::leave::{Done, Leave, LeaveFault, Stage};
 use crate::one_work::work_on;
 use crate::side_by_side::work_side_by_side;
 use crate::work::Work;
@@ -34,11 +34,11 @@ pub fn work_on_new<M: Meta, B: Block + Drop, R: Wait, W: Work<M, B> + Drop>(
     geometry: Geometry,
     leave: Leave,
     work: W,
-) -> Result<Done<M, B, W::Output>, Fault<M, B>>
+) -> Result<Done<M, B, W::Output>, LeaveFault<M, B>>
     requires size { HasSize M.seen B.address_of B.content_of geometry parts }
     ensures done { IfOk result (λ done. EndedWith M.seen M.may_leave B.address_of B.content_of (λ after. W.post work geometry [] done.output after) leave geometry done.parts) }
     ensures again { IfOk result (λ done. (bytes : ℕ) × IsBlockRun B.address_of B.content_of bytes 1 done.parts.blocks.items) }
-    ensures early { IfErr result (λ fault. (fault.stage ≡ AtFormat) ⊎ (fault.stage ≡ AtMount) → (fault.error ≡ NoMemory) ⊎ (fault.error ≡ Device)) }
+    ensures early { IfErr result (λ fault. (fault.stage ≡ AtFormat) ⊎ (fault.stage ≡ AtMount) → IsOfRead fault.error) }
     ensures size_back { IfErr result (λ fault. HasSize M.seen B.address_of B.content_of geometry fault.parts) }
     ensures failed { IfErr result (λ fault. fault.stage ≡ AtWork → W.failed work geometry [] fault.error) }
     ensures not_closed { IfErr result (λ fault. fault.stage ≡ AtClose → IsNotClosed fault.error) }
@@ -65,13 +65,13 @@ pub fn work_side_by_side_on_new<
     geometry: Geometry,
     leave: Leave,
     works: Vec<Beside<W>>,
-) -> Result<Done<M, B, Vec<W::Output>>, Fault<M, B>>
+) -> Result<Done<M, B, Vec<W::Output>>, LeaveFault<M, B>>
 where
     W::Output: Send,
     requires size { HasSize M.seen B.address_of B.content_of geometry parts }
     ensures done { IfOk result (λ done. EndedWith M.seen M.may_leave B.address_of B.content_of (λ after. AreDoneBeside W.post geometry works.items [] done.output.items after) leave geometry done.parts) }
     ensures again { IfOk result (λ done. (bytes : ℕ) × IsBlockRun B.address_of B.content_of bytes 1 done.parts.blocks.items) }
-    ensures early { IfErr result (λ fault. (fault.stage ≡ AtFormat) ⊎ (fault.stage ≡ AtMount) → (fault.error ≡ NoMemory) ⊎ (fault.error ≡ Device)) }
+    ensures early { IfErr result (λ fault. (fault.stage ≡ AtFormat) ⊎ (fault.stage ≡ AtMount) → IsOfRead fault.error) }
     ensures size_back { IfErr result (λ fault. HasSize M.seen B.address_of B.content_of geometry fault.parts) }
     ensures failed { IfErr result (λ fault. fault.stage ≡ AtWork → HaveFailed W.failed geometry works.items [] fault.error) }
     ensures not_closed { IfErr result (λ fault. fault.stage ≡ AtClose → IsNotClosed fault.error) }
@@ -87,17 +87,17 @@ fn formatted<M: Meta, B: Block>(
     alloc: Global,
     parts: Parts<M, B>,
     geometry: Geometry,
-) -> Result<Parts<M, B>, Fault<M, B>>
+) -> Result<Parts<M, B>, LeaveFault<M, B>>
     requires size { HasSize M.seen B.address_of B.content_of geometry parts }
     ensures mountable { IfOk result (λ written. IsMountable M.seen M.may_leave B.address_of B.content_of geometry (empty_image geometry) written) }
     ensures blocks { IfOk result (λ written. written.blocks ≡ parts.blocks) }
     ensures stage { IfErr result (λ fault. fault.stage ≡ AtFormat) }
-    ensures error { IfErr result (λ fault. (fault.error ≡ NoMemory) ⊎ (fault.error ≡ Device)) }
+    ensures error { IfErr result (λ fault. IsOfRead fault.error) }
     ensures size_back { IfErr result (λ fault. HasSize M.seen B.address_of B.content_of geometry fault.parts) }
 {
     match format(alloc, parts, geometry) {
         Ok(parts) => Ok(parts),
-        Err(FormatFault { parts, error }) => Err(Fault {
+        Err(FormatFault { parts, error }) => Err(LeaveFault {
             parts,
             stage: Stage::Format,
             error,

@@ -8,11 +8,11 @@ ghost use Rattle.geometry.specs.declared.geometry.Geometry.{Geometry};
 ghost use Rattle.pack_tables.specs.Grammar.{HasSuper};
 
 use crate::ladder::visit_volume;
-use crate::leave::{Done, Fault, Leave, Stage};
+use crate::leave::{Done, Leave, LeaveFault, Stage};
 use crate::rights::Rights;
 use crate::visit::Visit;
 use crate::work::Work;
-use area::Threading;
+use area::HoleReuse;
 use device::{Block, Meta, Parts};
 use geometry::Error;
 use mount_reading::OpenFault;
@@ -34,7 +34,7 @@ pub fn work_on<M: Meta, B: Block + Drop, R: Wait, W: Work<M, B> + Drop>(
     parts: Parts<M, B>,
     leave: Leave,
     work: W,
-) -> Result<Done<M, B, W::Output>, Fault<M, B>>
+) -> Result<Done<M, B, W::Output>, LeaveFault<M, B>>
     requires run { (bytes : ℕ) × IsBlockRun B.address_of B.content_of bytes 1 parts.blocks.items }
     ensures done { IfOk result (λ done. WorkedOn M.seen M.may_leave B.address_of B.content_of (λ geometry before after. W.post work geometry before done.output after) parts leave done.parts) }
     ensures again { IfOk result (λ done. (bytes : ℕ) × IsBlockRun B.address_of B.content_of bytes 1 done.parts.blocks.items) }
@@ -49,7 +49,7 @@ pub fn work_on<M: Meta, B: Block + Drop, R: Wait, W: Work<M, B> + Drop>(
         rt,
         alloc,
         parts,
-        Threading::WhileReserveIsFull,
+        HoleReuse::WhileReserveIsFull,
         leave,
         OneWork { work },
     ) {
@@ -59,13 +59,13 @@ pub fn work_on<M: Meta, B: Block + Drop, R: Wait, W: Work<M, B> + Drop>(
 }
 
 // A mount was refused.
-pub(crate) fn unmounted<M: Meta, B: Block>(fault: OpenFault<M, B>) -> Fault<M, B>
+pub(crate) fn unmounted<M: Meta, B: Block>(fault: OpenFault<M, B>) -> LeaveFault<M, B>
     ensures parts { result.parts ≡ fault.parts }
     ensures stage { result.stage ≡ AtMount }
     ensures error { result.error ≡ fault.error }
 {
     let OpenFault { parts, error } = fault;
-    Fault {
+    LeaveFault {
         parts,
         stage: Stage::Mount,
         error,

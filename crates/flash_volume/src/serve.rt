@@ -1,4 +1,4 @@
-//! A service on a device's volume: its stations side by side, and then the volume is left.
+//! A service on a device's volume: its threads side by side, and then the volume is left.
 ghost use Rattle.std.specs.Prelude.{◌≡◌, ◌≢◌, ℕ, IfOk, IfErr};
 ghost use Rattle.device.specs.Parts.{IsBlockRun};
 ghost use Rattle.flash_volume.specs.Refused.{HandsBack};
@@ -9,13 +9,13 @@ ghost use Rattle.geometry.specs.declared.geometry.Geometry.{Geometry};
 ghost use Rattle.pack_tables.specs.Grammar.{HasSuper};
 
 use crate::block::SharedBlock;
-use crate::leave::{Done, Fault, Leave};
+use crate::leave::{Done, Leave, LeaveFault};
 use crate::one_work::unmounted;
+use crate::pass_table::PassTable;
 use crate::rights::Rights;
+use crate::rounds::{Job, do_side_by_side};
 use crate::serve_ladder::serve_by;
 use crate::service::Service;
-use crate::shelf::Shelf;
-use crate::turns::{Job, do_side_by_side};
 use device::{Block, Meta, Parts};
 use geometry::Error;
 use rights_permits::VolumeName;
@@ -25,9 +25,9 @@ use std::thread::Threads;
 use volume::{SharedName, Volume};
 
 /// Mounts the volume of a device, has a service on it by so many threads, and leaves it once they all have ended. Answers how each
-/// ended, in the order of the stations.
+/// ended, in the order of the threads.
 ///
-/// With `Close` the parts that come back hold a lawful image, whose files are those of the passes that were on the shelf then, and no
+/// With `Close` the parts that come back hold a lawful image, whose files are those of the passes that were in the pass table then, and no
 /// other. What an answer of the service means is promised by `read_part`, `write_part` and `flush`, under the lock of its file. Threads
 /// begin only while the reserve is full.
 ///
@@ -42,9 +42,9 @@ pub fn serve_volume<
     alloc: Global,
     parts: Parts<M, B>,
     leave: Leave,
-    stations: usize,
+    threads: usize,
     service: &S,
-) -> Result<Done<M, B, Vec<Result<(), Error>>>, Fault<M, B>>
+) -> Result<Done<M, B, Vec<Result<(), Error>>>, LeaveFault<M, B>>
     requires run { (bytes : ℕ) × IsBlockRun B.address_of B.content_of bytes 1 parts.blocks.items }
     ensures done { IfOk result (λ done. WorkedOn M.seen M.may_leave B.address_of B.content_of (λ geometry before after. Unit {0}) parts leave done.parts) }
     ensures again { IfOk result (λ done. (bytes : ℕ) × IsBlockRun B.address_of B.content_of bytes 1 done.parts.blocks.items) }
@@ -57,7 +57,7 @@ pub fn serve_volume<
 {
     let serving = Serving {
         service,
-        stations,
+        threads,
         leave,
     };
     match serve_by(rt, alloc, parts, serving) {
@@ -70,7 +70,7 @@ pub fn serve_volume<
 #[derive(Drop)]
 pub(crate) struct Serving<'s, S> {
     pub service: &'s S,
-    pub stations: usize,
+    pub threads: usize,
     pub leave: Leave,
 }
 
@@ -91,48 +91,48 @@ pub(crate) fn serve_side_by_side<
     ensures error { IfErr result (λ error. error ≡ NoMemory) }
 {
     let Rights { seats, passes } = rights;
-    let shelf = Shelf::of(alloc, volume.geometry().files, passes)?;
-    let mut stations = Vec::with_capacity(alloc, serving.stations)?;
-    for station in 0..serving.stations {
-        stations.push(Station {
+    let pass_table = PassTable::of(alloc, volume.geometry().files, passes)?;
+    let mut threads = Vec::with_capacity(alloc, serving.threads)?;
+    for thread in 0..serving.threads {
+        threads.push(ServiceThread {
             alloc,
             volume,
-            shelf: &shelf,
+            pass_table: &pass_table,
             service: serving.service,
-            station,
+            thread,
         })?;
     }
-    let ended = do_side_by_side(rt, stations)?;
-    let passes = shelf.take_all(alloc)?;
+    let ended = do_side_by_side(rt, threads)?;
+    let passes = pass_table.take_all(alloc)?;
     Ok((Rights { seats, passes }, ended))
 }
 
 // One of the threads of a service.
 #[derive(Drop)]
-struct Station<'s, V: VolumeName, M: Meta, B: Block + Drop, S> {
+struct ServiceThread<'s, V: VolumeName, M: Meta, B: Block + Drop, S> {
     alloc: Global,
     volume: &'s Volume<V, M, B>,
-    shelf: &'s Shelf<V>,
+    pass_table: &'s PassTable<V>,
     service: &'s S,
-    station: usize,
+    thread: usize,
 }
 
 impl<'s, V: VolumeName, M: Meta, B: Block + Drop, S: Service<M, B>> Job
-    for Station<'s, V, M, B, S> {
+    for ServiceThread<'s, V, M, B, S> {
     type Done = Result<(), Error>;
 
-    ghost fits = { λ station. Unit {0} };
+    ghost fits = { λ thread. Unit {0} };
 
-    ghost did = { λ station done. Unit {0} };
+    ghost did = { λ thread done. Unit {0} };
 
     fn run<R: Wait>(self, rt: &R) -> Result<(), Error> {
-        let Station {
+        let ServiceThread {
             alloc,
             volume,
-            shelf,
+            pass_table,
             service,
-            station,
+            thread,
         } = self;
-        service.serve(rt, alloc, volume, shelf, station)
+        service.serve(rt, alloc, volume, pass_table, thread)
     }
 }

@@ -10,13 +10,13 @@ ghost use Rattle.image_codec.specs.Blocks.{bytes_at};
 ghost use Rattle.volume.specs.Picked.{HaveNames};
 
 use crate::block::SharedBlock;
-use crate::leave::{Done, Fault};
+use crate::leave::{Done, LeaveFault};
 use crate::leaving::{give_up, leave_with};
 use crate::mounting::mount_parts;
 use crate::rights::Rights;
 use crate::serve::{Serving, serve_side_by_side};
 use crate::service::Service;
-use area::Threading;
+use area::HoleReuse;
 use device::{Block, Meta, Parts};
 use geometry::Error;
 use mount::{Mounted, MountedQueues};
@@ -42,7 +42,7 @@ pub(crate) fn serve_by<
     alloc: Global,
     parts: Parts<M, B>,
     serving: Serving<'_, S>,
-) -> Result<Result<Done<M, B, Vec<Result<(), Error>>>, Fault<M, B>>, OpenFault<M, B>>
+) -> Result<Result<Done<M, B, Vec<Result<(), Error>>>, LeaveFault<M, B>>, OpenFault<M, B>>
     requires run { (bytes : ℕ) × IsBlockRun B.address_of B.content_of bytes 1 parts.blocks.items }
     ensures done { IfOk result (VisitedOn M.seen B.address_of B.content_of (λ geometry base before left. WasWorked M.seen M.may_leave B.address_of B.content_of (λ ended after. Unit {0}) (λ error. error ≡ NoMemory) serving.entry.leave geometry left) parts) }
     ensures handed_back { IfErr result (λ fault. HandsBack M.seen M.may_leave M.moment M.left_since M.failed B.address_of B.content_of B.failed parts fault.parts fault.error) }
@@ -65,7 +65,7 @@ fn on_mounted<
     alloc: Global,
     mounted: Mounted<M, B>,
     serving: Serving<'_, S>,
-) -> Result<Result<Done<M, B, Vec<Result<(), Error>>>, Fault<M, B>>, OpenFault<M, B>>
+) -> Result<Result<Done<M, B, Vec<Result<(), Error>>>, LeaveFault<M, B>>, OpenFault<M, B>>
     requires books { mounted.books ≡ K.books }
     requires rows { mounted.rows ≡ K.rows }
     requires words { mounted.words ≡ K.words }
@@ -93,7 +93,7 @@ fn on_opened<
     alloc: Global,
     opened: MountedQueues<BooksOf<K>, WordsOf<K>, NumbersOf<K>, M, B>,
     serving: Serving<'_, S>,
-) -> Result<Result<Done<M, B, Vec<Result<(), Error>>>, Fault<M, B>>, OpenFault<M, B>>
+) -> Result<Result<Done<M, B, Vec<Result<(), Error>>>, LeaveFault<M, B>>, OpenFault<M, B>>
     requires named { HaveNames opened.queues opened.channel P.ordinary P.reserve T.turns T.key }
     ensures done { IfOk result (VisitedFrom (λ geometry base before left. WasWorked M.seen M.may_leave B.address_of B.content_of (λ ended after. Unit {0}) (λ error. error ≡ NoMemory) serving.entry.leave geometry left) opened.named.mounted.geometry opened.named.mounted.image (bytes_at B.content_of opened.named.mounted.parts.blocks.items)) }
     ensures back { IfErr result (λ fault. fault.parts ≡ opened.named.mounted.parts) }
@@ -101,7 +101,7 @@ fn on_opened<
 {
     match opened.name::<P, T, R>(rt) {
         Ok((volume, seats, passes)) => {
-            let volume = volume.with_threading(rt, Threading::WhileReserveIsFull);
+            let volume = volume.with_hole_reuse(rt, HoleReuse::WhileReserveIsFull);
             let rights = Rights { seats, passes };
             Ok(serve_and_leave(rt, alloc, volume, rights, serving))
         }
@@ -122,7 +122,7 @@ fn serve_and_leave<
     volume: Volume<V, M, B>,
     rights: Rights<V>,
     serving: Serving<'_, S>,
-) -> Result<Done<M, B, Vec<Result<(), Error>>>, Fault<M, B>>
+) -> Result<Done<M, B, Vec<Result<(), Error>>>, LeaveFault<M, B>>
     ensures { WasWorked M.seen M.may_leave B.address_of B.content_of (λ ended after. Unit {0}) (λ error. error ≡ NoMemory) serving.entry.leave V.Numbers.geometry result }
 {
     let leave = serving.leave;

@@ -10,12 +10,12 @@ ghost use Rattle.pack_tables.specs.Grammar.{HasSuper};
 
 use crate::beside::Beside;
 use crate::block::SharedBlock;
-use crate::crew_ladder::visit_by_turns;
-use crate::leave::{Done, Fault, Leave};
+use crate::leave::{Done, Leave, LeaveFault};
 use crate::one_work::unmounted;
+use crate::scheduler_ladder::visit_by_rounds;
 use crate::work::Work;
 use crate::works::Works;
-use area::Threading;
+use area::HoleReuse;
 use device::{Meta, Parts};
 use std::alloc::Global;
 use std::sync::Wait;
@@ -40,7 +40,7 @@ pub fn work_side_by_side<
     parts: Parts<M, B>,
     leave: Leave,
     works: Vec<Beside<W>>,
-) -> Result<Done<M, B, Vec<W::Output>>, Fault<M, B>>
+) -> Result<Done<M, B, Vec<W::Output>>, LeaveFault<M, B>>
 where
     W::Output: Send,
     requires run { (bytes : ℕ) × IsBlockRun B.address_of B.content_of bytes 1 parts.blocks.items }
@@ -54,7 +54,7 @@ where
     ensures not_closed { IfErr result (λ fault. fault.stage ≡ AtClose → IsNotClosed fault.error) }
 {
     let works = Works::Fresh { works, leave };
-    match visit_by_turns(rt, alloc, parts, Threading::WhileReserveIsFull, works) {
+    match visit_by_rounds(rt, alloc, parts, HoleReuse::WhileReserveIsFull, works) {
         Ok(left) => left,
         Err(fault) => Err(unmounted(fault)),
     }

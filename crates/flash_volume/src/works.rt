@@ -1,4 +1,4 @@
-//! Works that are done side by side on one volume: a crew of one turn to deal, and one to take back.
+//! Works that are done side by side on one volume: a scheduler of one round to deal, and one to take back.
 ghost use Rattle.std.specs.Prelude.{◌≡◌, ◌+◌, ◌⊎◌, ◌++◌, Ok, IfOk, IfErr, OnOk, map, vec_len};
 ghost use Rattle.std.specs.List.{AllZip, flat_map};
 ghost use Rattle.flash_volume.specs.Beside.{OneEnded};
@@ -6,10 +6,10 @@ ghost use Rattle.geometry.specs.Weights.{weigh};
 ghost use Rattle.geometry.specs.declared.error.Error.TheVariants.{NoMemory};
 
 use crate::beside::{Beside, deal};
-use crate::crew::{Crew, Duty, Ended, Part, Turn};
 use crate::leave::Leave;
 use crate::lent::Lent;
 use crate::rights::Rights;
+use crate::scheduler::{Ended, PartJob, ScheduledPart, Scheduler, SchedulerRound};
 use crate::work::Work;
 use device::{Block, Meta};
 use geometry::Error;
@@ -32,7 +32,7 @@ pub(crate) struct OneBeside<W> {
     pub(crate) work: W,
 }
 
-impl<M: Meta, B: Block + Drop, W: Work<M, B> + Drop> Part<M, B> for OneBeside<W> {
+impl<M: Meta, B: Block + Drop, W: Work<M, B> + Drop> ScheduledPart<M, B> for OneBeside<W> {
     ghost use Rattle.std.specs.Prelude.{IfOk, IfErr};
 
     type Done = Result<W::Output, Error>;
@@ -51,10 +51,10 @@ impl<M: Meta, B: Block + Drop, W: Work<M, B> + Drop> Part<M, B> for OneBeside<W>
     }
 }
 
-impl<M: Meta, B: Block + Drop, W: Work<M, B> + Drop> Crew<M, B> for Works<W> {
+impl<M: Meta, B: Block + Drop, W: Work<M, B> + Drop> Scheduler<M, B> for Works<W> {
     ghost use Rattle.std.specs.Prelude.{map, IfOk, IfErr};
     ghost use Rattle.flash_volume.specs.Beside.{WorksDid, WorksFailed};
-    ghost use Rattle.flash_volume.specs.Turns.{Keeps};
+    ghost use Rattle.flash_volume.specs.Rounds.{Keeps};
 
     type Part = OneBeside<W>;
 
@@ -64,39 +64,39 @@ impl<M: Meta, B: Block + Drop, W: Work<M, B> + Drop> Crew<M, B> for Works<W> {
 
     ghost failed = { λ works geometry base held ended error. WorksFailed W.failed works geometry held ended error };
 
-    fn turn<'v, V: VolumeName, R: Wait>(
+    fn round<'v, V: VolumeName, R: Wait>(
         self,
         _rt: &R,
         alloc: Global,
         _volume: &'v Volume<V, M, B>,
         lent: &mut Lent<'v, V, B>,
         ended: &mut Vec<Ended<'v, V, B, Result<W::Output, Error>>>,
-    ) -> Result<Turn<Works<W>, Duty<'v, V, B, OneBeside<W>>, Vec<W::Output>>, Error>
-        ensures done { IfOk result (λ turn. Keeps
+    ) -> Result<SchedulerRound<Works<W>, PartJob<'v, V, B, OneBeside<W>>, Vec<W::Output>>, Error>
+        ensures done { IfOk result (λ round. Keeps
             (λ one held. Unit {0})
             (λ one before done after. IfOk done (λ output. W.post one.work V.Numbers.geometry before.passes output after.passes)
             × IfErr done (λ error. W.failed one.work V.Numbers.geometry before.passes error))
             (λ works held ended. Unit {0})
             (λ works held ended outputs leave after. WorksDid W.post works V.Numbers.geometry held ended outputs.items leave after)
             (λ works held ended error. WorksFailed W.failed works V.Numbers.geometry held ended error)
-            (λ duty. record { what = duty.part; held = duty.lent })
+            (λ part_job. record { what = part_job.part; held = part_job.lent })
             (λ outputs leave after. WorksDid W.post self V.Numbers.geometry lent.old (map (λ end. record { what = end.done; held = end.lent }) ended.old.items) outputs.items leave after)
             (WorksFailed W.failed self V.Numbers.geometry lent.old (map (λ end. record { what = end.done; held = end.lent }) ended.old.items))
-            turn lent.new) }
+            round lent.new) }
         ensures refused { IfErr result (WorksFailed W.failed self V.Numbers.geometry lent.old (map (λ end. record { what = end.done; held = end.lent }) ended.old.items)) }
     {
         match self {
             Works::Fresh { works, leave } => {
-                let duties = deal(alloc, &mut lent.rights, works)?;
-                Ok(Turn::Beside {
-                    crew: Works::Dealt { leave },
-                    duties,
+                let part_jobs = deal(alloc, &mut lent.rights, works)?;
+                Ok(SchedulerRound::Beside {
+                    scheduler: Works::Dealt { leave },
+                    part_jobs,
                 })
             }
             Works::Dealt { leave } => {
                 let back = mem::replace(ended, Vec::new(alloc));
                 let output = take_back(alloc, &mut lent.rights, back)?;
-                Ok(Turn::Over { output, leave })
+                Ok(SchedulerRound::Over { output, leave })
             }
         }
     }

@@ -2,6 +2,7 @@ pub mod Weights
 pub mod Shape
 pub mod Limits
 pub mod Refusal
+pub mod Refusals
 pub mod Area
 pub mod Address
 pub mod Owner

@@ -7,6 +7,9 @@ ghost use Rattle.geometry.specs.declared.packing.Packing.TheVariants.{Slots};
 
 use crate::{Error, Packing, Shape};
 
+/// The bytes of a superblock, with which a meta area begins.
+pub const SUPER_BYTES: usize = 64;
+
 /// A volume's numbers. None is beyond its limits.
 #[derive(Clone, Copy, Debug, PartialEq, Eq)]
 pub struct Geometry {

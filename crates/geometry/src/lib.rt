@@ -19,7 +19,7 @@ pub mod state;
 
 pub use class::Class;
 pub use error::Error;
-pub use geometry::Geometry;
+pub use geometry::{Geometry, SUPER_BYTES};
 pub use kind::Kind;
 pub use owner::{Mark, Owner, Summary};
 pub use packing::Packing;

@@ -20,7 +20,7 @@ use Rattle.geometry.specs.File.{Block}
 use Rattle.geometry.specs.Shape.{segment_blocks}
 use Rattle.geometry.specs.Summary.{summary_of}
 use Rattle.image.specs.declared.image.NodeEntry.{NodeEntry}
-use Rattle.image.specs.declared.image.Place.{Place}
+use Rattle.image.specs.declared.image.LogHead.{LogHead}
 use Rattle.image.specs.Image.{SegmentInfo, no_entry, no_node, no_segment, no_summary, entry_of, node_of, is_marked, summary_at}
 use Rattle.image.specs.Walk.{walk, up_to, is_taken, inodes, names, misfits}
 use Rattle.image.specs.Files.{below, data_address, file_of, files}
@@ -93,7 +93,7 @@ all_none P xs none = subst (All P) (sym none) (λ k d within. absurd (omega arit
 pairs_none : {X : Type 0} (P : X → X → Type 0) (xs : List X) → xs ≡ [] → AllPairs P xs
 pairs_none P xs none = subst (AllPairs P) (sym none) (λ i j d before within. absurd (omega arith))
 
-all_first : (P : Option Place → Type 0) → P (first_place 0) → P (first_place 1) → P (first_place 2) → P (first_place 3) → P (first_place 4) → P (first_place 5)
+all_first : (P : Option LogHead → Type 0) → P (first_place 0) → P (first_place 1) → P (first_place 2) → P (first_place 3) → P (first_place 4) → P (first_place 5)
     → All P (map first_place (below 6))
 all_first P a b c d e f zero other within = a
 all_first P a b c d e f (suc zero) other within = b
@@ -141,7 +141,7 @@ no_bits : (n : ℕ) → count_by (λ bit. bit) (replicate n false) ≡ 0
 no_bits n = sum_by-replicate (λ bit. cond bit 1 0) n false ∙ mul-zero n
 
 -- no block is valid from a log's next one on
-abbrev pub NoneFrom : Geometry → Place → Type 0
+abbrev pub NoneFrom : Geometry → LogHead → Type 0
 NoneFrom geometry place = (offset : ℕ) → place.next ≤ offset → offset < segment_blocks geometry.shape
     → ¬ IsTrue (is_marked geometry (empty_image geometry) (address_of geometry.shape place.segment offset))
 
@@ -167,7 +167,7 @@ is_lawful geometry (suc (suc (suc (suc (suc (suc (suc (suc (suc (suc zero)))))))
     record {
       counts = All-replicate (λ (s : SegmentInfo). s.count ≡ count_by (λ bit. bit) s.bits) geometry.segments (empty_segment geometry.shape) (sym (no_bits (segment_blocks geometry.shape)));
       total = sym (sum_by-replicate (λ (s : SegmentInfo). s.count) geometry.segments (empty_segment geometry.shape) ∙ mul-zero geometry.segments);
-      logs = all_first (λ log. IfSome log (λ (place : Place). NoneFrom geometry place))
+      logs = all_first (λ log. IfSome log (λ (place : LogHead). NoneFrom geometry place))
           (none_from geometry 0) (none_from geometry 1) (none_from geometry 2) (none_from geometry 3) (none_from geometry 4) (none_from geometry 5);
       lengths = all_none (λ inode. (index : ℕ) → data_address geometry.shape (empty_image geometry) inode index ≢ 0
           → index < (node_of (empty_image geometry) inode).length) _ (no_inodes geometry);

@@ -8,7 +8,7 @@ use Rattle.std.proofs.lemmas.Bool.{ltb-true, leb-true, le-leb, lt-ltb, le-ltb, e
 use Rattle.geometry.specs.declared.owner.Mark.{Mark}
 use Rattle.image.specs.declared.image.NodeEntry.{NodeEntry}
 use Rattle.geometry.specs.declared.owner.Summary.{Summary}
-use Rattle.image.specs.declared.image.Place.{Place}
+use Rattle.image.specs.declared.image.LogHead.{LogHead}
 use Rattle.geometry.specs.declared.shape.Shape.{Shape}
 use Rattle.geometry.specs.declared.geometry.Geometry.{Geometry}
 use Rattle.geometry.specs.Path.{largest_length, node_entries, inode_entries, path}
@@ -98,11 +98,11 @@ below_by_test p (suc n) h k within =
     ]
 
 -- 1
-abbrev pub place_test : Geometry → Option Place → Bool
+abbrev pub place_test : Geometry → Option LogHead → Bool
 place_test geometry None = true
 place_test geometry (Some p) = nat_lt p.segment geometry.segments && nat_lt p.next (segment_blocks geometry.shape)
 
-place_sound : (geometry : Geometry) (log : Option Place) → place_test geometry log ≡ true → IfSome log (IsPlace geometry)
+place_sound : (geometry : Geometry) (log : Option LogHead) → place_test geometry log ≡ true → IfSome log (IsPlace geometry)
 place_sound geometry None h = tt
 place_sound geometry (Some p) h = (ltb-true _ _ (and_left _ _ h), ltb-true _ _ (and_right (nat_lt p.segment geometry.segments) _ h))
 
@@ -209,7 +209,7 @@ node_sound geometry n both =
     }
 
 -- 2
-abbrev pub apart_test : Option Place → Option Place → Bool
+abbrev pub apart_test : Option LogHead → Option LogHead → Bool
 apart_test (Some p) (Some q) = not (p.segment == q.segment)
 apart_test (Some p) None = true
 apart_test None q = true
@@ -218,7 +218,7 @@ not_true : (b : Bool) → not b ≡ true → b ≡ false
 not_true true h = absurd cc
 not_true false h = refl
 
-pub apart_sound : (a b : Option Place) → apart_test a b ≡ true → AreApart a b
+pub apart_sound : (a b : Option LogHead) → apart_test a b ≡ true → AreApart a b
 apart_sound (Some p) (Some q) h = eqb-false p.segment q.segment (not_true _ h)
 apart_sound (Some p) None h = tt
 apart_sound None q h = tt
@@ -313,12 +313,12 @@ past (x ∷ xs) zero h = absurd (omega arith)
 past (x ∷ xs) (suc k) h = past xs k (omega arith)
 
 -- 10
-abbrev pub log_test : Geometry → Image → Option Place → Bool
+abbrev pub log_test : Geometry → Image → Option LogHead → Bool
 log_test geometry image None = true
 log_test geometry image (Some place) =
     list_all (λ o. not (nat_le place.next o) || not (is_marked geometry image (address_of geometry.shape place.segment o))) (below (segment_blocks geometry.shape))
 
-log_sound : (geometry : Geometry) (image : Image) (log : Option Place) → log_test geometry image log ≡ true
+log_sound : (geometry : Geometry) (image : Image) (log : Option LogHead) → log_test geometry image log ≡ true
     → IfSome log (λ place. (offset : ℕ) → place.next ≤ offset → offset < segment_blocks geometry.shape → ¬ IsTrue (is_marked geometry image (address_of geometry.shape place.segment offset)))
 log_sound geometry image None h = tt
 log_sound geometry image (Some place) h = λ offset after within marked.

@@ -2,11 +2,11 @@
 use Rattle.std.specs.Prelude.{ℕ, Bool, false, not, ◌&&◌, ◌==◌, Option, Some, None, count_by}
 use Rattle.std.specs.List.{list_any}
 use Rattle.geometry.specs.declared.geometry.Geometry.{Geometry}
-use Rattle.image.specs.declared.image.Place.{Place}
+use Rattle.image.specs.declared.image.LogHead.{LogHead}
 use Rattle.image.specs.Image.{Image, info_of}
 use Rattle.image.specs.Files.{below}
 
-abbrev pub stands_in : ℕ → Option Place → Bool
+abbrev pub stands_in : ℕ → Option LogHead → Bool
 stands_in segment None = false
 stands_in segment (Some place) = place.segment == segment
 

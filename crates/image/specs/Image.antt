@@ -4,7 +4,7 @@ use Rattle.geometry.specs.declared.geometry.Geometry.{Geometry}
 use Rattle.geometry.specs.declared.kind.Kind.TheVariants.{File}
 use Rattle.geometry.specs.declared.owner.Summary.{Summary}
 use Rattle.geometry.specs.Address.{segment_of, offset_of}
-use Rattle.image.specs.declared.image.Place.{Place}
+use Rattle.image.specs.declared.image.LogHead.{LogHead}
 use Rattle.image.specs.declared.image.NodeEntry.{NodeEntry}
 use Rattle.image.specs.Node.{Node}
 
@@ -20,7 +20,7 @@ pub record SegmentInfo : Type 0 where
 pub record Image : Type 0 where
   pub version : ℕ
   pub total : ℕ
-  pub logs : List (Option Place)
+  pub logs : List (Option LogHead)
   pub node_table : List NodeEntry
   pub segments : List SegmentInfo
   pub summaries : List Summary

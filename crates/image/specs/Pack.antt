@@ -11,7 +11,7 @@ use Rattle.geometry.specs.declared.owner.Summary.{Summary}
 use Rattle.geometry.specs.Shape.{segment_blocks}
 use Rattle.geometry.specs.Area.{pack_bytes}
 use Rattle.image.specs.declared.image.NodeEntry.{NodeEntry}
-use Rattle.image.specs.declared.image.Place.{Place}
+use Rattle.image.specs.declared.image.LogHead.{LogHead}
 use Rattle.image.specs.Node.{numbers}
 use Rattle.image.specs.Image.{Image, SegmentInfo}
 use Rattle.image.specs.Slots.{Slot}
@@ -32,7 +32,7 @@ superblock geometry =
     ++ numbers (packing_code geometry.packing ∷ shape_code geometry.shape ∷ geometry.segments ∷ geometry.per_section ∷ geometry.files ∷ geometry.nodes ∷ [])
     ++ replicate 32 0
 
-abbrev pub log_bytes : Option Place → List ℕ
+abbrev pub log_bytes : Option LogHead → List ℕ
 log_bytes None = numbers ((2 ^ 32 - 1) ∷ 0 ∷ [])
 log_bytes (Some place) = numbers (place.segment ∷ place.next ∷ [])
 

@@ -11,7 +11,7 @@ use Rattle.geometry.specs.Path.{node_entries, inode_entries}
 use Rattle.geometry.specs.Area.{block_count}
 use Rattle.geometry.specs.File.{Block}
 use Rattle.image.specs.declared.image.NodeEntry.{NodeEntry}
-use Rattle.image.specs.declared.image.Place.{Place}
+use Rattle.image.specs.declared.image.LogHead.{LogHead}
 use Rattle.image.specs.Node.{Node, node_bytes}
 use Rattle.image.specs.Image.{Image, SegmentInfo, no_node}
 
@@ -76,7 +76,7 @@ read_node shape block =
     let node = node_fields shape block (number_at block (block_bytes shape - 16)) in
     if is_spelled shape block node then node else no_node
 
-abbrev pub read_places : List ℕ → ℕ → ℕ → List (Option Place)
+abbrev pub read_places : List ℕ → ℕ → ℕ → List (Option LogHead)
 read_places body place zero = []
 read_places body place (suc n) =
     (if number_at body place == 2 ^ 32 - 1 then None

@@ -9,13 +9,13 @@ use Rattle.geometry.specs.Address.{address_of}
 use Rattle.geometry.specs.Area.{block_count}
 use Rattle.geometry.specs.Summary.{summary_of}
 use Rattle.image.specs.declared.image.NodeEntry.{NodeEntry}
-use Rattle.image.specs.declared.image.Place.{Place}
+use Rattle.image.specs.declared.image.LogHead.{LogHead}
 use Rattle.image.specs.Node.{Node, HasEntries, IsPlain}
 use Rattle.image.specs.Image.{Image, no_summary, no_node, entry_of, node_of, is_marked, summary_at}
 use Rattle.image.specs.Walk.{names, node_name, inodes, is_taken, misfits}
 use Rattle.image.specs.Files.{data_address}
 
-abbrev pub IsPlace : Geometry → Place → Type 0
+abbrev pub IsPlace : Geometry → LogHead → Type 0
 IsPlace geometry place = (place.segment < geometry.segments) × (place.next < segment_blocks geometry.shape)
 
 -- both numbers are in range, and either both are 0 or neither is
@@ -49,7 +49,7 @@ pub record IsInRange (geometry : Geometry) (image : Image) : Type 0 where
   pub owned : NodesHaveEntries geometry image
 
 -- 2: no two logs name one segment
-abbrev pub AreApart : Option Place → Option Place → Type 0
+abbrev pub AreApart : Option LogHead → Option LogHead → Type 0
 AreApart (Some p) (Some q) = p.segment ≢ q.segment
 AreApart (Some p) None = ⊤
 AreApart None q = ⊤

@@ -10,7 +10,7 @@ ghost use Rattle.image.specs.Image.{no_node};
 ghost use Rattle.image.specs.Rules.{IsLawful};
 ghost use Rattle.image.specs.View.{image_view, info_view, node_or_none};
 
-use crate::{Image, Node, NodeEntry, Place, SegmentInfo};
+use crate::{Image, LogHead, Node, NodeEntry, SegmentInfo};
 use geometry::{Error, Geometry, Shape, Summary};
 use std::alloc::{AllocError, Global};
 
@@ -18,12 +18,12 @@ use std::alloc::{AllocError, Global};
 const LOGS: u32 = 6;
 
 // Each log appends to the segment of its number.
-fn first_logs(alloc: Global) -> Result<Vec<Option<Place>>, AllocError>
+fn first_logs(alloc: Global) -> Result<Vec<Option<LogHead>>, AllocError>
     ensures { IfOk result (λ logs. logs.items ≡ map first_place (below 6)) }
 {
     let mut logs = Vec::with_capacity(alloc, LOGS as usize)?;
     for segment in 0..LOGS {
-        logs.push(Some(Place { segment, next: 0 }))?;
+        logs.push(Some(LogHead { segment, next: 0 }))?;
     }
     Ok(logs)
 }

@@ -3,7 +3,7 @@ use geometry::{Class, Kind, Summary};
 
 /// Where a log appends: its open segment, and the next block's place in it.
 #[derive(Clone, Copy, Debug, PartialEq, Eq)]
-pub struct Place {
+pub struct LogHead {
     pub segment: u32,
     pub next: u32,
 }
@@ -52,7 +52,7 @@ pub struct Image {
     /// How many blocks are valid.
     pub total: u32,
     /// Where each of the six logs appends, if it has an open segment.
-    pub logs: Vec<Option<Place>>,
+    pub logs: Vec<Option<LogHead>>,
     /// The node address table, from node number 1 on.
     pub nat: Vec<NodeEntry>,
     /// The segment information table.

@@ -9,4 +9,4 @@ pub mod image;
 pub mod lookup;
 
 pub use empty::empty_law;
-pub use image::{Image, Node, NodeEntry, Place, SegmentInfo};
+pub use image::{Image, LogHead, Node, NodeEntry, SegmentInfo};

@@ -7,10 +7,10 @@ ghost use Rattle.image.specs.Rules.{AreApart};
 ghost use Rattle.image.specs.View.{image_view};
 
 use geometry::Geometry;
-use image::{Image, Place};
+use image::{Image, LogHead};
 
 /// Whether no two logs name one segment.
-pub fn logs_are_apart(logs: &[Option<Place>]) -> bool
+pub fn logs_are_apart(logs: &[Option<LogHead>]) -> bool
     ensures { IsTrue result ↔ AllPairs AreApart logs.now }
 {
     for i in 0..logs.len() {
@@ -26,7 +26,7 @@ pub fn logs_are_apart(logs: &[Option<Place>]) -> bool
 }
 
 /// Whether nothing at or past a log's next block is marked in its segment.
-pub fn log_is_ahead(geometry: &Geometry, image: &Image, place: Place) -> bool
+pub fn log_is_ahead(geometry: &Geometry, image: &Image, place: LogHead) -> bool
     requires low { place.segment < geometry.now.segments }
     ensures { IsTrue result ↔ ((offset : ℕ) → place.next ≤ offset → offset < segment_blocks geometry.now.shape
         → ¬ IsTrue (is_marked geometry.now (image_view image.now) (address_of geometry.now.shape place.segment offset))) }

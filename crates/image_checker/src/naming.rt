@@ -15,20 +15,20 @@ use std::alloc::{AllocError, Global};
 
 /// Names, and the addresses that they have.
 #[derive(Drop)]
-pub struct Named {
+pub struct NamesWithAddresses {
     pub names: Vec<Mark>,
     /// Whether a name has this address.
     pub map: Vec<bool>,
     ghost named: { AreNamed names.items map.items },
 }
 
-impl Named {
+impl NamesWithAddresses {
     /// No names, with room for addresses below a size.
-    pub fn new(alloc: Global, size: usize) -> Result<Named, AllocError>
+    pub fn new(alloc: Global, size: usize) -> Result<NamesWithAddresses, AllocError>
         ensures { IfOk result (λ named. (named.names.items ≡ []) × (length named.map.items ≡ size)) }
     {
         let map = vec![in alloc; false; size]?;
-        Ok(Named {
+        Ok(NamesWithAddresses {
             names: Vec::new(alloc),
             map,
         })
@@ -172,13 +172,13 @@ pub fn distinct_names(
     alloc: Global,
     geometry: &Geometry,
     image: &Image,
-) -> Result<Option<Named>, AllocError>
+) -> Result<Option<NamesWithAddresses>, AllocError>
     requires sized { IsInRange geometry.now (image_view image.now) }
     ensures { IfOk result (λ found. MatchOption found
         (¬ NamesAreDistinct geometry.now (image_view image.now))
         (λ named. (named.names.items ≡ names geometry.now (image_view image.now)) × (length named.map.items ≡ block_count geometry.now + 1))) }
 {
-    let mut named = Named::new(alloc, geometry.blocks() as usize + 1)?;
+    let mut named = NamesWithAddresses::new(alloc, geometry.blocks() as usize + 1)?;
     for k in 0..geometry.files {
         if image.entry(k + 1).address != 0 {
             let more = named.push_walk(image, k + 1)?;

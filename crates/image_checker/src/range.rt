@@ -11,10 +11,10 @@ ghost use Rattle.geometry.specs.Class.{class_code};
 use crate::used::used_of;
 use geometry::{Class, Geometry, Kind, Shape};
 use image::class::class_code;
-use image::{Image, Node, NodeEntry, Place, SegmentInfo};
+use image::{Image, LogHead, Node, NodeEntry, SegmentInfo};
 
 /// Whether each log stands in the main blocks.
-pub fn places_in_range(geometry: &Geometry, logs: &[Option<Place>]) -> bool
+pub fn places_in_range(geometry: &Geometry, logs: &[Option<LogHead>]) -> bool
     ensures { IsTrue result ↔ All (λ log. IfSome log (IsPlace geometry.now)) logs.now }
 {
     for log in logs {

@@ -1,7 +1,8 @@
 //! Nodes out of blocks.
-ghost use Rattle.std.specs.Prelude.{◌≡◌, ◌⊎◌, ◌<◌, ◌≤◌, ℕ, None, Some, length, map, slice_index_or, IfOk, IfErr, IfSome};
+ghost use Rattle.std.specs.Prelude.{◌≡◌, ◌<◌, ◌≤◌, ℕ, None, Some, length, map, slice_index_or, IfOk, IfErr, IfSome};
+ghost use Rattle.geometry.specs.Refusals.{IsOfRead};
 ghost use Rattle.device.specs.Parts.{IsBlockRun};
-ghost use Rattle.geometry.specs.declared.error.Error.TheVariants.{NoMemory, Device};
+ghost use Rattle.geometry.specs.declared.error.Error.TheVariants.{Device};
 ghost use Rattle.geometry.specs.Shape.{block_bytes};
 ghost use Rattle.image.specs.declared.image.Node.{Node as Noded};
 ghost use Rattle.image.specs.Image.{no_entry};
@@ -29,7 +30,7 @@ fn node_at<B: Block>(
     requires buffer { length buffer.old ≡ block_bytes shape }
     ensures node { IfOk result (λ found. node_or_none found ≡ node_of_address shape (bytes_at B.content_of blocks.old.items) address) }
     ensures spelled { IfOk result (λ found. IfSome found (λ node. Spells shape (bytes_at B.content_of blocks.old.items address) (node_view node))) }
-    ensures errors { IfErr result (λ e. (e ≡ NoMemory) ⊎ (e ≡ Device)) }
+    ensures errors { IfErr result IsOfRead }
     ensures device { IfErr result (λ e. e ≡ Device → weigh B.failed blocks.old.items < weigh B.failed blocks.new.items) }
     ensures failures { weigh B.failed blocks.old.items ≤ weigh B.failed blocks.new.items }
     ensures run { IsBlockRun B.address_of B.content_of (block_bytes shape) 1 blocks.new.items }
@@ -60,7 +61,7 @@ pub fn read_nodes<B: Block>(
     ensures nodes { IfOk result (λ nodes. map node_or_none nodes.items ≡ nodes_of_table shape (bytes_at B.content_of blocks.old.items) nat.now) }
     ensures spelled { IfOk result (λ nodes. (k : ℕ) (node : Noded) → slice_index_or nodes.items k None ≡ Some node
         → Spells shape (bytes_at B.content_of blocks.old.items (slice_index_or nat.now k no_entry).address) (node_view node)) }
-    ensures errors { IfErr result (λ e. (e ≡ NoMemory) ⊎ (e ≡ Device)) }
+    ensures errors { IfErr result IsOfRead }
     ensures device { IfErr result (λ e. e ≡ Device → weigh B.failed blocks.old.items < weigh B.failed blocks.new.items) }
     ensures failures { weigh B.failed blocks.old.items ≤ weigh B.failed blocks.new.items }
     ensures run { IsBlockRun B.address_of B.content_of (block_bytes shape) 1 blocks.new.items }

@@ -1,7 +1,7 @@
 -- Marks and names weigh the same, tokens and entries too, so each name is of one marked block and each entry of one
 -- node: with the parts' own laws this gives all ten rules.
 use Rattle.geometry.specs.declared.owner.Mark.{Mark}
-use Rattle.image.specs.declared.image.Place.{Place}
+use Rattle.image.specs.declared.image.LogHead.{LogHead}
 use Rattle.image.specs.declared.image.NodeEntry.{NodeEntry}
 use Rattle.std.proofs.Common.{◌≡◌, ◌≢◌, refl, sym, ◌∙◌, ap, subst, ℕ, zero, suc, ◌+◌, ◌-◌, ◌*◌, ◌<◌, ◌≤◌, ◌⊎◌, inl, inr, Bool, true, false, IsTrue, List, [], ◌∷◌, map, length, get_or, fold, arith}
 use Rattle.std.specs.Prelude.{Option, Some, None, IfSome, All, AllPairs, Contains, sum_by, count_by}
@@ -164,7 +164,7 @@ module _ (geometry : Geometry) (parts : Parts) (image : Image) (law : PartsLaw g
             (subst (HasRange geometry) (sym here) (node_range owned.0 owned.1 owned.3 owned.2 owned.4))
       ]
 
-  open_place : (o : Option Place) → IfSome o (λ place. (place.segment < geometry.segments) × ((segment_at parts place.segment).log ≡ Some place.next))
+  open_place : (o : Option LogHead) → IfSome o (λ place. (place.segment < geometry.segments) × ((segment_at parts place.segment).log ≡ Some place.next))
       → IfSome o (IsPlace geometry)
   open_place None t = tt
   open_place (Some p) t =
@@ -176,7 +176,7 @@ module _ (geometry : Geometry) (parts : Parts) (image : Image) (law : PartsLaw g
   in_range = record {
     version = is.version;
     logs = ap length is.logs ∙ law.logs;
-    places = subst (λ (xs : List (Option Place)). All (λ log. IfSome log (IsPlace geometry)) xs) (sym is.logs) (λ k d low. open_place _ (law.opened k d low));
+    places = subst (λ (xs : List (Option LogHead)). All (λ log. IfSome log (IsPlace geometry)) xs) (sym is.logs) (λ k d low. open_place _ (law.opened k d low));
     table = is.table;
     entries = λ k d low.
         let t = is.table in
@@ -283,7 +283,7 @@ module _ (geometry : Geometry) (parts : Parts) (image : Image) (law : PartsLaw g
       go false e = inr (unmarked geometry parts image law is address e)
 
   -- 10
-  log_free : (o : Option Place) → IfSome o (λ place. (place.segment < geometry.segments) × ((segment_at parts place.segment).log ≡ Some place.next))
+  log_free : (o : Option LogHead) → IfSome o (λ place. (place.segment < geometry.segments) × ((segment_at parts place.segment).log ≡ Some place.next))
       → IfSome o (λ place. (offset : ℕ) → place.next ≤ offset → offset < segment_blocks geometry.shape
       → ¬ IsTrue (is_marked geometry image (address_of geometry.shape place.segment offset)))
   log_free None t = tt
@@ -314,7 +314,7 @@ module _ (geometry : Geometry) (parts : Parts) (image : Image) (law : PartsLaw g
         (sym (info_there geometry parts image law is k under) ∙ get_or_default image.segments k no_segment d low)
         refl;
     total = is.total ∙ sym (fold_info 0 parts.segments) ∙ ap (λ (xs : List SegmentInfo). sum_by (λ (s : SegmentInfo). s.count) xs) (sym is.segments);
-    logs = subst (λ (xs : List (Option Place)). All (λ log. IfSome log (λ place. (offset : ℕ) → place.next ≤ offset → offset < segment_blocks geometry.shape
+    logs = subst (λ (xs : List (Option LogHead)). All (λ log. IfSome log (λ place. (offset : ℕ) → place.next ≤ offset → offset < segment_blocks geometry.shape
         → ¬ IsTrue (is_marked geometry image (address_of geometry.shape place.segment offset)))) xs) (sym is.logs) (λ k d low. log_free _ (law.opened k d low));
     lengths = all_of (λ inode. (index : ℕ) → data_address geometry.shape image inode index ≢ 0 → index < (node_of image inode).length) (inodes geometry image) length_kept;
   }
@@ -322,7 +322,7 @@ module _ (geometry : Geometry) (parts : Parts) (image : Image) (law : PartsLaw g
   pub assembled_is_lawful : IsLawful geometry image
   assembled_is_lawful zero low high = absurd (omega arith)
   assembled_is_lawful (suc zero) low high = in_range
-  assembled_is_lawful (suc (suc zero)) low high = subst (λ (xs : List (Option Place)). AllPairs AreApart xs) (sym is.logs) law.apart
+  assembled_is_lawful (suc (suc zero)) low high = subst (λ (xs : List (Option LogHead)). AllPairs AreApart xs) (sym is.logs) law.apart
   assembled_is_lawful (suc (suc (suc zero))) low high = holds_nodes
   assembled_is_lawful (suc (suc (suc (suc zero)))) low high = nodes_fit
   assembled_is_lawful (suc (suc (suc (suc (suc zero))))) low high = nodes_met

@@ -2,7 +2,7 @@
 -- is picked, and what its image marks is as it was written.
 use Rattle.geometry.specs.declared.owner.Owner.{Owner}
 use Rattle.geometry.specs.declared.owner.Summary.{Summary}
-use Rattle.image.specs.declared.image.Place.{Place}
+use Rattle.image.specs.declared.image.LogHead.{LogHead}
 use Rattle.std.proofs.Common.{◌≡◌, ◌≢◌, refl, sym, ◌∙◌, ap, subst, ℕ, zero, suc, ◌+◌, ◌-◌, ◌%◌, ◌<◌, ◌≤◌, ◌⊎◌, inl, inr, Bool, true, false, ◌&&◌, IsTrue, List, [], ◌∷◌, length, get_or, arith}
 use Rattle.std.proofs.lemmas.List.{get_or_past}
 use Rattle.std.proofs.lemmas.List.FromFn.{length-map-range_with_len, get_or-map-range_with_len}
@@ -206,8 +206,8 @@ live_of (Some next) count offset below counted = below
 live_of None zero offset below counted = absurd (omega arith)
 live_of None (suc count) offset below counted = tt
 
-log_below : (geometry : Geometry) (image : Image) (logs : List (Option Place)) (segment offset : ℕ)
-    → All (λ log. IfSome log (λ (place : Place). (o : ℕ) → place.next ≤ o → o < segment_blocks geometry.shape
+log_below : (geometry : Geometry) (image : Image) (logs : List (Option LogHead)) (segment offset : ℕ)
+    → All (λ log. IfSome log (λ (place : LogHead). (o : ℕ) → place.next ≤ o → o < segment_blocks geometry.shape
     → ¬ IsTrue (is_marked geometry image (address_of geometry.shape place.segment o)))) logs
     → offset < segment_blocks geometry.shape → IsTrue (is_marked geometry image (address_of geometry.shape segment offset))
     → IfSome (log_in logs segment) (λ next. offset < next)

@@ -1,6 +1,6 @@
 -- The laws of the parts can be met: a file of two blocks, one of them below a direct node, in one segment, balances
 -- with its shards and has a faithful image.
-use Rattle.image.specs.declared.image.Place.{Place}
+use Rattle.image.specs.declared.image.LogHead.{LogHead}
 use Rattle.geometry.specs.declared.path.Path.{Path}
 use Rattle.std.proofs.Common.{◌≡◌, ◌≢◌, refl, sym, ◌∙◌, ap, subst, ℕ, zero, suc, ◌+◌, ◌-◌, ◌/◌, ◌%◌, ◌^◌, ◌<◌, ◌≤◌, inl, inr, Bool, true, false, List, [], ◌∷◌, get_or, replicate, if◌then◌else◌, ◌==◌, arith}
 use Rattle.std.specs.Prelude.{Option, Some, None, IfSome, All, nat_lt, unwrap_or}
@@ -232,7 +232,7 @@ parts_law = record {
   files = files;
 }
   where
-    opened : (k : ℕ) (d : Option Place) → k < 6 → IfSome (get_or parts.logs k d) (λ place. (place.segment < 16) × ((segment_at parts place.segment).log ≡ Some place.next))
+    opened : (k : ℕ) (d : Option LogHead) → k < 6 → IfSome (get_or parts.logs k d) (λ place. (place.segment < 16) × ((segment_at parts place.segment).log ≡ Some place.next))
     opened zero d low = (omega arith, refl)
     opened (suc zero) d low = tt
     opened (suc (suc zero)) d low = tt
@@ -241,7 +241,7 @@ parts_law = record {
     opened (suc (suc (suc (suc (suc zero))))) d low = tt
     opened (suc (suc (suc (suc (suc (suc k)))))) d low = absurd (omega arith)
 
-    apart : (i j : ℕ) (d : Option Place) → i < j → j < 6 → AreApart (get_or parts.logs i d) (get_or parts.logs j d)
+    apart : (i j : ℕ) (d : Option LogHead) → i < j → j < 6 → AreApart (get_or parts.logs i d) (get_or parts.logs j d)
     apart zero zero d before low = absurd (omega arith)
     apart zero (suc zero) d before low = tt
     apart zero (suc (suc zero)) d before low = tt

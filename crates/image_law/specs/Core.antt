@@ -5,7 +5,7 @@ pub use Rattle.geometry.specs.Blocks.{changed}
 use Rattle.geometry.specs.declared.owner.Owner.{Owner}
 use Rattle.geometry.specs.declared.owner.Summary.{Summary}
 use Rattle.geometry.specs.Summary.{summary_of, owner_in}
-use Rattle.image.specs.declared.image.Place.{Place}
+use Rattle.image.specs.declared.image.LogHead.{LogHead}
 use Rattle.std.specs.Prelude.{◌≡◌, ◌<◌, ℕ, zero, suc, ◌+◌, ◌-◌, ◌%◌, Bool, true, false, IsTrue, ◌==◌, nat_lt, if◌then◌else◌, List, [], ◌∷◌, Option, Some, None, IsSome, map, slice_index_or, unwrap_or}
 use Rattle.geometry.specs.declared.shape.Shape.{Shape}
 use Rattle.geometry.specs.declared.geometry.Geometry.{Geometry}
@@ -234,7 +234,7 @@ abbrev pub image_of : Geometry → Left → ℕ → Image
 image_of geometry left slot = image_in geometry (left.slots slot).body left.blocks
 
 -- the next offset of the log that has this segment, if one has
-abbrev pub log_in : List (Option Place) → ℕ → Option ℕ
+abbrev pub log_in : List (Option LogHead) → ℕ → Option ℕ
 log_in [] segment = None
 log_in (None ∷ rest) segment = log_in rest segment
 log_in (Some place ∷ rest) segment = if place.segment == segment then Some place.next else log_in rest segment

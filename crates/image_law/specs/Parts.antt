@@ -6,7 +6,7 @@ use Rattle.geometry.specs.declared.owner.Summary.{Summary}
 use Rattle.geometry.specs.Summary.{summary_of}
 use Rattle.geometry.specs.declared.kind.Kind.{Kind}
 use Rattle.geometry.specs.declared.kind.Kind.TheVariants.{File}
-use Rattle.image.specs.declared.image.Place.{Place}
+use Rattle.image.specs.declared.image.LogHead.{LogHead}
 use Rattle.geometry.specs.declared.path.Path.{Path}
 use Rattle.geometry.specs.declared.path.Path.TheVariants.{Inode, Direct, Indirect, Double}
 use Rattle.std.specs.Prelude.{◌≡◌, ◌≢◌, ◌<◌, ◌≤◌, ℕ, zero, suc, ◌+◌, ◌%◌, ◌==◌, Bool, true, false, if◌then◌else◌, List, [], ◌∷◌, length, map, slice_index, slice_index_or, sum_by, count_by, Option, Some, None, IfSome, All, AllPairs}
@@ -229,7 +229,7 @@ pub record FileLaw (geometry : Geometry) (inode : ℕ) (file : FileTree) : Type 
 pub record Parts : Type 0 where
   pub segments : List SegmentState
   pub shards : List (List Token)
-  pub logs : List (Option Place)
+  pub logs : List (Option LogHead)
   pub files : List (Option FileTree)
 
 abbrev pub segment_at : Parts → ℕ → SegmentState

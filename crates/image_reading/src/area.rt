@@ -8,14 +8,11 @@ ghost use Rattle.pack_tables.specs.Grammar.{HasSuper};
 ghost use Rattle.pack_tables.specs.Holding.{HoldsTables};
 
 use device::{MemMeta, Meta};
-use geometry::{Error, Geometry};
+use geometry::{Error, Geometry, SUPER_BYTES};
 use image::Image;
 use pack_tables::{encode, write_super};
 use packs::Packs;
 use std::alloc::Global;
-
-// The bytes of a superblock.
-const SUPER_BYTES: usize = 64;
 
 /// A meta area with the superblock of a geometry, and a pack of the first version that spells an image's tables. The only error is
 /// NoMemory.

@@ -2,7 +2,7 @@
 ghost use Rattle.std.specs.Prelude.{◌≡◌, [], ◌∷◌, IfOk, OnOk, OnErr};
 
 use crate::seen::SeenBytes;
-use device::log::Log;
+use device::log::History;
 use std::fs::File;
 use std::io;
 use std::os::unix::fs::FileExt;
@@ -12,8 +12,8 @@ use std::os::unix::fs::FileExt;
 #[derive(Drop)]
 pub struct FileSource {
     file: File,
-    pub(crate) reads: Log<u64, SeenBytes>,
-    pub(crate) sizes: Log<u64, ()>,
+    pub(crate) reads: History<u64, SeenBytes>,
+    pub(crate) sizes: History<u64, ()>,
 }
 
 impl FileSource {
@@ -22,8 +22,8 @@ impl FileSource {
         ensures reads { result.reads.items ≡ [] }
         ensures sizes { result.sizes.items ≡ [] }
     {
-        let reads = Log::new();
-        let sizes = Log::new();
+        let reads = History::new();
+        let sizes = History::new();
         FileSource { file, reads, sizes }
     }
 

@@ -19,16 +19,13 @@ ghost use Rattle.pack_tables.specs.Holding.{HoldsTables};
 use crate::fault::ReadFault;
 use crate::source::ImageSource;
 use device::{MemMeta, Meta};
-use geometry::{Error, Geometry};
+use geometry::{Error, Geometry, SUPER_BYTES};
 use image::{Image, Node, NodeEntry};
 use image_checker::check;
 use image_codec::decode_node;
 use pack_tables::{decode, file_bytes, read_super};
 use packs::Packs;
 use std::alloc::Global;
-
-// The bytes of a superblock.
-const SUPER_BYTES: usize = 64;
 
 const FOOTER_BYTES: u64 = 4;
 

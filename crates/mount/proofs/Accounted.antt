@@ -5,7 +5,7 @@ use Rattle.std.specs.Prelude.{is_some}
 use Rattle.geometry.specs.Weights.{weigh}
 use Rattle.geometry.specs.declared.geometry.Geometry.{Geometry}
 use Rattle.geometry.specs.declared.owner.Mark.{Mark}
-use Rattle.rights_books.specs.declared.claim.Entry.{Entry}
+use Rattle.rights_books.specs.declared.claim.TakenNumber.{TakenNumber}
 use Rattle.tickets.specs.Placed.{Placed}
 use Rattle.nodes.specs.Change.{of_tickets, of_tokens}
 use Rattle.nodes.specs.declared.file.FileState.{FileState}
@@ -42,13 +42,13 @@ weigh_nothing : {A : Type 0} (xs : List A) → weigh (λ (x : A). 0) xs ≡ 0
 weigh_nothing [] = refl
 weigh_nothing (x ∷ xs) = let rest = weigh_nothing xs in omega arith
 
-nodes_weigh_nothing : {B L : Type 0} (f : FileState B L) → weight_of f (of_tokens (λ (k : Entry). 0)) ≡ 0
+nodes_weigh_nothing : {B L : Type 0} (f : FileState B L) → weight_of f (of_tokens (λ (k : TakenNumber). 0)) ≡ 0
 nodes_weigh_nothing f = nodes_weigh (λ n. 0) f ∙ weigh_nothing (nodes_of f)
 
 module _ {B L : Type 0} (geometry : Geometry) (image : Image) (lawful : IsLawful geometry image) (bytes : ℕ → List ℕ) (all : Shelves Placed) (goods : AreGoods geometry image bytes all.tickets all.tokens) (files : List (Option (FileState B L)))
     (are : AreFiles geometry image all files)
-    (whole : (ticket : Placed → ℕ) (token : Entry → ℕ) → weigh (in_place (λ (f : FileState B L). weight_of f (of_rights ticket token))) files ≡ weigh (in_place ticket) all.tickets + weigh (in_place token) all.tokens) where
-  none_tokens : (ts : List (Option Entry)) → weigh (in_place (λ (k : Entry). 0)) ts ≡ 0
+    (whole : (ticket : Placed → ℕ) (token : TakenNumber → ℕ) → weigh (in_place (λ (f : FileState B L). weight_of f (of_rights ticket token))) files ≡ weigh (in_place ticket) all.tickets + weigh (in_place token) all.tokens) where
+  none_tokens : (ts : List (Option TakenNumber)) → weigh (in_place (λ (k : TakenNumber). 0)) ts ≡ 0
   none_tokens [] = refl
   none_tokens (None ∷ ts) = let rest = none_tokens ts in omega arith
   none_tokens (Some k ∷ ts) = let rest = none_tokens ts in omega arith
@@ -61,7 +61,7 @@ module _ {B L : Type 0} (geometry : Geometry) (image : Image) (lawful : IsLawful
   of_all : (ticket : Placed → ℕ) → weigh (in_place (λ (f : FileState B L). weight_of f (of_tickets ticket))) files ≡ weigh (in_place ticket) all.tickets
   of_all ticket = let total = whole ticket (λ _. 0) in let none = none_tokens all.tokens in omega arith
 
-  of_all_tokens : (token : Entry → ℕ) → weigh (in_place (λ (f : FileState B L). weight_of f (of_tokens token))) files ≡ weigh (in_place token) all.tokens
+  of_all_tokens : (token : TakenNumber → ℕ) → weigh (in_place (λ (f : FileState B L). weight_of f (of_tokens token))) files ≡ weigh (in_place token) all.tokens
   of_all_tokens token = let total = whole (λ _. 0) token in let none = none_tickets all.tickets in omega arith
 
   module _ (j : ℕ) (f : FileState B L) (at : get_or files j None ≡ Some f) where
@@ -84,20 +84,20 @@ module _ {B L : Type 0} (geometry : Geometry) (image : Image) (lawful : IsLawful
     tickets_some h = tickets_same geometry image all j f loaded fits (λ (t : Placed). of_some geometry.files (file_of image t.mark.owner) (h t.mark)) (λ (t : Placed). h t.mark)
         (λ t is. ap (λ i. of_some geometry.files i (h t.mark)) is ∙ some_in geometry.files j (h t.mark) has.low has.high)
 
-    tokens_own : (h : Entry → ℕ) → weight_of f (of_tokens (λ (k : Entry). of_file j k.inode (h k))) ≡ weight_of f (of_tokens h)
-    tokens_own h = tokens_same geometry image all j f loaded fits lawful bytes goods (λ (k : Entry). of_file j k.inode (h k)) h (λ k is. file_same j k.inode (h k) is)
+    tokens_own : (h : TakenNumber → ℕ) → weight_of f (of_tokens (λ (k : TakenNumber). of_file j k.inode (h k))) ≡ weight_of f (of_tokens h)
+    tokens_own h = tokens_same geometry image all j f loaded fits lawful bytes goods (λ (k : TakenNumber). of_file j k.inode (h k)) h (λ k is. file_same j k.inode (h k) is)
 
-    tokens_other : (inode : ℕ) (h : Entry → ℕ) → j ≢ inode → weight_of f (of_tokens (λ (k : Entry). of_file inode k.inode (h k))) ≡ 0
-    tokens_other inode h apart = tokens_same geometry image all j f loaded fits lawful bytes goods (λ (k : Entry). of_file inode k.inode (h k)) (λ (k : Entry). 0) (λ k is. file_other inode k.inode (h k) (λ e. apart (sym is ∙ e))) ∙ nodes_weigh_nothing f
+    tokens_other : (inode : ℕ) (h : TakenNumber → ℕ) → j ≢ inode → weight_of f (of_tokens (λ (k : TakenNumber). of_file inode k.inode (h k))) ≡ 0
+    tokens_other inode h apart = tokens_same geometry image all j f loaded fits lawful bytes goods (λ (k : TakenNumber). of_file inode k.inode (h k)) (λ (k : TakenNumber). 0) (λ k is. file_other inode k.inode (h k) (λ e. apart (sym is ∙ e))) ∙ nodes_weigh_nothing f
 
-    tokens_some : (h : Entry → ℕ) → weight_of f (of_tokens (λ (k : Entry). of_some geometry.files k.inode (h k))) ≡ weight_of f (of_tokens h)
-    tokens_some h = tokens_same geometry image all j f loaded fits lawful bytes goods (λ (k : Entry). of_some geometry.files k.inode (h k)) h
+    tokens_some : (h : TakenNumber → ℕ) → weight_of f (of_tokens (λ (k : TakenNumber). of_some geometry.files k.inode (h k))) ≡ weight_of f (of_tokens h)
+    tokens_some h = tokens_same geometry image all j f loaded fits lawful bytes goods (λ (k : TakenNumber). of_some geometry.files k.inode (h k)) h
         (λ k is. ap (λ i. of_some geometry.files i (h k)) is ∙ some_in geometry.files j (h k) has.low has.high)
 
   -- what is of an inode is its file's
-  pub file_held : (inode : ℕ) (f : FileState B L) → get_or files inode None ≡ Some f → (tickets : List Mark) (tokens : List Entry)
+  pub file_held : (inode : ℕ) (f : FileState B L) → get_or files inode None ≡ Some f → (tickets : List Mark) (tokens : List TakenNumber)
       → ((h : Mark → ℕ) → weigh h tickets ≡ weigh (in_place (λ (t : Placed). of_file inode (file_of image t.mark.owner) (h t.mark))) all.tickets)
-      → ((h : Entry → ℕ) → weigh h tokens ≡ weigh (in_place (λ (k : Entry). of_file inode k.inode (h k))) all.tokens) → AreHeld f tickets tokens
+      → ((h : TakenNumber → ℕ) → weigh h tokens ≡ weigh (in_place (λ (k : TakenNumber). of_file inode k.inode (h k))) all.tokens) → AreHeld f tickets tokens
   file_held inode f at tickets tokens of_tickets_are of_tokens_are = record {
     tickets = λ h.
         (let lodged = of_tickets_are h in
@@ -107,8 +107,8 @@ module _ {B L : Type 0} (geometry : Geometry) (image : Image) (lawful : IsLawful
         omega arith);
     tokens = λ h.
         (let lodged = of_tokens_are h in
-        let total = of_all_tokens (λ (k : Entry). of_file inode k.inode (h k)) in
-        let one = one_place (λ (g : FileState B L). weight_of g (of_tokens (λ (k : Entry). of_file inode k.inode (h k)))) files inode f at (λ j g apart there. tokens_other j g there inode h apart) in
+        let total = of_all_tokens (λ (k : TakenNumber). of_file inode k.inode (h k)) in
+        let one = one_place (λ (g : FileState B L). weight_of g (of_tokens (λ (k : TakenNumber). of_file inode k.inode (h k)))) files inode f at (λ j g apart there. tokens_other j g there inode h apart) in
         let own = tokens_own inode f at h in
         omega arith);
   }
@@ -120,10 +120,10 @@ module _ {B L : Type 0} (geometry : Geometry) (image : Image) (lawful : IsLawful
       ∙ (places_same (λ (g : FileState B L). weight_of g (of_tickets (λ (t : Placed). of_some geometry.files (file_of image t.mark.owner) (h t.mark)))) (λ (g : FileState B L). weight_of g (of_tickets (λ (t : Placed). h t.mark))) files (λ j g at. tickets_some j g at h)
       ∙ of_all (λ (t : Placed). h t.mark))
 
-  pub all_tokens : (h : Entry → ℕ) → weigh (in_place (λ (k : Entry). of_some geometry.files k.inode (h k))) all.tokens ≡ weigh (in_place h) all.tokens
+  pub all_tokens : (h : TakenNumber → ℕ) → weigh (in_place (λ (k : TakenNumber). of_some geometry.files k.inode (h k))) all.tokens ≡ weigh (in_place h) all.tokens
   all_tokens h =
-      sym (of_all_tokens (λ (k : Entry). of_some geometry.files k.inode (h k)))
-      ∙ (places_same (λ (g : FileState B L). weight_of g (of_tokens (λ (k : Entry). of_some geometry.files k.inode (h k)))) (λ (g : FileState B L). weight_of g (of_tokens h)) files (λ j g at. tokens_some j g at h)
+      sym (of_all_tokens (λ (k : TakenNumber). of_some geometry.files k.inode (h k)))
+      ∙ (places_same (λ (g : FileState B L). weight_of g (of_tokens (λ (k : TakenNumber). of_some geometry.files k.inode (h k)))) (λ (g : FileState B L). weight_of g (of_tokens h)) files (λ j g at. tokens_some j g at h)
       ∙ of_all_tokens h)
 
   module _ (inode : ℕ) (none : get_or files inode None ≡ None) where
@@ -136,7 +136,7 @@ module _ {B L : Type 0} (geometry : Geometry) (image : Image) (lawful : IsLawful
         sym (of_all (λ (t : Placed). of_file inode (file_of image t.mark.owner) (h t.mark)))
         ∙ none_places (λ (g : FileState B L). weight_of g (of_tickets (λ (t : Placed). of_file inode (file_of image t.mark.owner) (h t.mark)))) files (λ j g at. tickets_other j g at inode h (apart j g at))
 
-    pub no_tokens_of : (h : Entry → ℕ) → weigh (in_place (λ (k : Entry). of_file inode k.inode (h k))) all.tokens ≡ 0
+    pub no_tokens_of : (h : TakenNumber → ℕ) → weigh (in_place (λ (k : TakenNumber). of_file inode k.inode (h k))) all.tokens ≡ 0
     no_tokens_of h =
-        sym (of_all_tokens (λ (k : Entry). of_file inode k.inode (h k)))
-        ∙ none_places (λ (g : FileState B L). weight_of g (of_tokens (λ (k : Entry). of_file inode k.inode (h k)))) files (λ j g at. tokens_other j g at inode h (apart j g at))
+        sym (of_all_tokens (λ (k : TakenNumber). of_file inode k.inode (h k)))
+        ∙ none_places (λ (g : FileState B L). weight_of g (of_tokens (λ (k : TakenNumber). of_file inode k.inode (h k)))) files (λ j g at. tokens_other j g at inode h (apart j g at))

@@ -9,7 +9,7 @@ use Rattle.geometry.specs.declared.owner.Owner.{Owner}
 use Rattle.geometry.specs.declared.owner.Owner.TheVariants.{Node, Data}
 use Rattle.geometry.specs.Area.{block_count}
 use Rattle.geometry.specs.Shape.{block_bytes}
-use Rattle.rights_books.specs.declared.claim.Entry.{Entry}
+use Rattle.rights_books.specs.declared.claim.TakenNumber.{TakenNumber}
 use Rattle.tickets.specs.Placed.{Placed}
 use Rattle.nodes.specs.declared.branch.Branch.{Branch}
 use Rattle.nodes.specs.Tree.{entry_at}
@@ -38,17 +38,17 @@ use Rattle.mount_blocks.proofs.Passing.{taken_of, entry_within}
 use Rattle.image_codec.specs.Blocks.{AreBlocks}
 use Rattle.mount.proofs.Nodes.{IsNodeFrom, has_entry, token_is, node_from, below_from, below_class}
 
-own_test : (files inode : ℕ) (entry : Entry) → entry.inode ≡ inode → files < entry.number → strange files inode entry ≡ 0
+own_test : (files inode : ℕ) (entry : TakenNumber) → entry.inode ≡ inode → files < entry.number → strange files inode entry ≡ 0
 own_test files inode entry is past = rw (eq-eqb entry.inode inode is, lt-ltb files entry.number past) refl
 
-whole_test : (size : ℕ) (entry : Entry) → length entry.bytes ≡ size → ragged size entry ≡ 0
+whole_test : (size : ℕ) (entry : TakenNumber) → length entry.bytes ≡ size → ragged size entry ≡ 0
 whole_test size entry is = go (entry.address == 0) (eq-eqb (length entry.bytes) size is)
   where
     go : (b : Bool) → (length entry.bytes == size) ≡ true → ◌≡◌ {A = ℕ} (if b || (length entry.bytes == size) then 0 else 1) 0
     go true e = refl
     go false e = rw e refl
 
-number_test : (entry : Entry) → 0 < entry.number → unnumbered entry ≡ 0
+number_test : (entry : TakenNumber) → 0 < entry.number → unnumbered entry ≡ 0
 number_test entry some = rw (ne_eqb entry.number 0 (λ z. absurd (omega arith))) refl
 
 placed_test : (t : Placed) → 0 < t.mark.address → unplaced t ≡ 0
@@ -135,16 +135,16 @@ module _ {B L : Type 0} (geometry : Geometry) (image : Image) (lawful : IsLawful
   spelled_one : (m : TreeNode) → From m → IsSpelled geometry.shape inode m
   spelled_one m is =
       let some = some_entry m is in
-      let address : m.token.address ≡ (entry_of image m.token.number).address = ap (λ (x : Entry). x.address) (shows m is) in
+      let address : m.token.address ≡ (entry_of image m.token.number).address = ap (λ (x : TakenNumber). x.address) (shows m is) in
       let positive : 0 < m.token.address = elim (cases_eq m.token.address 0) [ inl none ↦ absurd (some (sym address ∙ none)) | inr other ↦ omega arith ] in
       let spells = blocks.spelled m.token.number (taken_of image m.token.number some) in (
         positive,
-        subst (λ (n : ImageNode). Spells geometry.shape m.token.bytes n) (sym is.is) (subst (λ bs. Spells geometry.shape bs (node_of image m.token.number)) (sym (ap (λ (x : Entry). x.bytes) (shows m is))) spells),
+        subst (λ (n : ImageNode). Spells geometry.shape m.token.bytes n) (sym is.is) (subst (λ bs. Spells geometry.shape bs (node_of image m.token.number)) (sym (ap (λ (x : TakenNumber). x.bytes) (shows m is))) spells),
       )
 
   whole_one : (m : TreeNode) → From m → ragged (block_bytes geometry.shape) m.token ≡ 0
   whole_one m is =
-      whole_test (block_bytes geometry.shape) m.token (ap (λ (x : Entry). length x.bytes) (shows m is) ∙ blocks.whole (entry_of image m.token.number).address (address_some m is) (address_most m is))
+      whole_test (block_bytes geometry.shape) m.token (ap (λ (x : TakenNumber). length x.bytes) (shows m is) ∙ blocks.whole (entry_of image m.token.number).address (address_some m is) (address_most m is))
     where
       address_some : (m : TreeNode) → From m → 1 ≤ (entry_of image m.token.number).address
       address_some m is = elim (cases_lt 0 (entry_of image m.token.number).address) [ inl low ↦ omega arith | inr none ↦ absurd (some_entry m is (omega arith)) ]
@@ -164,7 +164,7 @@ module _ {B L : Type 0} (geometry : Geometry) (image : Image) (lawful : IsLawful
         | inl high ↦ high
         | inr low ↦ (let none = (rule.low low).0 in absurd (omega arith))
       ] in
-      own_test geometry.files inode m.token (ap (λ (x : Entry). x.inode) (shows m is) ∙ is.belongs) past
+      own_test geometry.files inode m.token (ap (λ (x : TakenNumber). x.inode) (shows m is) ∙ is.belongs) past
 
   numbered_one : (m : TreeNode) → From m → unnumbered m.token ≡ 0
   numbered_one m is = number_test m.token (entry_within geometry image lawful m.token.number (some_entry m is)).0
@@ -176,7 +176,7 @@ module _ {B L : Type 0} (geometry : Geometry) (image : Image) (lawful : IsLawful
   state_law shape = record {
     spelled = λ n among clean. subst (λ s. IsSpelled s f.token.number n) (sym shape) (subst (λ i. IsSpelled geometry.shape i n) (sym l.number_is) (spelled_one n (from n among)));
     tokens = record {
-      inode = ap (λ (x : Entry). x.inode) (token_is geometry image lawful bytes all goods inode f.token l.token) ∙ (fits.belongs ∙ sym l.number_is);
+      inode = ap (λ (x : TakenNumber). x.inode) (token_is geometry image lawful bytes all goods inode f.token l.token) ∙ (fits.belongs ∙ sym l.number_is);
       below = subst (λ i. below_weight f (of_tokens (strange geometry.files i)) ≡ 0) (sym l.number_is)
           (below_weighs (λ n. strange geometry.files inode n.token) f ∙ none_all (λ (n : TreeNode). strange geometry.files inode n.token) (nodes_below f) strange_one);
       whole = subst (λ s. weight_of f (of_tokens (ragged (block_bytes s))) ≡ 0) (sym shape)

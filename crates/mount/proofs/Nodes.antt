@@ -6,7 +6,7 @@ use Rattle.std.specs.List.{flat_map}
 use Rattle.geometry.specs.declared.geometry.Geometry.{Geometry}
 use Rattle.geometry.specs.declared.kind.Kind.TheVariants.{File}
 use Rattle.geometry.specs.Path.{node_entries, largest_length}
-use Rattle.rights_books.specs.declared.claim.Entry.{Entry}
+use Rattle.rights_books.specs.declared.claim.TakenNumber.{TakenNumber}
 use Rattle.tickets.specs.Placed.{Placed}
 use Rattle.nodes.specs.declared.branch.Branch.{Branch}
 use Rattle.nodes.specs.Tree.{entry_at}
@@ -85,21 +85,21 @@ module _ (geometry : Geometry) (image : Image) (lawful : IsLawful geometry image
   e = node_entries geometry.shape
 
   -- a number whose token is there has an entry
-  pub has_entry : (n : ℕ) (token : Entry) → slice_index_or all.tokens n None ≡ Some token → (entry_of image n).address ≢ 0
+  pub has_entry : (n : ℕ) (token : TakenNumber) → slice_index_or all.tokens n None ≡ Some token → (entry_of image n).address ≢ 0
   has_entry n token at none = (let off = sym (no_token image bytes n none) ∙ (sym (goods.nodes n) ∙ at) in cc)
 
   -- and shows it
-  pub token_is : (n : ℕ) (token : Entry) → slice_index_or all.tokens n None ≡ Some token
+  pub token_is : (n : ℕ) (token : TakenNumber) → slice_index_or all.tokens n None ≡ Some token
       → token ≡ record { number = n; inode = (entry_of image n).inode; address = (entry_of image n).address; bytes = bytes (entry_of image n).address }
   token_is n token at = same_some (slice_index_or all.tokens n None) token _ at (goods.nodes n ∙ some_token image bytes n (has_entry n token at))
 
-  node_rule : (n : ℕ) (token : Entry) → slice_index_or all.tokens n None ≡ Some token → IsNodeOf geometry image n
+  node_rule : (n : ℕ) (token : TakenNumber) → slice_index_or all.tokens n None ≡ Some token → IsNodeOf geometry image n
   node_rule n token at =
       let some = has_entry n token at in
       let within = entry_within geometry image lawful n some in
       lawful 3 (omega arith) (omega arith) n within.1 (taken_of image n some)
 
-  node_range : (n : ℕ) (token : Entry) → slice_index_or all.tokens n None ≡ Some token → HasRange geometry (node_of image n)
+  node_range : (n : ℕ) (token : TakenNumber) → slice_index_or all.tokens n None ≡ Some token → HasRange geometry (node_of image n)
   node_range n token at =
       let some = has_entry n token at in
       let within = entry_within geometry image lawful n some in
@@ -110,7 +110,7 @@ module _ (geometry : Geometry) (image : Image) (lawful : IsLawful geometry image
       subst (HasRange geometry) (sym is) (range.nodes (n - 1) no_node (let low = within.0 in let high = within.1 in omega arith))
 
   -- a file is no longer than its tree reaches
-  pub length_within : (n : ℕ) (token : Entry) → slice_index_or all.tokens n None ≡ Some token → (node_of image n).length ≤ largest_length geometry.shape
+  pub length_within : (n : ℕ) (token : TakenNumber) → slice_index_or all.tokens n None ≡ Some token → (node_of image n).length ≤ largest_length geometry.shape
   length_within n token at = (node_range n token at).length
 
   module _ (inode : ℕ) where

@@ -9,7 +9,7 @@ use Rattle.atomic_table.specs.Seated.{TableId}
 use Rattle.geometry.specs.declared.geometry.Geometry.{Geometry}
 use Rattle.geometry.specs.File.{File, Block}
 use Rattle.rights_books.specs.Accounts.{FileView}
-use Rattle.rights_books.specs.declared.claim.Entry.{Entry}
+use Rattle.rights_books.specs.declared.claim.TakenNumber.{TakenNumber}
 use Rattle.tickets.specs.Placed.{Placed}
 use Rattle.nodes.specs.declared.file.FileState.{FileState}
 use Rattle.nodes.specs.File.{IsFile, ticket_at, address_of, weight_of, file_of}
@@ -148,7 +148,7 @@ module _ {A : Type 0} (geometry : Geometry) (image : Image) (Right : ℕ → A �
 
 module _ {B L : Type 0} (geometry : Geometry) (image : Image) (lawful : IsLawful geometry image) (bytes : ℕ → List ℕ) (all : Shelves Placed) (goods : AreGoods geometry image bytes all.tickets all.tokens) (files : List (Option (FileState B L)))
     (are : AreFiles geometry image all files)
-    (whole : (ticket : Placed → ℕ) (token : Entry → ℕ) → weigh (in_place (λ (f : FileState B L). weight_of f (of_rights ticket token))) files ≡ weigh (in_place ticket) all.tickets + weigh (in_place token) all.tokens)
+    (whole : (ticket : Placed → ℕ) (token : TakenNumber → ℕ) → weigh (in_place (λ (f : FileState B L). weight_of f (of_rights ticket token))) files ≡ weigh (in_place ticket) all.tickets + weigh (in_place token) all.tokens)
     (book : TableId) (inode : ℕ) (account : FileView) (has : HasLodged book image all inode account) where
   pub lodged_by : (found : Option (FileState B L)) → get_or files inode None ≡ found → MatchOption found ((account.tickets ≡ []) × (account.tokens ≡ [])) (λ file. AreHeld file account.tickets account.tokens)
   lodged_by None at = (

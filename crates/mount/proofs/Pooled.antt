@@ -8,7 +8,7 @@ use Rattle.geometry.proofs.Weighing.{weigh-append}
 use Rattle.atomic_table.specs.Seated.{TableId}
 use Rattle.geometry.specs.declared.geometry.Geometry.{Geometry}
 use Rattle.geometry.specs.declared.state.State.{State}
-use Rattle.image.specs.declared.image.Place.{Place}
+use Rattle.image.specs.declared.image.LogHead.{LogHead}
 use Rattle.image.specs.Image.{Image, info_of}
 use Rattle.image.specs.Files.{below}
 use Rattle.image.specs.Free.{is_free, stands_in}
@@ -25,18 +25,18 @@ neither true b neg = absurd cc
 neither false b neg = (refl, neg)
 
 -- a log that stands in a segment, or none does
-none_at : (segment : ℕ) (logs : List (Option Place)) → list_any (stands_in segment) logs ≡ false
-    → (log : ℕ) (place : Place) → get_or logs log None ≡ Some place → place.segment ≢ segment
+none_at : (segment : ℕ) (logs : List (Option LogHead)) → list_any (stands_in segment) logs ≡ false
+    → (log : ℕ) (place : LogHead) → get_or logs log None ≡ Some place → place.segment ≢ segment
 none_at segment [] neg log place is = absurd cc
 none_at segment (x ∷ logs) neg zero place is = λ here.
     (let out : stands_in segment (Some place) ≡ false = ap (stands_in segment) (sym is) ∙ (neither (stands_in segment x) (list_any (stands_in segment) logs) neg).0 in
     let yes : (place.segment == segment) ≡ true = eq-eqb place.segment segment here in cc)
 none_at segment (x ∷ logs) neg (suc log) place is = none_at segment logs (neither (stands_in segment x) (list_any (stands_in segment) logs) neg).1 log place is
 
-abbrev Stands : ℕ → List (Option Place) → Type 0
-Stands segment logs = (log : ℕ) × ((place : Place) × ((get_or logs log None ≡ Some place) × (place.segment ≡ segment)))
+abbrev Stands : ℕ → List (Option LogHead) → Type 0
+Stands segment logs = (log : ℕ) × ((place : LogHead) × ((get_or logs log None ≡ Some place) × (place.segment ≡ segment)))
 
-some_at : (segment : ℕ) (logs : List (Option Place)) → list_any (stands_in segment) logs ≡ true → Stands segment logs
+some_at : (segment : ℕ) (logs : List (Option LogHead)) → list_any (stands_in segment) logs ≡ true → Stands segment logs
 some_at segment [] stood = absurd cc
 some_at segment (None ∷ logs) stood = let found = some_at segment logs stood in (suc found.0, found.1)
 some_at segment (Some place ∷ logs) stood = by_bit (place.segment == segment) refl stood (some_at segment logs)

@@ -10,7 +10,7 @@ use Rattle.atomic_table.specs.Seated.{TableId}
 use Rattle.geometry.specs.declared.geometry.Geometry.{Geometry}
 use Rattle.geometry.specs.declared.state.State.{State}
 use Rattle.geometry.specs.declared.state.State.TheVariants.{Free, Open, Sealed, Prefree}
-use Rattle.image.specs.declared.image.Place.{Place}
+use Rattle.image.specs.declared.image.LogHead.{LogHead}
 use Rattle.image.specs.Image.{Image}
 use Rattle.image.specs.Reading.{same_bytes}
 use Rattle.image.specs.Rules.{IsLawful, IsPlace}
@@ -147,7 +147,7 @@ module _ (geometry : Geometry) (image : Image) (book table : TableId) (states : 
       | inr past ↦ subst (λ o. IfSome o (IsPlace geometry)) (sym (get_or_past image.logs k None past)) tt
     ]
 
-    stands : (o : Option Place) → IfSome o (IsPlace geometry) → (s : OpenSegment) → slip_from table 0 o ≡ Some s → IsOpenOf table geometry.segments s
+    stands : (o : Option LogHead) → IfSome o (IsPlace geometry) → (s : OpenSegment) → slip_from table 0 o ≡ Some s → IsOpenOf table geometry.segments s
     stands None place s is = let no = ap (λ (x : Option (OpenSegment)). is_some x) is in cc
     stands (Some p) place s is = by_bit (nat_lt p.segment 0) is
       where

@@ -5,7 +5,7 @@ use Rattle.std.specs.Prelude.{slice_index}
 use Rattle.geometry.specs.Weights.{weigh}
 use Rattle.geometry.specs.declared.geometry.Geometry.{Geometry}
 use Rattle.geometry.specs.Path.{node_entries}
-use Rattle.rights_books.specs.declared.claim.Entry.{Entry}
+use Rattle.rights_books.specs.declared.claim.TakenNumber.{TakenNumber}
 use Rattle.tickets.specs.Placed.{Placed}
 use Rattle.nodes.specs.declared.branch.Branch.{Branch}
 use Rattle.nodes.specs.Tree.{entry_at}
@@ -125,10 +125,10 @@ module _ {B L : Type 0} (geometry : Geometry) (image : Image) (all : Shelves Pla
 
   module _ (lawful : IsLawful geometry image) (bytes : ℕ → List ℕ) (goods : AreGoods geometry image bytes all.tickets all.tokens) where
     -- the same of tokens
-    pub tokens_same : (f g : Entry → ℕ) → ((k : Entry) → k.inode ≡ inode → f k ≡ g k) → weight_of file (of_tokens f) ≡ weight_of file (of_tokens g)
+    pub tokens_same : (f g : TakenNumber → ℕ) → ((k : TakenNumber) → k.inode ≡ inode → f k ≡ g k) → weight_of file (of_tokens f) ≡ weight_of file (of_tokens g)
     tokens_same f g same =
         nodes_weigh (λ n. f n.token) file
         ∙ (among_same (λ (n : TreeNode). f n.token) (λ (n : TreeNode). g n.token) (nodes_of file)
         (λ n among. (let from = node_from geometry image lawful bytes all goods inode file l fits n among in
-        same n.token (ap (λ (k : Entry). k.inode) (token_is geometry image lawful bytes all goods n.token.number n.token from.token) ∙ from.belongs)))
+        same n.token (ap (λ (k : TakenNumber). k.inode) (token_is geometry image lawful bytes all goods n.token.number n.token from.token) ∙ from.belongs)))
         ∙ sym (nodes_weigh (λ n. g n.token) file))

@@ -3,7 +3,7 @@ use Rattle.std.specs.Prelude.{◌≡◌, ℕ, ◌+◌, ◌<◌, List, length, No
 use Rattle.atomic_table.specs.Seated.{TableId}
 use Rattle.geometry.specs.Weights.{weigh}
 use Rattle.geometry.specs.declared.owner.Mark.{Mark}
-use Rattle.rights_books.specs.declared.claim.Entry.{Entry}
+use Rattle.rights_books.specs.declared.claim.TakenNumber.{TakenNumber}
 use Rattle.rights_books.specs.Accounts.{FileView}
 use Rattle.image.specs.Image.{Image}
 use Rattle.mount_blocks.specs.TreeGoods.{Shelves, in_place}
@@ -16,7 +16,7 @@ pub record HasLodged (book : TableId) (image : Image) (all : Shelves Placed) (in
   pub inode_is : account.inode ≡ inode
   pub none : account.content ≡ None
   pub tickets : (h : Mark → ℕ) → weigh h account.tickets ≡ weigh (in_place (λ (t : Placed). of_file inode (file_of image t.mark.owner) (h t.mark))) all.tickets
-  pub tokens : (h : Entry → ℕ) → weigh h account.tokens ≡ weigh (in_place (λ (e : Entry). of_file inode e.inode (h e))) all.tokens
+  pub tokens : (h : TakenNumber → ℕ) → weigh h account.tokens ≡ weigh (in_place (λ (e : TakenNumber). of_file inode e.inode (h e))) all.tokens
 
 -- the accounts of the inodes from 1 on
 abbrev pub HaveLodged : TableId → Image → Shelves Placed → List FileView → Type 0

@@ -1,5 +1,6 @@
 -- What is made for a volume that is mounted before its tables have names.
 use Rattle.std.specs.Prelude.{◌≡◌, ℕ, ◌+◌, ◌<◌, ◌≤◌, [], None, true, length, replicate, slice_index_or, vec_capacity}
+use Rattle.packs_journal.specs.Places.{map_pages}
 use Rattle.atomic_table.specs.Seated.{TableId}
 use Rattle.geometry.specs.declared.geometry.Geometry.{Geometry}
 use Rattle.geometry.specs.Area.{block_count}
@@ -38,7 +39,7 @@ pub record AreVolumeRows (geometry : Geometry) (rows : VolumeRows) : Type 0 wher
   pub every_part : length rows.parts.items ≡ geometry.segments + 16
   pub parts : PartsFall rows.body.rows (geometry.segments + 16) rows.parts.items
   pub numbers : rows.body.geometry ≡ geometry
-  pub touched : (k : ℕ) → k < 4352 → has_page rows.body.body.touched k ≡ true
+  pub touched : (k : ℕ) → k < map_pages → has_page rows.body.body.touched k ≡ true
 
 -- Books of the volume's layout and words of its segments, with all permits and seats out, and the image's version complete; and
 -- such memory.

@@ -18,7 +18,7 @@ ghost use Rattle.mount_blocks.specs.TreeGoods.{in_place};
 ghost use Rattle.nodes.specs.File.{weight_of};
 ghost use Rattle.geometry.specs.Weights.{weigh};
 ghost use Rattle.tickets.specs.Placed.{Placed};
-ghost use Rattle.rights_books.specs.declared.claim.Entry.{Entry};
+ghost use Rattle.rights_books.specs.declared.claim.TakenNumber.{TakenNumber};
 
 use crate::frames::FileFrames;
 use crate::law::tell_file;
@@ -49,7 +49,7 @@ pub(crate) fn lock_loaded_files<V: VolumeName, B: Block + Drop>(
     requires lawful { IsLawful geometry.now (image_view image.now) }
     requires blocks { (bytes : ℕ → List ℕ) × AreBlocks geometry.now (image_view image.now) bytes × AreGoods geometry.now (image_view image.now) bytes stock.now.all.tickets stock.now.all.tokens }
     requires files { AreFiles geometry.now (image_view image.now) stock.now.all files.items }
-    requires all { (ticket : Placed → ℕ) (token : Entry → ℕ) → weigh (in_place (λ f. weight_of f (of_rights ticket token))) files.items
+    requires all { (ticket : Placed → ℕ) (token : TakenNumber → ℕ) → weigh (in_place (λ f. weight_of f (of_rights ticket token))) files.items
         ≡ weigh (in_place ticket) stock.now.all.tickets + weigh (in_place token) stock.now.all.tokens }
     requires every_account { vec_len accounts ≡ geometry.now.files }
     requires accounts { HaveLodged books.now.book (image_view image.now) stock.now.all accounts.items }

@@ -100,7 +100,7 @@ impl<V: VolumeName, B: Block + Drop> MountFrames<V, B> {
     pub(crate) fn new(
         alloc: Global,
         geometry: &Geometry,
-        seats: Vec<words::Seat>,
+        seats: Vec<words::SeatToken>,
     ) -> Result<MountFrames<V, B>, Error>
         requires geometry { geometry.now ≡ V.Numbers.geometry }
         requires seats { seats.items ≡ replicate 64 (fresh_holder V.Words.words) }

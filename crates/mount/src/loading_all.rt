@@ -2,7 +2,7 @@
 ghost use Rattle.std.specs.Prelude.{◌≡◌, ◌+◌, ◌<◌, ◌≤◌, ℕ, [], List, None, length, replicate, slice_index_or, vec_capacity};
 ghost use Rattle.rights_books.specs.Accounts.{FileView};
 ghost use Rattle.rights_books.specs.Weights.{mark_of};
-ghost use Rattle.rights_books.specs.declared.claim.Entry.{Entry};
+ghost use Rattle.rights_books.specs.declared.claim.TakenNumber.{TakenNumber};
 ghost use Rattle.device.specs.Parts.{IsBlockRun};
 ghost use Rattle.geometry.specs.declared.owner.Mark.{Mark};
 ghost use Rattle.geometry.specs.Area.{block_count};
@@ -35,7 +35,7 @@ use mount_blocks::{
 };
 use nat::Shard;
 use nodes::FileState;
-use rights_books::{Books, FileAccount, Permit};
+use rights_books::{Books, CallAccount, FileAccount};
 use tickets::{NidToken, Ticket};
 use words::Words;
 
@@ -72,13 +72,13 @@ pub fn load_volume<B: Block + Drop>(
     image: &Image,
     books: &Books,
     words: &Words,
-    permit: &mut Permit,
+    hand: &mut CallAccount,
     memory: VolumeMemory<B>,
     blocks: &mut Vec<B>,
 ) -> LoadedVolume<B>
     requires lawful { IsLawful geometry.now (image_view image.now) }
     requires layout { books.now.key.blocks ≡ segment_blocks geometry.now.shape }
-    requires permit { permit.old ≡ record { book = books.now.book; tickets = []; tokens = [] } }
+    requires hand { hand.old ≡ record { book = books.now.book; tickets = []; tokens = [] } }
     requires rights { AreRights geometry.now.shape books.now.book words.now.table memory.segments.rights.rooms.items memory.segments.rights.accounts.items memory.segments.rights.standings.items memory.segments.rights.slips.items }
     requires count { length memory.segments.rights.rooms.items ≡ geometry.now.segments }
     requires none { (memory.segments.room.states.items ≡ []) × (memory.segments.room.free.items ≡ []) × (memory.segments.room.logs.items ≡ replicate 6 None) }
@@ -98,17 +98,17 @@ pub fn load_volume<B: Block + Drop>(
     ensures shards { AreShards books.now.book geometry.now.nodes result.area.shards.items }
     ensures goods { (bytes : ℕ → List ℕ) → HaveBytes B.content_of bytes blocks.old.items → AreGoods geometry.now (image_view image.now) bytes result.stock.all.tickets result.stock.all.tokens }
     ensures files { AreFiles geometry.now (image_view image.now) result.stock.all result.files.items }
-    ensures all { (ticket : Placed → ℕ) (token : Entry → ℕ) → weigh (in_place (λ f. weight_of f (of_rights ticket token))) result.files.items
+    ensures all { (ticket : Placed → ℕ) (token : TakenNumber → ℕ) → weigh (in_place (λ f. weight_of f (of_rights ticket token))) result.files.items
         ≡ weigh (in_place ticket) result.stock.all.tickets + weigh (in_place token) result.stock.all.tokens }
     ensures every_file { length result.accounts.items ≡ geometry.now.files }
     ensures accounts { (k : ℕ) (other : FileView) → k < length result.accounts.items → slice_index_or result.accounts.items k other
         ≡ record { book = books.now.book; inode = k + 1; tickets = (slice_index_or result.accounts.items k other).tickets; tokens = (slice_index_or result.accounts.items k other).tokens; content = None } }
     ensures lodged_tickets { (k : ℕ) (other : FileView) → k < length result.accounts.items → (h : Mark → ℕ) → weigh h (slice_index_or result.accounts.items k other).tickets
         ≡ weigh (in_place (λ (t : Placed). of_file (k + 1) (file_of (image_view image.now) t.mark.owner) (h t.mark))) result.stock.all.tickets }
-    ensures lodged_tokens { (k : ℕ) (other : FileView) → k < length result.accounts.items → (h : Entry → ℕ) → weigh h (slice_index_or result.accounts.items k other).tokens
+    ensures lodged_tokens { (k : ℕ) (other : FileView) → k < length result.accounts.items → (h : TakenNumber → ℕ) → weigh h (slice_index_or result.accounts.items k other).tokens
         ≡ weigh (in_place (λ e. of_file (k + 1) e.inode (h e))) result.stock.all.tokens }
     ensures nothing { goods_weight (λ _. 1) (λ _. 1) result.stock ≡ 0 }
-    ensures permit { permit.new ≡ permit.old }
+    ensures hand { hand.new ≡ hand.old }
     ensures blocks { length blocks.new.items ≡ 0 }
     ensures capacity { vec_capacity blocks.new ≡ vec_capacity blocks.old }
 {
@@ -126,7 +126,7 @@ pub fn load_volume<B: Block + Drop>(
         image,
         books,
         words,
-        permit,
+        hand,
         segments,
         blocks,
         &mut tickets,
@@ -135,13 +135,13 @@ pub fn load_volume<B: Block + Drop>(
         geometry,
         image,
         books,
-        permit,
+        hand,
         &mut shards,
         &mut tickets,
         &mut tokens,
     );
-    lodge_tickets(image, books, permit, &mut accounts, &mut tickets);
-    lodge_tokens(books, permit, &mut accounts, &tokens);
+    lodge_tickets(image, books, hand, &mut accounts, &mut tickets);
+    lodge_tokens(books, hand, &mut accounts, &tokens);
     let stock = load_all_files(geometry, image, rooms, tickets, tokens, &mut files);
     LoadedVolume {
         area: LoadedArea { segments, shards },
@@ -170,12 +170,12 @@ fn load_all_files<B: Block + Drop>(
     requires none { files.old.items ≡ replicate (geometry.now.files + 1) None }
     ensures shelves { result.all ≡ record { tickets = tickets.items; tokens = tokens.items } }
     ensures files { AreFiles geometry.now (image_view image.now) result.all files.new.items }
-    ensures all { (ticket : Placed → ℕ) (token : Entry → ℕ) → weigh (in_place (λ f. weight_of f (of_rights ticket token))) files.new.items
+    ensures all { (ticket : Placed → ℕ) (token : TakenNumber → ℕ) → weigh (in_place (λ f. weight_of f (of_rights ticket token))) files.new.items
         ≡ weigh (in_place ticket) result.all.tickets + weigh (in_place token) result.all.tokens }
     ensures nothing { goods_weight (λ _. 1) (λ _. 1) result ≡ 0 }
     ensures of_files { (h : Mark → ℕ) → weigh (in_place (λ (t : Placed). of_some geometry.now.files (file_of (image_view image.now) t.mark.owner) (h t.mark))) result.all.tickets
         ≡ weigh (in_place (λ (t : Placed). h t.mark)) result.all.tickets }
-    ensures tokens_of_files { (h : Entry → ℕ) → weigh (in_place (λ e. of_some geometry.now.files e.inode (h e))) result.all.tokens ≡ weigh (in_place h) result.all.tokens }
+    ensures tokens_of_files { (h : TakenNumber → ℕ) → weigh (in_place (λ e. of_some geometry.now.files e.inode (h e))) result.all.tokens ≡ weigh (in_place h) result.all.tokens }
 {
     let mut stock = Stock::of(tickets, tokens);
     load_files(geometry, image, rooms, &mut stock, files);

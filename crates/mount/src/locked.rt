@@ -24,7 +24,7 @@ use file_cells::{FileCell, FilePass};
 use geometry::Geometry;
 use image::Image;
 use pool::PoolPass;
-use rights_books::Permit;
+use rights_books::CallAccount;
 use rights_permits::VolumeName;
 use std::sync::{Mutex, Wait};
 
@@ -43,7 +43,7 @@ pub(crate) fn load_locks<V: VolumeName, B: Block + Drop, R: Wait>(
     geometry: Geometry,
     image: &Image,
     tables: NamedTables<V>,
-    hand: &mut Permit,
+    hand: &mut CallAccount,
     memory: VolumeMemory<B>,
     blocks: &mut Vec<B>,
     frames: LockFrames<V, B>,

@@ -19,15 +19,12 @@ use device::Block;
 use geometry::{Error, Geometry};
 use image::Image;
 use mount_blocks::{LoadedSegments, SegmentMemory, SegmentRights};
-use rights_books::{Books, Layout, Opened, OpenedRows, PartAccount, Permits, Rows, SegmentAccount};
+use nat::SHARDS;
+use rights_books::{
+    Books, DealtBooks, Layout, OpenedRows, PartAccount, Permits, Rows, SegmentAccount,
+};
 use std::alloc::Global;
-use words::{CheckpointSeat, Dealt, Seat, Words};
-
-// So many shards are parts of a volume, behind its segments.
-const SHARDS: u32 = 16;
-
-// So many readers may look at a volume at once.
-const SEATS: u32 = 64;
+use words::{CheckpointSeat, Dealt, SEATS, SeatToken, Words};
 
 /// The books, the words and the rows of a volume out of an image, whose version is complete, with the rights to them; and the memory of
 /// its segments, its shards and its files.
@@ -35,7 +32,7 @@ pub struct MountTables<B: Block + Drop> {
     pub books: Books,
     pub permits: Permits,
     pub words: Words,
-    pub seats: Vec<Seat>,
+    pub seats: Vec<SeatToken>,
     pub checkpoint: CheckpointSeat,
     pub rows: VolumeRows,
     pub memory: VolumeMemory<B>,
@@ -58,7 +55,7 @@ impl<B: Block + Drop> MountTables<B> {
         ensures tables { IfOk result (λ tables. AreTables geometry.now (image_view image.now) tables) }
         ensures error { IfErr result (λ error. error ≡ NoMemory) }
     {
-        let Opened {
+        let DealtBooks {
             books,
             permits,
             segments: accounts,
@@ -129,7 +126,7 @@ fn volume_layout(geometry: &Geometry) -> Layout
 // The words of a volume and their seats, with the rights to its segments.
 struct DealtRights<B: Block + Drop> {
     words: Words,
-    seats: Vec<Seat>,
+    seats: Vec<SeatToken>,
     checkpoint: CheckpointSeat,
     rights: SegmentRights<B>,
 }

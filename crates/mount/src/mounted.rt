@@ -103,7 +103,7 @@ pub struct NamedMount<L: BooksName, W: WordsName, N: GeometryName, M: Meta, B: B
 pub struct MountedQueues<L: BooksName, W: WordsName, N: GeometryName, M: Meta, B: Block + Drop> {
     pub named: NamedMount<L, W, N, M, B>,
     pub channel: OpenedTurnstile<L>,
-    pub queues: pool::Opened<W>,
+    pub queues: pool::OpenedPool<W>,
     pub ghost slots: { queues.ordinary.slots ≡ named.mounted.geometry.segments },
 }
 

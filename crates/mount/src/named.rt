@@ -1,5 +1,6 @@
 //! A volume under all its names.
 ghost use Rattle.std.specs.Prelude.{◌≡◌, ◌≤◌, ◌<◌, ℕ, true, [], map, length, vec_len, vec_capacity, IfOk, IfErr};
+ghost use Rattle.packs_journal.specs.Places.{map_pages};
 ghost use Rattle.checkpoint.specs.Holding.{AreWhole};
 ghost use Rattle.device.specs.Disk.{Leaves};
 ghost use Rattle.device.specs.Parts.{HasSize};
@@ -36,7 +37,7 @@ use mount_reading::{OpenFault, OpenedDevice};
 use pool::PoolPass;
 use rights_books::FileAccount;
 use rights_permits::{
-    AllPermits, BooksName, GeometryName, Named, PoolName, TurnName, VolumeName, WordsName,
+    AllPermits, BooksName, GeometryName, PickedNames, PoolName, TurnName, VolumeName, WordsName,
 };
 use std::alloc::Global;
 use std::sync::Wait;
@@ -59,9 +60,9 @@ impl<L: BooksName, W: WordsName, N: GeometryName, M: Meta, B: Block + Drop> Moun
         rt: &R,
     ) -> Result<
         (
-            Volume<Named<L, W, P, T, N>, M, B>,
-            Vec<Seat<Named<L, W, P, T, N>>>,
-            Vec<FilePass<Named<L, W, P, T, N>>>,
+            Volume<PickedNames<L, W, P, T, N>, M, B>,
+            Vec<Seat<PickedNames<L, W, P, T, N>>>,
+            Vec<FilePass<PickedNames<L, W, P, T, N>>>,
         ),
         OpenFault<M, B>,
     >
@@ -218,7 +219,7 @@ fn lock_packs<V: VolumeName, M: Meta>(
     requires room { V.Numbers.geometry.segments ≤ vec_capacity kept }
     requires rows { rights.body.rows ≡ V.Books.rows }
     requires body_numbers { rights.body.geometry ≡ V.Numbers.geometry }
-    requires touched { (k : ℕ) → k < 4352 → has_page rights.body.body.touched k ≡ true }
+    requires touched { (k : ℕ) → k < map_pages → has_page rights.body.body.touched k ≡ true }
 {
     let _image = image;
     let PacksRights { checkpoint, body } = rights;

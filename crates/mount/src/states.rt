@@ -1,6 +1,6 @@
 //! The files of an image.
 ghost use Rattle.std.specs.Prelude.{◌≡◌, ℕ, ◌+◌, length, None, replicate, slice_index_or};
-ghost use Rattle.rights_books.specs.declared.claim.Entry.{Entry};
+ghost use Rattle.rights_books.specs.declared.claim.TakenNumber.{TakenNumber};
 ghost use Rattle.geometry.specs.declared.owner.Mark.{Mark};
 ghost use Rattle.image.specs.Rules.{IsLawful};
 ghost use Rattle.image.specs.View.{image_view};
@@ -37,7 +37,7 @@ pub fn load_files<B: Block>(
     ensures files { AreFiles geometry.now (image_view image.now) stock.old.all files.new.items }
     ensures all { stock.new.all ≡ stock.old.all }
     ensures nothing { goods_weight (λ _. 1) (λ _. 1) stock.new ≡ 0 }
-    ensures trades { (ticket : Placed → ℕ) (token : Entry → ℕ) → weigh (in_place (λ file. weight_of file (of_rights ticket token))) files.new.items ≡ goods_weight ticket token stock.old }
+    ensures trades { (ticket : Placed → ℕ) (token : TakenNumber → ℕ) → weigh (in_place (λ file. weight_of file (of_rights ticket token))) files.new.items ≡ goods_weight ticket token stock.old }
 {
     for before in 0..geometry.files {
         let inode = before + 1;

@@ -7,7 +7,7 @@ use Rattle.std.proofs.lemmas.List.{length-set, get_or-set_same, get_or-set_other
 use Rattle.atomic_table.specs.Seated.{TableId}
 use Rattle.geometry.specs.Weights.{weigh}
 use Rattle.geometry.specs.declared.owner.Mark.{Mark}
-use Rattle.rights_books.specs.declared.claim.Entry.{Entry}
+use Rattle.rights_books.specs.declared.claim.TakenNumber.{TakenNumber}
 use Rattle.rights_books.specs.Accounts.{FileView}
 use Rattle.mount_blocks.specs.TreeGoods.{in_place}
 use Rattle.mount_blocks.specs.Lodging.{of_file, of_some, AreOfBook, Lodges}
@@ -42,13 +42,13 @@ some_most files its n = go (nat_lt 0 its && nat_lt its (files + 1))
     go true = omega arith
     go false = omega arith
 
-module _ (book : TableId) (old new : List FileView) (of : AreOfBook book old) (tickets : ℕ → (Mark → ℕ) → ℕ) (tokens : ℕ → (Entry → ℕ) → ℕ) (lodges : Lodges old new tickets tokens) where
+module _ (book : TableId) (old new : List FileView) (of : AreOfBook book old) (tickets : ℕ → (Mark → ℕ) → ℕ) (tokens : ℕ → (TakenNumber → ℕ) → ℕ) (lodges : Lodges old new tickets tokens) where
   pub still_of_book : AreOfBook book new
   still_of_book k other low = let count = lodges.count in lodges.book k other (omega arith) ∙ of k other (omega arith)
 
 -- nothing is lodged
-pub lodges_nothing : (old new : List FileView) (tickets : ℕ → (Mark → ℕ) → ℕ) (tokens : ℕ → (Entry → ℕ) → ℕ) → new ≡ old
-    → ((k : ℕ) (h : Mark → ℕ) → k < length old → tickets k h ≡ 0) → ((k : ℕ) (h : Entry → ℕ) → k < length old → tokens k h ≡ 0) → Lodges old new tickets tokens
+pub lodges_nothing : (old new : List FileView) (tickets : ℕ → (Mark → ℕ) → ℕ) (tokens : ℕ → (TakenNumber → ℕ) → ℕ) → new ≡ old
+    → ((k : ℕ) (h : Mark → ℕ) → k < length old → tickets k h ≡ 0) → ((k : ℕ) (h : TakenNumber → ℕ) → k < length old → tokens k h ≡ 0) → Lodges old new tickets tokens
 lodges_nothing old new tickets tokens is none nothing = record {
   count = ap length is;
   book = λ k other low. ap (λ xs. (get_or xs k other).book) is;
@@ -95,7 +95,7 @@ module _ (old : List FileView) (i : ℕ) (a : FileView) (within : i < length old
     tokens_more = λ k d low h. (let same = field (λ (v : FileView). weigh h v.tokens) (λ d. ap (λ (v : FileView). weigh h v.tokens) (is d)) k d in omega arith);
   }
 
-  pub lodges_token : (m : Entry) (inode : ℕ) → inode ≡ i + 1 → ((d : FileView) → a ≡ record (get_or old i d) { tokens = m ∷ (get_or old i d).tokens })
+  pub lodges_token : (m : TakenNumber) (inode : ℕ) → inode ≡ i + 1 → ((d : FileView) → a ≡ record (get_or old i d) { tokens = m ∷ (get_or old i d).tokens })
       → Lodges old new (λ _ _. 0) (λ k h. of_file (k + 1) inode (h m))
   lodges_token m inode at is = record {
     count = length-set old i a;
@@ -127,8 +127,8 @@ none_of_some files (suc i) n out = elim (cases_lt files (suc i)) [
 ]
 
 -- one after another
-pub lodges_both : (a b c : List FileView) (t u : ℕ → (Mark → ℕ) → ℕ) (p q : ℕ → (Entry → ℕ) → ℕ) → Lodges a b t p → Lodges b c u q
-    → (w : ℕ → (Mark → ℕ) → ℕ) (r : ℕ → (Entry → ℕ) → ℕ) → ((k : ℕ) (h : Mark → ℕ) → w k h ≡ t k h + u k h) → ((k : ℕ) (h : Entry → ℕ) → r k h ≡ p k h + q k h) → Lodges a c w r
+pub lodges_both : (a b c : List FileView) (t u : ℕ → (Mark → ℕ) → ℕ) (p q : ℕ → (TakenNumber → ℕ) → ℕ) → Lodges a b t p → Lodges b c u q
+    → (w : ℕ → (Mark → ℕ) → ℕ) (r : ℕ → (TakenNumber → ℕ) → ℕ) → ((k : ℕ) (h : Mark → ℕ) → w k h ≡ t k h + u k h) → ((k : ℕ) (h : TakenNumber → ℕ) → r k h ≡ p k h + q k h) → Lodges a c w r
 lodges_both a b c t u p q one two w r tickets tokens = record {
   count = two.count ∙ one.count;
   book = λ k d low. (let long = one.count in two.book k d (omega arith) ∙ one.book k d low);

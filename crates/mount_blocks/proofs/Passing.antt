@@ -8,7 +8,7 @@ use Rattle.geometry.specs.declared.geometry.Geometry.{Geometry}
 use Rattle.geometry.specs.declared.owner.Owner.{Owner}
 use Rattle.geometry.specs.declared.owner.Owner.TheVariants.{Node, Data}
 use Rattle.geometry.specs.Area.{block_count}
-use Rattle.rights_books.specs.declared.claim.Entry.{Entry}
+use Rattle.rights_books.specs.declared.claim.TakenNumber.{TakenNumber}
 use Rattle.image.specs.declared.image.NodeEntry.{NodeEntry}
 use Rattle.image.specs.Image.{Image, no_entry, entry_of}
 use Rattle.image.specs.Walk.{is_taken}
@@ -33,11 +33,11 @@ pub left_ticket : ℕ → Option Owner → ℕ → List ℕ → Option Placed
 left_ticket next owner address bytes = if gone next owner then None else ticket_of owner address bytes
 
 -- the token of a number that has come
-pub come_token : Image → (ℕ → List ℕ) → ℕ → ℕ → Option Entry
+pub come_token : Image → (ℕ → List ℕ) → ℕ → ℕ → Option TakenNumber
 come_token image bytes next number = if nat_lt number next then node_token image bytes number else None
 
 -- the tickets of the nodes below a number went, and their tokens came
-pub record ArePassed (geometry : Geometry) (image : Image) (bytes : ℕ → List ℕ) (next : ℕ) (tickets : List (Option Placed)) (tokens : List (Option Entry)) : Type 0 where
+pub record ArePassed (geometry : Geometry) (image : Image) (bytes : ℕ → List ℕ) (next : ℕ) (tickets : List (Option Placed)) (tokens : List (Option TakenNumber)) : Type 0 where
   pub places : length tickets ≡ block_count geometry + 1
   pub numbers : length tokens ≡ geometry.nodes + 1
   pub first : get_or tickets 0 None ≡ None
@@ -130,7 +130,7 @@ module _ (geometry : Geometry) (image : Image) (lawful : IsLawful geometry image
   owner_within a n some is = entry_within geometry image lawful n (λ zero_is. (let at = node_owns geometry image lawful a n is in absurd (omega arith)))
 
   module _ (bytes : ℕ → List ℕ) where
-    pub passing_begins : (tickets : List (Option Placed)) (tokens : List (Option Entry)) → AreTicketsPast geometry image bytes 0 tickets → tokens ≡ replicate (geometry.nodes + 1) None → ArePassed geometry image bytes 1 tickets tokens
+    pub passing_begins : (tickets : List (Option Placed)) (tokens : List (Option TakenNumber)) → AreTicketsPast geometry image bytes 0 tickets → tokens ≡ replicate (geometry.nodes + 1) None → ArePassed geometry image bytes 1 tickets tokens
     passing_begins tickets tokens are is = record {
       places = are.places;
       numbers = ap length is ∙ length-replicate (geometry.nodes + 1) None;
@@ -140,7 +140,7 @@ module _ (geometry : Geometry) (image : Image) (lawful : IsLawful geometry image
     }
 
     -- the number has no entry
-    pub passes_none : (next : ℕ) (tickets : List (Option Placed)) (tokens : List (Option Entry)) → (entry_of image next).address ≡ 0 → ArePassed geometry image bytes next tickets tokens → ArePassed geometry image bytes (next + 1) tickets tokens
+    pub passes_none : (next : ℕ) (tickets : List (Option Placed)) (tokens : List (Option TakenNumber)) → (entry_of image next).address ≡ 0 → ArePassed geometry image bytes next tickets tokens → ArePassed geometry image bytes (next + 1) tickets tokens
     passes_none next tickets tokens none are = record {
       places = are.places;
       numbers = are.numbers;
@@ -153,7 +153,7 @@ module _ (geometry : Geometry) (image : Image) (lawful : IsLawful geometry image
       ];
     }
 
-    module _ (next : ℕ) (tickets : List (Option Placed)) (tokens : List (Option Entry)) (some : (entry_of image next).address ≢ 0) (are : ArePassed geometry image bytes next tickets tokens) where
+    module _ (next : ℕ) (tickets : List (Option Placed)) (tokens : List (Option TakenNumber)) (some : (entry_of image next).address ≢ 0) (are : ArePassed geometry image bytes next tickets tokens) where
       abbrev a : ℕ
       a = (entry_of image next).address
 
@@ -181,7 +181,7 @@ module _ (geometry : Geometry) (image : Image) (lawful : IsLawful geometry image
       token_within = let long = are.numbers in let low = in_numbers.1 in omega arith
 
       -- the ticket goes, and the token comes
-      pub passes_one : (token : Entry) → token ≡ record { number = next; inode = (entry_of image next).inode; address = a; bytes = bytes a }
+      pub passes_one : (token : TakenNumber) → token ≡ record { number = next; inode = (entry_of image next).inode; address = a; bytes = bytes a }
           → ArePassed geometry image bytes (next + 1) (set tickets a None) (set tokens next (Some token))
       passes_one token is = record {
         places = length-set tickets a None ∙ are.places;
@@ -205,7 +205,7 @@ module _ (geometry : Geometry) (image : Image) (lawful : IsLawful geometry image
       }
 
     -- all nodes have come
-    pub passing_ends : (tickets : List (Option Placed)) (tokens : List (Option Entry)) → ArePassed geometry image bytes (geometry.nodes + 1) tickets tokens → AreGoods geometry image bytes tickets tokens
+    pub passing_ends : (tickets : List (Option Placed)) (tokens : List (Option TakenNumber)) → ArePassed geometry image bytes (geometry.nodes + 1) tickets tokens → AreGoods geometry image bytes tickets tokens
     passing_ends tickets tokens are = record {
       places = are.places;
       numbers = are.numbers;
@@ -233,13 +233,13 @@ module _ (geometry : Geometry) (image : Image) (lawful : IsLawful geometry image
     data_placed (Some (Data n s)) k b t e = (let same = same_some (ticket_of (Some (Data n s)) k b) _ t refl e in
         (sym (ap (λ (p : Placed). p.mark.address) same), subst (λ (p : Placed). IsData p.mark.owner) same tt))
 
-    token_placed : (n : ℕ) (e : Entry) → node_token image bytes n ≡ Some e → e.number ≡ n
+    token_placed : (n : ℕ) (e : TakenNumber) → node_token image bytes n ≡ Some e → e.number ≡ n
     token_placed n e is = elim (cases_eq (entry_of image n).address 0) [
       | inl zero_is ↦ (let none = sym (no_token image bytes n zero_is) ∙ is in cc)
-      | inr some ↦ sym (ap (λ (x : Entry). x.number) (same_some (node_token image bytes n) _ e (some_token image bytes n some) is))
+      | inr some ↦ sym (ap (λ (x : TakenNumber). x.number) (same_some (node_token image bytes n) _ e (some_token image bytes n some) is))
     ]
 
-    pub goods_placed : (tickets : List (Option Placed)) (tokens : List (Option Entry)) → AreGoods geometry image bytes tickets tokens → ArePlaced (λ (t : Placed). t.mark) (record { tickets = tickets; tokens = tokens })
+    pub goods_placed : (tickets : List (Option Placed)) (tokens : List (Option TakenNumber)) → AreGoods geometry image bytes tickets tokens → ArePlaced (λ (t : Placed). t.mark) (record { tickets = tickets; tokens = tokens })
     goods_placed tickets tokens are = record {
       addresses = λ k t at. (data_placed (marked_owner geometry image k) k (bytes k) t (sym (are.blocks k) ∙ at)).0;
       owners = λ k t at. (data_placed (marked_owner geometry image k) k (bytes k) t (sym (are.blocks k) ∙ at)).1;

@@ -16,7 +16,7 @@ use Rattle.tickets.specs.Placed.{Placed}
 use Rattle.words.specs.Tokens.{Post, FreeSegment, OpenSegment, fresh_post, fresh_slip}
 use Rattle.sit.specs.Room.{RoomOf}
 use Rattle.sit.specs.Registered.{Registered}
-use Rattle.image.specs.declared.image.Place.{Place}
+use Rattle.image.specs.declared.image.LogHead.{LogHead}
 use Rattle.image.specs.Rules.{IsLawful, IsPlace}
 use borrow.Author.Tests.{lt-ltb}
 use Rattle.sit.specs.Loading.{Loaded}
@@ -106,7 +106,7 @@ all_come geometry image bytes tickets segments blocks none so_many =
 
 -- before the first segment has its blocks
 module _ (geometry : Geometry) (image : Image) (lawful : IsLawful geometry image) (book table : TableId) where
-  slip_past : (o : Option Place) → IfSome o (IsPlace geometry) → slip_from table geometry.segments o ≡ None
+  slip_past : (o : Option LogHead) → IfSome o (IsPlace geometry) → slip_from table geometry.segments o ≡ None
   slip_past None place = refl
   slip_past (Some p) place = ap (λ (b : Bool). if b then None else Some (record { table = table; segment = p.segment })) (lt-ltb p.segment geometry.segments place.0)
 

@@ -7,7 +7,7 @@ use Rattle.atomic_table.specs.Seated.{TableId}
 use Rattle.geometry.specs.Weights.{weigh}
 use Rattle.geometry.proofs.Weighing.{weigh-append}
 use Rattle.geometry.proofs.Indexing.{each_set}
-use Rattle.rights_books.specs.declared.claim.Entry.{Entry}
+use Rattle.rights_books.specs.declared.claim.TakenNumber.{TakenNumber}
 use Rattle.nat.specs.Shard.{ShardNodes}
 use Rattle.nat.specs.Table.{IsShardAt, all_taken}
 use Rattle.nat.specs.Taken.{entries_of}
@@ -21,7 +21,7 @@ module _ (book : TableId) (nodes : ℕ) (shards : List ShardNodes) (k : ℕ) (s 
   }
 
 -- shards that have taken nothing
-pub none_taken : (h : Entry → ℕ) (shards : List ShardNodes) → ((k : ℕ) (other : ShardNodes) → k < length shards → (get_or shards k other).taken ≡ []) → weigh h (all_taken shards) ≡ 0
+pub none_taken : (h : TakenNumber → ℕ) (shards : List ShardNodes) → ((k : ℕ) (other : ShardNodes) → k < length shards → (get_or shards k other).taken ≡ []) → weigh h (all_taken shards) ≡ 0
 none_taken h [] none = refl
 none_taken h (s ∷ ss) none =
     let here : s.taken ≡ [] = none 0 s (omega arith) in
@@ -31,7 +31,7 @@ none_taken h (s ∷ ss) none =
     omega arith
 
 -- what all shards have taken, once one of them has one entry more
-pub taken_next : (h : Entry → ℕ) (shards : List ShardNodes) (k : ℕ) (d : ShardNodes) (e : Entry) → k < length shards
+pub taken_next : (h : TakenNumber → ℕ) (shards : List ShardNodes) (k : ℕ) (d : ShardNodes) (e : TakenNumber) → k < length shards
     → (s : ShardNodes) → s.taken ≡ e ∷ (get_or shards k d).taken → weigh h (all_taken (set shards k s)) ≡ weigh h (all_taken shards) + h e
 taken_next h [] k d e low s is = absurd (omega arith)
 taken_next h (t ∷ ss) zero d e low s is =
@@ -46,7 +46,7 @@ taken_next h (t ∷ ss) (suc k) d e low s is =
     omega arith
 
 -- numbers past the one that was taken are free
-pub free_next : (shards : List ShardNodes) (k before : ℕ) (d s : ShardNodes) (e : Entry) → k < length shards → e.number ≡ before + 1 → s.taken ≡ e ∷ (get_or shards k d).taken
+pub free_next : (shards : List ShardNodes) (k before : ℕ) (d s : ShardNodes) (e : TakenNumber) → k < length shards → e.number ≡ before + 1 → s.taken ≡ e ∷ (get_or shards k d).taken
     → ((j : ℕ) (other : ShardNodes) → j < length shards → (number : ℕ) → before < number → entries_of number (get_or shards j other).taken ≡ 0)
     → (j : ℕ) (other : ShardNodes) → j < length (set shards k s) → (number : ℕ) → before + 1 < number → entries_of number (get_or (set shards k s) j other).taken ≡ 0
 free_next shards k before d s e low number_is is free j other within number past =

@@ -17,7 +17,7 @@ use Rattle.geometry.specs.declared.state.State.{State}
 use Rattle.geometry.specs.declared.state.State.TheVariants.{Free, Open, Sealed, Prefree}
 use Rattle.geometry.specs.Shape.{segment_blocks}
 use Rattle.geometry.specs.Address.{address_of}
-use Rattle.image.specs.declared.image.Place.{Place}
+use Rattle.image.specs.declared.image.LogHead.{LogHead}
 use Rattle.image.specs.Image.{Image, info_of, is_marked}
 use Rattle.image.specs.Rules.{IsLawful, IsPlace, AreApart}
 use Rattle.image.proofs.Marking.{true_or_false}
@@ -47,11 +47,11 @@ below_next p n apart = elim (cases_lt p n) [
 ]
 
 -- a segment in which the log does not stand changes nothing for it
-slip_same : (table : TableId) (n : ℕ) (o : Option Place) → ((p : Place) → o ≡ Some p → p.segment ≢ n) → slip_from table (n + 1) o ≡ slip_from table n o
+slip_same : (table : TableId) (n : ℕ) (o : Option LogHead) → ((p : LogHead) → o ≡ Some p → p.segment ≢ n) → slip_from table (n + 1) o ≡ slip_from table n o
 slip_same table n None apart = refl
 slip_same table n (Some p) apart = ap (λ (b : Bool). if b then None else Some (record { table = table; segment = p.segment })) (below_next p.segment n (apart p refl))
 
-slip_here : (table : TableId) (n : ℕ) (p : Place) → p.segment ≡ n → slip_from table n (Some p) ≡ Some (record { table = table; segment = n })
+slip_here : (table : TableId) (n : ℕ) (p : LogHead) → p.segment ≡ n → slip_from table n (Some p) ≡ Some (record { table = table; segment = n })
 slip_here table n p is =
     ap (λ (b : Bool). if b then None else Some (record { table = table; segment = p.segment })) (le-ltb p.segment n (omega arith))
     ∙ ap (λ s. Some (record { table = table; segment = s })) is
@@ -77,7 +77,7 @@ sealed_table old new (opened, slip, begun, ended) = ended.3 ∙ begun.3
 
 module _ (geometry : Geometry) (image : Image) (lawful : IsLawful geometry image) where
   -- no two logs stand in one segment
-  logs_apart : (k j : ℕ) (p q : Place) → get_or image.logs k None ≡ Some p → get_or image.logs j None ≡ Some q → k ≢ j → p.segment ≢ q.segment
+  logs_apart : (k j : ℕ) (p q : LogHead) → get_or image.logs k None ≡ Some p → get_or image.logs j None ≡ Some q → k ≢ j → p.segment ≢ q.segment
   logs_apart k j p q at to apart = elim (cases_lt k j) [
     | inl low ↦ subst (AreApart (Some p)) to (subst (λ o. AreApart o (get_or image.logs j None)) at (lawful 2 (omega arith) (omega arith) k j None low (some_within image.logs j q to)))
     | inr high ↦
@@ -87,20 +87,20 @@ module _ (geometry : Geometry) (image : Image) (lawful : IsLawful geometry image
   ]
 
   -- the log that stands in a segment is the one that was found there
-  found_same : (s : ℕ) (j : ℕ) (p : Place) → get_or image.logs j None ≡ Some p → p.segment ≡ s → (k : ℕ) (q : Place) → get_or image.logs k None ≡ Some q → q.segment ≡ s → q ≡ p
+  found_same : (s : ℕ) (j : ℕ) (p : LogHead) → get_or image.logs j None ≡ Some p → p.segment ≡ s → (k : ℕ) (q : LogHead) → get_or image.logs k None ≡ Some q → q.segment ≡ s → q ≡ p
   found_same s j p at is k q to too = elim (cases_eq k j) [
     | inl e ↦ same_some (get_or image.logs j None) q p (ap (λ i. get_or image.logs i None) (sym e) ∙ to) at
     | inr apart ↦ absurd (logs_apart k j q p to at apart (too ∙ sym is))
   ]
 
   -- no block at or past a log's next place is valid
-  pub log_fits : (s : ℕ) (j : ℕ) (p : Place) (summaries : List (Option Owner)) → get_or image.logs j None ≡ Some p → p.segment ≡ s → HasOwners geometry image s 0 summaries → IsFitting Open p.next summaries
+  pub log_fits : (s : ℕ) (j : ℕ) (p : LogHead) (summaries : List (Option Owner)) → get_or image.logs j None ≡ Some p → p.segment ≡ s → HasOwners geometry image s 0 summaries → IsFitting Open p.next summaries
   log_fits s j p summaries at is has =
       let range = lawful 1 (omega arith) (omega arith) in
       let agree = lawful 10 (omega arith) (omega arith) in
       let within = some_within image.logs j p at in
       let place : IsPlace geometry p = subst (λ o. IfSome o (IsPlace geometry)) at (range.places j None within) in
-      let unmarked = subst (λ o. IfSome o (λ (place : Place). (offset : ℕ) → place.next ≤ offset → offset < segment_blocks geometry.shape → ¬ IsTrue (is_marked geometry image (address_of geometry.shape place.segment offset)))) at (agree.logs j None within) in
+      let unmarked = subst (λ o. IfSome o (λ (place : LogHead). (offset : ℕ) → place.next ≤ offset → offset < segment_blocks geometry.shape → ¬ IsTrue (is_marked geometry image (address_of geometry.shape place.segment offset)))) at (agree.logs j None within) in
       let sized = has.sized in (
         (let low = place.1 in omega arith),
         λ o past. elim (cases_lt o (segment_blocks geometry.shape)) [
@@ -113,9 +113,9 @@ module _ (geometry : Geometry) (image : Image) (lawful : IsLawful geometry image
       )
 
   -- the state of a segment in which a log stands
-  pub state_open : (s j : ℕ) (p : Place) → get_or image.logs j None ≡ Some p → p.segment ≡ s → IsStateIn image s Open p.next
+  pub state_open : (s j : ℕ) (p : LogHead) → get_or image.logs j None ≡ Some p → p.segment ≡ s → IsStateIn image s Open p.next
   state_open s j p at is = record {
-    open_at = λ k q to too. (refl, ap (λ (r : Place). r.next) (sym (found_same s j p at is k q to too)));
+    open_at = λ k q to too. (refl, ap (λ (r : LogHead). r.next) (sym (found_same s j p at is k q to too)));
     free = λ none. absurd (none j p at is);
     sealed = λ none. absurd (none j p at is);
   }
@@ -195,7 +195,7 @@ module _ (geometry : Geometry) (image : Image) (book table : TableId) where
     }
 
     -- a log stands in it
-    pub goes_on_open : (lawful : IsLawful geometry image) (j : ℕ) (p : Place) (slip : OpenSegment) → get_or image.logs j None ≡ Some p → p.segment ≡ number → r.segment.state ≡ Open
+    pub goes_on_open : (lawful : IsLawful geometry image) (j : ℕ) (p : LogHead) (slip : OpenSegment) → get_or image.logs j None ≡ Some p → p.segment ≡ number → r.segment.state ≡ Open
         → slip ≡ record { table = table; segment = number } → AreSegmentsFrom geometry image book table number (states ++ r ∷ []) free (set logs j (Some slip))
     goes_on_open lawful j p slip at is is_open slip_is = record {
       count = counts_on;

@@ -8,7 +8,7 @@ use Rattle.geometry.specs.declared.owner.Owner.{Owner}
 use Rattle.geometry.specs.declared.owner.Owner.TheVariants.{Node, Data}
 use Rattle.geometry.specs.Mark.{same_mark}
 use Rattle.geometry.proofs.MarkTests.{mark_eq, mark_self}
-use Rattle.rights_books.specs.declared.claim.Entry.{Entry}
+use Rattle.rights_books.specs.declared.claim.TakenNumber.{TakenNumber}
 use Rattle.rights_books.specs.Weights.{mark_of}
 use Rattle.mount_blocks.specs.TreeGoods.{Goods, AreLeft, ArePlaced, IsData, in_place, goods_weight, marks_weight}
 use Rattle.image.specs.Image.{Image, node_of}
@@ -86,7 +86,7 @@ and_false true = refl
 and_false false = refl
 
 -- a data block's mark is no node's
-apart_node : (a p s : ℕ) (e : Entry) → is (record { address = a; owner = Data p s }) (mark_of e) ≡ 0
+apart_node : (a p s : ℕ) (e : TakenNumber) → is (record { address = a; owner = Data p s }) (mark_of e) ≡ 0
 unfolding is
 apart_node a p s e = let no = and_false (a == e.address) in rw no
 
@@ -124,7 +124,7 @@ module _ {L : Type 0} (mark : L → Mark) (goods : Goods L) (tickets : AreLeft g
 
   -- the token of a node that weighs is there
   pub token_there : (m : Mark) (n : ℕ) → m.owner ≡ Node n → ((h : Mark → ℕ) → h m ≤ marks_weight mark h goods)
-      → (e : Entry) × (get_or goods.tokens n None ≡ Some e) × (mark_of e ≡ m)
+      → (e : TakenNumber) × (get_or goods.tokens n None ≡ Some e) × (mark_of e ≡ m)
   token_there m n owner enough =
       let v : Mark = record { address = m.address; owner = Node n } in
       let is_v : m ≡ v = λ k. record { address = m.address; owner = owner k } in
@@ -140,18 +140,18 @@ module _ {L : Type 0} (mark : L → Mark) (goods : Goods L) (tickets : AreLeft g
 
 module _ {L : Type 0} (goods new : Goods L) where
   pub ticket_trades : (a : ℕ) (x : L) → new ≡ record goods { tickets = set goods.tickets a None } → get_or goods.tickets a None ≡ Some x
-      → (ticket : L → ℕ) (token : Entry → ℕ) → goods_weight ticket token new + ticket x ≡ goods_weight ticket token goods
+      → (ticket : L → ℕ) (token : TakenNumber → ℕ) → goods_weight ticket token new + ticket x ≡ goods_weight ticket token goods
   ticket_trades a x e at ticket token =
       let went = goes ticket goods.tickets a x at in
       let is_new = ap (goods_weight ticket token) e in
       omega arith
 
-  pub token_trades : (n : ℕ) (x : Entry) → new ≡ record goods { tokens = set goods.tokens n None } → get_or goods.tokens n None ≡ Some x
-      → (ticket : L → ℕ) (token : Entry → ℕ) → goods_weight ticket token new + token x ≡ goods_weight ticket token goods
+  pub token_trades : (n : ℕ) (x : TakenNumber) → new ≡ record goods { tokens = set goods.tokens n None } → get_or goods.tokens n None ≡ Some x
+      → (ticket : L → ℕ) (token : TakenNumber → ℕ) → goods_weight ticket token new + token x ≡ goods_weight ticket token goods
   token_trades n x e at ticket token =
       let went = goes token goods.tokens n x at in
       let is_new = ap (goods_weight ticket token) e in
       omega arith
 
-pub token_mark : (e : Entry) (m : Mark) (n : ℕ) → e.number ≡ n → e.address ≡ m.address → m.owner ≡ Node n → mark_of e ≡ m
+pub token_mark : (e : TakenNumber) (m : Mark) (n : ℕ) → e.number ≡ n → e.address ≡ m.address → m.owner ≡ Node n → mark_of e ≡ m
 token_mark e m n number address owner = λ k. record { address = address k; owner = (ap Node number ∙ sym owner) k }

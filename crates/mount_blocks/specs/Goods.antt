@@ -6,7 +6,7 @@ use Rattle.geometry.specs.declared.geometry.Geometry.{Geometry}
 use Rattle.geometry.specs.declared.owner.Owner.{Owner}
 use Rattle.geometry.specs.declared.owner.Owner.TheVariants.{Node, Data}
 use Rattle.geometry.specs.Area.{block_count}
-use Rattle.rights_books.specs.declared.claim.Entry.{Entry}
+use Rattle.rights_books.specs.declared.claim.TakenNumber.{TakenNumber}
 use Rattle.image.specs.Image.{Image, entry_of}
 use Rattle.tickets.specs.Placed.{Placed}
 use Rattle.mount_blocks.specs.Marked.{marked_owner}
@@ -21,7 +21,7 @@ data_ticket (Some (Node n)) address bytes = None
 data_ticket (Some (Data n s)) address bytes = ticket_of (Some (Data n s)) address bytes
 
 -- the token of a number that has an entry: it shows the entry, and the bytes of the node's block
-abbrev pub node_token : Image → (ℕ → List ℕ) → ℕ → Option Entry
+abbrev pub node_token : Image → (ℕ → List ℕ) → ℕ → Option TakenNumber
 node_token image bytes number =
     let entry = entry_of image number in
     if entry.address == 0 then None
@@ -29,7 +29,7 @@ node_token image bytes number =
 
 -- A place for each address and one for each number, and one for 0 of both: the tickets of the data blocks that the image
 -- marks, and the tokens of its nodes.
-pub record AreGoods (geometry : Geometry) (image : Image) (bytes : ℕ → List ℕ) (tickets : List (Option Placed)) (tokens : List (Option Entry)) : Type 0 where
+pub record AreGoods (geometry : Geometry) (image : Image) (bytes : ℕ → List ℕ) (tickets : List (Option Placed)) (tokens : List (Option TakenNumber)) : Type 0 where
   pub places : length tickets ≡ block_count geometry + 1
   pub numbers : length tokens ≡ geometry.nodes + 1
   pub blocks : (address : ℕ) → slice_index_or tickets address None ≡ data_ticket (marked_owner geometry image address) address (bytes address)

@@ -3,7 +3,7 @@ use Rattle.std.specs.Prelude.{◌≡◌, ℕ, ◌+◌, ◌-◌, ◌<◌, ◌≤�
 use Rattle.std.proofs.Common.{suc}
 use Rattle.geometry.specs.declared.owner.Mark.{Mark}
 use Rattle.geometry.specs.declared.owner.Owner.TheVariants.{Data}
-use Rattle.rights_books.specs.declared.claim.Entry.{Entry}
+use Rattle.rights_books.specs.declared.claim.TakenNumber.{TakenNumber}
 use Rattle.image.specs.Node.{Node}
 use Rattle.image.specs.Image.{Image, entry_of, node_of}
 use Rattle.image.specs.Walk.{node_name}
@@ -72,7 +72,7 @@ AreLoaded Loaded numbers slots =
     (length slots ≡ length numbers) × ((k : ℕ) → k < length numbers → Loaded k (slice_index numbers k) (entry_at slots k))
 
 -- A node that an entry names, with its token, and what its entries name. It is not marked, nor is one below it.
-pub record IsNodeOf {C : Type 0} (is_leaf : Bool) (Loaded : ℕ → ℕ → ℕ → Option C → Type 0) (image : Image) (tokens : List (Option Entry)) (number : ℕ) (b : Branch C) : Type 0 where
+pub record IsNodeOf {C : Type 0} (is_leaf : Bool) (Loaded : ℕ → ℕ → ℕ → Option C → Type 0) (image : Image) (tokens : List (Option TakenNumber)) (number : ℕ) (b : Branch C) : Type 0 where
   pub some : 0 < number
   pub token : slice_index_or tokens number None ≡ Some b.token
   pub number_is : b.token.number ≡ number
@@ -81,10 +81,10 @@ pub record IsNodeOf {C : Type 0} (is_leaf : Bool) (Loaded : ℕ → ℕ → ℕ 
   pub none_below : b.entries.marked ≡ 0
   pub below : AreLoaded (Loaded number) (numbers_in is_leaf (node_of image number)) b.entries.slots.items
 
-abbrev pub LoadedBelow : {C : Type 0} → Bool → (ℕ → ℕ → ℕ → Option C → Type 0) → Image → List (Option Entry) → ℕ → Option (Branch C) → Type 0
+abbrev pub LoadedBelow : {C : Type 0} → Bool → (ℕ → ℕ → ℕ → Option C → Type 0) → Image → List (Option TakenNumber) → ℕ → Option (Branch C) → Type 0
 LoadedBelow is_leaf Loaded image tokens number None = number ≡ 0
 LoadedBelow is_leaf Loaded image tokens number (Some b) = IsNodeOf is_leaf Loaded image tokens number b
 
 -- what tickets and tokens weigh
-abbrev pub of_rights : {L : Type 0} → (L → ℕ) → (Entry → ℕ) → Weighing L
+abbrev pub of_rights : {L : Type 0} → (L → ℕ) → (TakenNumber → ℕ) → Weighing L
 of_rights ticket token = record { ticket = ticket; node = λ n. token n.token }

@@ -8,7 +8,7 @@ use Rattle.geometry.specs.declared.state.State.{State}
 use Rattle.geometry.specs.declared.state.State.TheVariants.{Free, Open, Sealed, Prefree}
 use Rattle.geometry.specs.Shape.{segment_blocks}
 use Rattle.geometry.specs.Address.{address_of}
-use Rattle.image.specs.declared.image.Place.{Place}
+use Rattle.image.specs.declared.image.LogHead.{LogHead}
 use Rattle.image.specs.Image.{Image, info_of}
 use Rattle.words.specs.Tokens.{FreeSegment, OpenSegment, fresh_slip}
 use Rattle.sit.specs.Registered.{Registered}
@@ -22,16 +22,16 @@ pub record HasOwners (geometry : Geometry) (image : Image) (segment from : ℕ) 
 
 -- no log stands in a segment
 abbrev pub HasNoLog : Image → ℕ → Type 0
-HasNoLog image segment = (log : ℕ) (place : Place) → slice_index_or image.logs log None ≡ Some place → place.segment ≢ segment
+HasNoLog image segment = (log : ℕ) (place : LogHead) → slice_index_or image.logs log None ≡ Some place → place.segment ≢ segment
 
 -- the log that stands in a segment with its place, or none does
-abbrev pub IsLogIn : Image → ℕ → Option (ℕ × Place) → Type 0
+abbrev pub IsLogIn : Image → ℕ → Option (ℕ × LogHead) → Type 0
 IsLogIn image segment None = HasNoLog image segment
 IsLogIn image segment (Some found) = (slice_index_or image.logs found.0 None ≡ Some found.1) × (found.1.segment ≡ segment)
 
 -- A segment in which a log stands is open, with the log's next place. Another is free where no block of it is valid, and else sealed.
 pub record IsStateIn (image : Image) (segment : ℕ) (state : State) (next : ℕ) : Type 0 where
-  pub open_at : (log : ℕ) (place : Place) → slice_index_or image.logs log None ≡ Some place → place.segment ≡ segment → (state ≡ Open) × (next ≡ place.next)
+  pub open_at : (log : ℕ) (place : LogHead) → slice_index_or image.logs log None ≡ Some place → place.segment ≡ segment → (state ≡ Open) × (next ≡ place.next)
   pub free : HasNoLog image segment → (info_of image segment).count ≡ 0 → state ≡ Free
   pub sealed : HasNoLog image segment → 0 < (info_of image segment).count → state ≡ Sealed
 
@@ -58,7 +58,7 @@ abbrev pub slip_weight : (FreeSegment → ℕ) → Registered → ℕ
 slip_weight h r = when_free r.segment.state (h (fresh_slip r.table r.segment.number))
 
 -- the slip of the segment in which a log stands, where that is one from a number on
-abbrev pub slip_from : TableId → ℕ → Option Place → Option OpenSegment
+abbrev pub slip_from : TableId → ℕ → Option LogHead → Option OpenSegment
 slip_from table from None = None
 slip_from table from (Some place) = if nat_lt place.segment from then None else Some (record { table = table; segment = place.segment })
 

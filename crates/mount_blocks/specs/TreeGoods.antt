@@ -4,18 +4,18 @@ use Rattle.geometry.specs.Weights.{weigh}
 use Rattle.geometry.specs.declared.owner.Mark.{Mark}
 use Rattle.geometry.specs.declared.owner.Owner.{Owner}
 use Rattle.geometry.specs.declared.owner.Owner.TheVariants.{Node, Data}
-use Rattle.rights_books.specs.declared.claim.Entry.{Entry}
+use Rattle.rights_books.specs.declared.claim.TakenNumber.{TakenNumber}
 use Rattle.rights_books.specs.Weights.{mark_of}
 
 -- tickets by their addresses, and tokens by their numbers
 pub record Shelves (L : Type 0) : Type 0 where
   pub tickets : List (Option L)
-  pub tokens : List (Option Entry)
+  pub tokens : List (Option TakenNumber)
 
 -- those that are left, and all that there were
 pub record Goods (L : Type 0) : Type 0 where
   pub tickets : List (Option L)
-  pub tokens : List (Option Entry)
+  pub tokens : List (Option TakenNumber)
   pub all : Shelves L
 
 -- what is left stands where it stood
@@ -28,7 +28,7 @@ in_place h None = 0
 in_place h (Some x) = h x
 
 -- what is left weighs
-abbrev pub goods_weight : {L : Type 0} → (L → ℕ) → (Entry → ℕ) → Goods L → ℕ
+abbrev pub goods_weight : {L : Type 0} → (L → ℕ) → (TakenNumber → ℕ) → Goods L → ℕ
 goods_weight ticket token goods = weigh (in_place ticket) goods.tickets + weigh (in_place token) goods.tokens
 
 -- the same, by the marks of the blocks: a node's token stands for the block of the node
@@ -44,4 +44,4 @@ IsData (Data n s) = Unit {0}
 pub record ArePlaced {L : Type 0} (mark : L → Mark) (all : Shelves L) : Type 0 where
   pub addresses : (k : ℕ) (t : L) → slice_index_or all.tickets k None ≡ Some t → (mark t).address ≡ k
   pub owners : (k : ℕ) (t : L) → slice_index_or all.tickets k None ≡ Some t → IsData (mark t).owner
-  pub numbers : (k : ℕ) (e : Entry) → slice_index_or all.tokens k None ≡ Some e → e.number ≡ k
+  pub numbers : (k : ℕ) (e : TakenNumber) → slice_index_or all.tokens k None ≡ Some e → e.number ≡ k

@@ -18,7 +18,7 @@ use crate::table::put_at;
 use device::Block;
 use geometry::Geometry;
 use image::Image;
-use rights_books::{Books, Permit};
+use rights_books::{Books, CallAccount};
 use sit::Loading;
 use tickets::Ticket;
 
@@ -28,14 +28,14 @@ pub(crate) fn load_blocks<B: Block + Drop>(
     geometry: &Geometry,
     image: &Image,
     books: &Books,
-    permit: &mut Permit,
+    hand: &mut CallAccount,
     loading: &mut Loading<B>,
     blocks: &mut Vec<B>,
     tickets: &mut Vec<Option<Ticket<B>>>,
 )
     requires lawful { IsLawful geometry.now (image_view image.now) }
     requires books { AreItsBooks books.now loading.old }
-    requires permit { permit.old.book ≡ loading.old.book }
+    requires hand { hand.old.book ≡ loading.old.book }
     requires shape { loading.old.shape ≡ geometry.now.shape }
     requires number { loading.old.number < geometry.now.segments }
     requires sized { length loading.old.summaries ≡ segment_blocks geometry.now.shape }
@@ -56,17 +56,17 @@ pub(crate) fn load_blocks<B: Block + Drop>(
     ensures tickets { (bytes : ℕ → List ℕ) → HaveBytes B.content_of bytes blocks.old.items
         → AreTicketsPast geometry.now (image_view image.now) bytes (length blocks.old.items) tickets.old.items
         → AreTicketsPast geometry.now (image_view image.now) bytes (length blocks.new.items) tickets.new.items }
-    ensures hand { (h : Mark → ℕ) → weigh h permit.new.tickets + weigh (in_place (λ t. h t.mark)) tickets.old.items
-        ≡ weigh h permit.old.tickets + weigh (in_place (λ t. h t.mark)) tickets.new.items }
-    ensures tokens { permit.new.tokens ≡ permit.old.tokens }
-    ensures book { permit.new.book ≡ permit.old.book }
+    ensures hand { (h : Mark → ℕ) → weigh h hand.new.tickets + weigh (in_place (λ t. h t.mark)) tickets.old.items
+        ≡ weigh h hand.old.tickets + weigh (in_place (λ t. h t.mark)) tickets.new.items }
+    ensures tokens { hand.new.tokens ≡ hand.old.tokens }
+    ensures book { hand.new.book ≡ hand.old.book }
 {
     for done in 0..geometry.shape.segment_blocks() {
         match blocks.pop() {
             Some(block) => {
                 let address = block.address();
                 let owner = owner_at(geometry, image, address);
-                match loading.put(books, permit, block, owner) {
+                match loading.put(books, hand, block, owner) {
                     Some(ticket) => put_at(tickets, address, ticket),
                     None => {}
                 }

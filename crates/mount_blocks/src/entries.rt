@@ -2,7 +2,7 @@
 ghost use Rattle.std.specs.Prelude.{◌≡◌, ℕ, ◌+◌, ◌-◌, ◌<◌, ◌≤◌, List, length, slice_index, slice_index_or, false, IfOk};
 ghost use Rattle.geometry.specs.Weights.{weigh};
 ghost use Rattle.geometry.specs.declared.owner.Mark.{Mark};
-ghost use Rattle.rights_books.specs.declared.claim.Entry.{Entry};
+ghost use Rattle.rights_books.specs.declared.claim.TakenNumber.{TakenNumber};
 ghost use Rattle.image.specs.Image.{Image as Imaged};
 ghost use Rattle.image.specs.View.{image_view};
 ghost use Rattle.mount_blocks.specs.TreeGoods.{ArePlaced, goods_weight, marks_weight};
@@ -100,7 +100,7 @@ pub fn load_entries<C: Load>(
     ensures none_below { result.marked ≡ 0 }
     ensures all { stock.new.all ≡ stock.old.all }
     ensures taken { (h : Mark → ℕ) → marks_weight C.mark_of h stock.new + weigh_from (C.names (image_view image.now) h parent) 0 numbers.now ≡ marks_weight C.mark_of h stock.old }
-    ensures trades { (ticket : C.Leaf → ℕ) (token : Entry → ℕ) → goods_weight ticket token stock.new + weigh (C.weight (of_rights ticket token)) result.slots.items ≡ goods_weight ticket token stock.old }
+    ensures trades { (ticket : C.Leaf → ℕ) (token : TakenNumber → ℕ) → goods_weight ticket token stock.new + weigh (C.weight (of_rights ticket token)) result.slots.items ≡ goods_weight ticket token stock.old }
 {
     let NodeRoom {
         mut slots,

@@ -1,7 +1,7 @@
 //! A file's state out of a stock.
 ghost use Rattle.std.specs.Prelude.{◌≡◌, ℕ, ◌+◌, ◌<◌, ◌≤◌, ◌∷◌, [], false};
 ghost use Rattle.geometry.specs.declared.owner.Mark.{Mark};
-ghost use Rattle.rights_books.specs.declared.claim.Entry.{Entry};
+ghost use Rattle.rights_books.specs.declared.claim.TakenNumber.{TakenNumber};
 ghost use Rattle.tickets.specs.Placed.{Placed};
 ghost use Rattle.image.specs.View.{image_view};
 ghost use Rattle.nodes.specs.File.{weight_of};
@@ -35,7 +35,7 @@ pub fn load_file<B: Block>(
     ensures loaded { IsLoadedFile (image_view image.now) shape stock.old.all inode result }
     ensures all { stock.new.all ≡ stock.old.all }
     ensures taken { (h : Mark → ℕ) → marks_weight (λ (t : Placed). t.mark) h stock.new + file_names (image_view image.now) h inode ≡ marks_weight (λ (t : Placed). t.mark) h stock.old }
-    ensures trades { (ticket : Placed → ℕ) (token : Entry → ℕ) → goods_weight ticket token stock.new + weight_of result (of_rights ticket token) ≡ goods_weight ticket token stock.old }
+    ensures trades { (ticket : Placed → ℕ) (token : TakenNumber → ℕ) → goods_weight ticket token stock.new + weight_of result (of_rights ticket token) ≡ goods_weight ticket token stock.old }
 {
     stock.law();
     let token = stock.take_token(inode);
@@ -86,7 +86,7 @@ fn load_pair<C: Load>(
     ensures clean { result.dirty ≡ false }
     ensures all { stock.new.all ≡ stock.old.all }
     ensures taken { (h : Mark → ℕ) → marks_weight C.mark_of h stock.new + weigh_from (C.names (image_view image.now) h inode) 0 (child (image_view image.now) inode first ∷ child (image_view image.now) inode (first + 1) ∷ []) ≡ marks_weight C.mark_of h stock.old }
-    ensures trades { (ticket : C.Leaf → ℕ) (token : Entry → ℕ) → goods_weight ticket token stock.new + weigh (C.weight (of_rights ticket token)) result.slots.items ≡ goods_weight ticket token stock.old }
+    ensures trades { (ticket : C.Leaf → ℕ) (token : TakenNumber → ℕ) → goods_weight ticket token stock.new + weigh (C.weight (of_rights ticket token)) result.slots.items ≡ goods_weight ticket token stock.old }
 {
     let numbers = [image.child(inode, first), image.child(inode, first + 1)];
     load_entries::<C>(image, entries, inode, &numbers, room, stock)
@@ -108,7 +108,7 @@ fn load_last<C: Load>(
     ensures clean { result.dirty ≡ false }
     ensures all { stock.new.all ≡ stock.old.all }
     ensures taken { (h : Mark → ℕ) → marks_weight C.mark_of h stock.new + weigh_from (C.names (image_view image.now) h inode) 0 (child (image_view image.now) inode 4 ∷ []) ≡ marks_weight C.mark_of h stock.old }
-    ensures trades { (ticket : C.Leaf → ℕ) (token : Entry → ℕ) → goods_weight ticket token stock.new + weigh (C.weight (of_rights ticket token)) result.slots.items ≡ goods_weight ticket token stock.old }
+    ensures trades { (ticket : C.Leaf → ℕ) (token : TakenNumber → ℕ) → goods_weight ticket token stock.new + weigh (C.weight (of_rights ticket token)) result.slots.items ≡ goods_weight ticket token stock.old }
 {
     let numbers = [image.child(inode, 4)];
     load_entries::<C>(image, entries, inode, &numbers, room, stock)

@@ -1,7 +1,7 @@
 //! What an entry of an image's node names comes into a slot.
 ghost use Rattle.std.specs.Prelude.{◌≡◌, ℕ, ◌+◌, ◌<◌, ◌≤◌, List, Option, None, IfOk};
 ghost use Rattle.geometry.specs.declared.owner.Mark.{Mark};
-ghost use Rattle.rights_books.specs.declared.claim.Entry.{Entry};
+ghost use Rattle.rights_books.specs.declared.claim.TakenNumber.{TakenNumber};
 ghost use Rattle.image.specs.Image.{Image as Imaged};
 ghost use Rattle.image.specs.View.{image_view, node_view};
 ghost use Rattle.mount_blocks.specs.TreeGoods.{Shelves, ArePlaced, goods_weight, marks_weight};
@@ -70,7 +70,7 @@ pub trait Load: Subtree {
         ensures loaded { loaded (image_view image.now) stock.old.all parent slot number result }
         ensures all { stock.new.all ≡ stock.old.all }
         ensures taken { (h : Mark → ℕ) → marks_weight mark_of h stock.new + names (image_view image.now) h parent slot number ≡ marks_weight mark_of h stock.old }
-        ensures trades { (ticket : Self.Leaf → ℕ) (token : Entry → ℕ) → goods_weight ticket token stock.new + Self.weight (of_rights ticket token) result ≡ goods_weight ticket token stock.old };
+        ensures trades { (ticket : Self.Leaf → ℕ) (token : TakenNumber → ℕ) → goods_weight ticket token stock.new + Self.weight (of_rights ticket token) result ≡ goods_weight ticket token stock.old };
 }
 
 impl<B: Block> Load for Ticket<B> {

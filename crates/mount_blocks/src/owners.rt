@@ -6,7 +6,7 @@ ghost use Rattle.mount_blocks.specs.Marked.{marked_owner};
 ghost use Rattle.mount_blocks.specs.States.{IsLogIn};
 
 use geometry::{Geometry, Owner};
-use image::{Image, Place};
+use image::{Image, LogHead};
 
 /// Who names the block at an address, where it is valid.
 pub(crate) fn owner_at(geometry: &Geometry, image: &Image, address: u32) -> Option<Owner>
@@ -31,7 +31,7 @@ pub(crate) fn numbers_of(image: &Image, segment: u32) -> (u32, u64)
 }
 
 /// The log that stands in a segment, and its place there, where one does.
-pub(crate) fn log_in(image: &Image, segment: u32) -> Option<(usize, Place)>
+pub(crate) fn log_in(image: &Image, segment: u32) -> Option<(usize, LogHead)>
     ensures { IsLogIn (image_view image.now) segment result }
 {
     for log in 0..image.logs.len() {

@@ -5,14 +5,14 @@ ghost use Rattle.mount_blocks.specs.Rights.{AreRights, IsRightOf};
 use device::Block;
 use geometry::Geometry;
 use rights_books::{Books, SegmentAccount};
-use sit::Room;
+use sit::EmptySegment;
 use words::{Standing, StoredSlip, Words};
 
 /// The memory of each segment, its account of the books, its standing of the words and the slip with which it is opened, for
 /// the segments from 0 on.
 #[derive(Drop)]
 pub struct SegmentRights<B: Block + Drop> {
-    pub rooms: Vec<Room<B>>,
+    pub rooms: Vec<EmptySegment<B>>,
     pub accounts: Vec<SegmentAccount>,
     pub standings: Vec<Standing>,
     pub slips: Vec<StoredSlip>,
@@ -20,7 +20,7 @@ pub struct SegmentRights<B: Block + Drop> {
 
 // The same of one segment.
 pub(crate) struct SegmentRight<B: Block + Drop> {
-    pub(crate) room: Room<B>,
+    pub(crate) room: EmptySegment<B>,
     pub(crate) account: SegmentAccount,
     pub(crate) state: StateRight,
 }

@@ -19,7 +19,7 @@ use crate::settling::LoadedSegments;
 use device::Block;
 use geometry::Geometry;
 use image::Image;
-use rights_books::{Books, Permit};
+use rights_books::{Books, CallAccount};
 use tickets::Ticket;
 use words::Words;
 
@@ -37,14 +37,14 @@ pub fn load_segments<B: Block + Drop>(
     image: &Image,
     books: &Books,
     words: &Words,
-    permit: &mut Permit,
+    hand: &mut CallAccount,
     memory: SegmentMemory<B>,
     blocks: &mut Vec<B>,
     tickets: &mut Vec<Option<Ticket<B>>>,
 ) -> LoadedSegments<B>
     requires lawful { IsLawful geometry.now (image_view image.now) }
     requires layout { books.now.key.blocks ≡ segment_blocks geometry.now.shape }
-    requires permit { permit.old.book ≡ books.now.book }
+    requires hand { hand.old.book ≡ books.now.book }
     requires rights { AreRights geometry.now.shape books.now.book words.now.table memory.rights.rooms.items memory.rights.accounts.items memory.rights.standings.items memory.rights.slips.items }
     requires count { length memory.rights.rooms.items ≡ geometry.now.segments }
     requires none { (memory.room.states.items ≡ []) × (memory.room.free.items ≡ []) × (memory.room.logs.items ≡ replicate 6 None) }
@@ -57,9 +57,9 @@ pub fn load_segments<B: Block + Drop>(
     ensures tickets { (bytes : ℕ → List ℕ) → HaveBytes B.content_of bytes blocks.old.items
         → AreTicketsPast geometry.now (image_view image.now) bytes 0 tickets.new.items }
     ensures named { (h : Mark → ℕ) → weigh (in_place (λ t. h t.mark)) tickets.new.items ≡ weigh h (names geometry.now (image_view image.now)) }
-    ensures hand { (h : Mark → ℕ) → weigh h permit.new.tickets ≡ weigh h permit.old.tickets + weigh h (names geometry.now (image_view image.now)) }
-    ensures tokens { permit.new.tokens ≡ permit.old.tokens }
-    ensures book { permit.new.book ≡ permit.old.book }
+    ensures hand { (h : Mark → ℕ) → weigh h hand.new.tickets ≡ weigh h hand.old.tickets + weigh h (names geometry.now (image_view image.now)) }
+    ensures tokens { hand.new.tokens ≡ hand.old.tokens }
+    ensures book { hand.new.book ≡ hand.old.book }
     ensures blocks { length blocks.new.items ≡ 0 }
     ensures capacity { vec_capacity blocks.new ≡ vec_capacity blocks.old }
 {
@@ -75,15 +75,7 @@ pub fn load_segments<B: Block + Drop>(
             state,
         } = right;
         let mut loading = room.load(account);
-        load_blocks(
-            geometry,
-            image,
-            books,
-            permit,
-            &mut loading,
-            blocks,
-            tickets,
-        );
+        load_blocks(geometry, image, books, hand, &mut loading, blocks, tickets);
         segments.settle(geometry, image, books, words, loading, number, state);
     }
     segments

@@ -10,12 +10,9 @@ ghost use Rattle.geometry.specs.Weights.{weigh};
 ghost use Rattle.pack_tables.specs.Grammar.{HasSuper};
 
 use device::{Block, Meta};
-use geometry::{Error, Geometry};
+use geometry::{Error, Geometry, SUPER_BYTES};
 use pack_tables::read_super;
 use std::convert::AsSlice;
-
-// The bytes of a superblock.
-const SUPER_BYTES: usize = 64;
 
 /// The geometry that the superblock of an area tells. The area stays as it is.
 ///

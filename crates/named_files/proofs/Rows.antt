@@ -8,18 +8,18 @@ use Rattle.named_files.specs.Files.{file_at, HasFolder, IsNumberFor, IsPlace, Is
 use Rattle.named_folder.specs.Folder.{Row}
 use Rattle.named_folder.specs.Names.{HasNoRow, IsRowOf, IsRowPlace}
 use Rattle.named_folder.specs.Rows.{row_of}
-use Rattle.named_folder.specs.declared.entry.Entry.{Entry}
+use Rattle.named_folder.specs.declared.entry.FolderRow.{FolderRow}
 use Rattle.named_files.proofs.Places.{there_at_place}
 
 -- the files of all rows are there, where those of the rows from i on are
-abbrev pub AreThereFrom : List Pass → List Entry → ℕ → Type 0
+abbrev pub AreThereFrom : List Pass → List FolderRow → ℕ → Type 0
 AreThereFrom passes entries i =
     All (λ (row : Row). IsThere passes row.number) (map row_of (drop i entries)) → All (λ (row : Row). IsThere passes row.number) (map row_of entries)
 
-pub there_from_begins : (passes : List Pass) (entries : List Entry) → AreThereFrom passes entries 0
+pub there_from_begins : (passes : List Pass) (entries : List FolderRow) → AreThereFrom passes entries 0
 there_from_begins passes entries = λ all. all
 
-pub there_from_more : (passes : List Pass) (entries : List Entry) (i : ℕ) (entry : Entry) (place : Option ℕ) → i < length entries → entry ≡ get_or entries i entry
+pub there_from_more : (passes : List Pass) (entries : List FolderRow) (i : ℕ) (entry : FolderRow) (place : Option ℕ) → i < length entries → entry ≡ get_or entries i entry
     → is_none place ≡ false → IfSome place (λ place. IsPlace entry.number passes place) → AreThereFrom passes entries i → AreThereFrom passes entries (i + 1)
 there_from_more passes entries i entry None low is found here so_far = absurd (cc)
 there_from_more passes entries i entry (Some place) low is found here so_far = λ all.
@@ -27,7 +27,7 @@ there_from_more passes entries i entry (Some place) low is found here so_far = �
     (subst (λ es. All (λ (row : Row). IsThere passes row.number) (map row_of es)) (sym (drop_more entries i entry low ∙ ap (λ e. e ∷ drop (i + 1) entries) (sym is)))
     (All-cons (λ (row : Row). IsThere passes row.number) (row_of entry) (map row_of (drop (i + 1) entries)) (there_at_place entry.number passes place here) all))
 
-pub there_from_all : (passes : List Pass) (entries : List Entry) (i : ℕ) → length entries ≤ i → AreThereFrom passes entries i
+pub there_from_all : (passes : List Pass) (entries : List FolderRow) (i : ℕ) → length entries ≤ i → AreThereFrom passes entries i
     → All (λ (row : Row). IsThere passes row.number) (map row_of entries)
 there_from_all passes entries i all so_far =
     so_far (subst (λ es. All (λ (row : Row). IsThere passes row.number) (map row_of es)) (sym (drop_all i entries all)) (All-nil (λ (row : Row). IsThere passes row.number)))
@@ -63,9 +63,9 @@ pub if_some : {X : Type 0} (P : X → Type 0) (o : Option X) (x : X) → o ≡ S
 if_some P o x is holds = subst (λ y. IfSome y P) (sym is) holds
 
 -- the passes have a file of each of the rows that were looked at
-pub rows_there : (entries looked : List Entry) (passes : List Pass) → entries ≡ looked
+pub rows_there : (entries looked : List FolderRow) (passes : List Pass) → entries ≡ looked
     → All (λ (row : Row). IsThere passes row.number) (map row_of looked) → All (λ (row : Row). IsThere passes row.number) (map row_of entries)
-rows_there entries looked passes is there = subst (λ (es : List Entry). All (λ (row : Row). IsThere passes row.number) (map row_of es)) (sym is) there
+rows_there entries looked passes is there = subst (λ (es : List FolderRow). All (λ (row : Row). IsThere passes row.number) (map row_of es)) (sym is) there
 
 -- what was read of these passes holds of those that are the same
 pub folder_of : (size : ℕ) (before passes : List Pass) (rows : List Row) → before ≡ passes → HasFolder size passes rows → HasFolder size before rows

@@ -1,5 +1,6 @@
 //! Bytes to whole blocks of a file, and back.
-ghost use Rattle.std.specs.Prelude.{◌≡◌, ◌<◌, ◌≤◌, ◌-◌, ◌++◌, ◌⊎◌, length, replicate, true, IfOk, IfErr, OnOk};
+ghost use Rattle.std.specs.Prelude.{◌≡◌, ◌<◌, ◌≤◌, ◌-◌, ◌++◌, length, replicate, true, IfOk, IfErr, OnOk};
+ghost use Rattle.geometry.specs.Refusals.{IsOfRead};
 ghost use Rattle.flash_volume.specs.Worked.{IsOfCall};
 ghost use Rattle.geometry.specs.File.{bytes_at};
 ghost use Rattle.geometry.specs.Shape.{block_bytes};
@@ -24,7 +25,7 @@ pub(crate) fn read_all<V: VolumeName, M: Meta, B: Block + Drop, R: Wait>(
     pass: &FilePass<V>,
 ) -> Result<Vec<u8>, Error>
     ensures bytes { IfOk result (λ bytes. bytes.items ≡ all_bytes (block_bytes V.Numbers.geometry.shape) pass.now.file) }
-    ensures error { IfErr result (λ error. (error ≡ NoMemory) ⊎ (error ≡ Device)) }
+    ensures error { IfErr result IsOfRead }
 {
     let size = volume.geometry().shape.block_bytes();
     let mut block = vec![in alloc; 0u8; size as usize]?;
@@ -139,7 +140,7 @@ fn has_block<V: VolumeName, M: Meta, B: Block + Drop, R: Wait>(
     requires block { length block.now ≡ block_bytes V.Numbers.geometry.shape }
     ensures below { IfOk result (λ has. has ≡ true → index < pass.now.file.length) }
     ensures bytes { IfOk result (λ has. has ≡ true → bytes_at (block_bytes V.Numbers.geometry.shape) pass.now.file index ≡ block.now) }
-    ensures error { IfErr result (λ error. (error ≡ NoMemory) ⊎ (error ≡ Device)) }
+    ensures error { IfErr result IsOfRead }
 {
     let mut held = vec![in alloc; 0u8; block.len()]?;
     if !volume.read(rt, pass, index, held.as_mut_slice())? {

@@ -14,7 +14,7 @@ mod work;
 
 pub use law::{file_law, put_get_law, put_kept_law};
 pub use making_room::work_making_room;
-pub use room::{MakeRoom, Taken, has_room, kept_for_folder};
+pub use room::{MakeRoom, RoomTaken, has_room, kept_for_folder};
 pub use tidy::{Clean, Tidied};
 pub use work::{
     Append, DeleteFile, FolderRows, MakeFolder, NewFile, Put, PutAll, ReadFolder, Remove, Rename,

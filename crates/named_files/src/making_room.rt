@@ -4,7 +4,7 @@ ghost use Rattle.device.specs.Parts.{IsBlockRun};
 
 use crate::room::MakeRoom;
 use device::{Block, Meta, Parts};
-use flash_volume::{Done, Fault as VolumeFault, Leave, Work, work_on};
+use flash_volume::{Done, Leave, LeaveFault as VolumeFault, Work, work_on};
 use geometry::Error;
 use std::sync::Wait;
 

@@ -82,7 +82,7 @@ fn segments_for(geometry: &Geometry, blocks: u64) -> u32 {
 
 /// The blocks of a volume of which it depends whether there is room for a file.
 #[derive(Clone, Copy, Debug, PartialEq, Eq)]
-pub struct Taken {
+pub struct RoomTaken {
     /// All valid blocks.
     pub valid: u32,
     /// The folder's blocks of data.
@@ -91,15 +91,15 @@ pub struct Taken {
     pub file: Option<u32>,
 }
 
-impl Taken {
+impl RoomTaken {
     /// What is taken once the folder has so many bytes, where it has fewer blocks now.
-    pub fn with_folder(self, geometry: &Geometry, bytes: u64) -> Taken {
+    pub fn with_folder(self, geometry: &Geometry, bytes: u64) -> RoomTaken {
         let wanted = bytes.div_ceil(u64::from(geometry.shape.block_bytes().max(1)));
         let folder = u32::try_from(wanted).unwrap_or(u32::MAX).max(self.folder);
         let before = with_nodes(geometry.shape, u64::from(self.folder));
         let after = with_nodes(geometry.shape, u64::from(folder));
         let more = u32::try_from(after.saturating_sub(before)).unwrap_or(u32::MAX);
-        Taken {
+        RoomTaken {
             valid: self.valid.saturating_add(more),
             folder,
             file: self.file,
@@ -109,7 +109,7 @@ impl Taken {
 
 /// Whether a file of so many bytes stays within the room that a volume tells (`usable_blocks`), beside what is taken: its own blocks then
 /// come free, and the folder can be written once more. A file that gets no larger always does.
-pub fn has_room(geometry: &Geometry, taken: Taken, bytes: u64) -> bool {
+pub fn has_room(geometry: &Geometry, taken: RoomTaken, bytes: u64) -> bool {
     let data = bytes.div_ceil(u64::from(geometry.shape.block_bytes().max(1)));
     let (before, named) = match taken.file {
         Some(blocks) => (with_nodes(geometry.shape, u64::from(blocks)), 0),

@@ -1,8 +1,8 @@
 //! The files of the passes, and the folder among them.
-ghost use Rattle.std.specs.Prelude.{◌≡◌, ◌≢◌, ◌<◌, ◌⊎◌, ℕ, List, None, All, length, map, true, IfOk, IfErr, IfSome, IfNone, OnOk};
+ghost use Rattle.std.specs.Prelude.{◌≡◌, ◌≢◌, ◌<◌, ℕ, List, None, All, length, map, true, IfOk, IfErr, IfSome, IfNone, OnOk};
+ghost use Rattle.geometry.specs.Refusals.{IsOfRead};
 ghost use Rattle.flash_volume.specs.Worked.{IsOfCall};
 ghost use Rattle.geometry.specs.Shape.{block_bytes};
-ghost use Rattle.geometry.specs.declared.error.Error.TheVariants.{Device, NoMemory};
 ghost use Rattle.named_files.specs.Files.{file_at, HasFolder, IsNamedAt, IsPlace, IsThere};
 ghost use Rattle.named_folder.specs.Folder.{Row, IsRow};
 ghost use Rattle.named_folder.specs.Rows.{row_of};
@@ -11,8 +11,8 @@ use crate::content::{Blocks, read_all, write_all};
 use device::{Block, Meta};
 use file_cells::FilePass;
 use geometry::Error;
-use named_folder::{Entry, FOLDER, decode, encode, row_at};
-use named_reading::Refusal;
+use named_folder::{FOLDER, FolderRow, decode, encode, row_at};
+use named_reading::NameRefusal;
 use rights_permits::VolumeName;
 use std::alloc::Global;
 use std::sync::Wait;
@@ -33,7 +33,7 @@ pub(crate) fn place_of<V: VolumeName>(passes: &[FilePass<V>], number: u32) -> Op
 }
 
 // Whether the passes have a file of each row.
-fn are_there<V: VolumeName>(passes: &[FilePass<V>], entries: &[Entry]) -> bool
+fn are_there<V: VolumeName>(passes: &[FilePass<V>], entries: &[FolderRow]) -> bool
     ensures { result ≡ true → All (λ row. IsThere passes.now row.number) (map row_of entries.now) }
 {
     for entry in entries {
@@ -50,10 +50,10 @@ pub(crate) fn read_folder<V: VolumeName, M: Meta, B: Block + Drop, R: Wait>(
     alloc: Global,
     volume: &Volume<V, M, B>,
     passes: &[FilePass<V>],
-) -> Result<Option<Vec<Entry>>, Error>
+) -> Result<Option<Vec<FolderRow>>, Error>
     ensures some { IfOk result (λ found. IfSome found (λ entries. HasFolder (block_bytes V.Numbers.geometry.shape) passes.now (map row_of entries.items))) }
     ensures none { IfOk result (λ found. IfNone found ((rows : List Row) → HasFolder (block_bytes V.Numbers.geometry.shape) passes.now rows → ⊥)) }
-    ensures error { IfErr result (λ error. (error ≡ NoMemory) ⊎ (error ≡ Device)) }
+    ensures error { IfErr result IsOfRead }
 {
     match place_of(passes, FOLDER) {
         Some(place) => {
@@ -71,16 +71,16 @@ pub(crate) fn read_rows<V: VolumeName, M: Meta, B: Block + Drop, R: Wait>(
     alloc: Global,
     volume: &Volume<V, M, B>,
     passes: &[FilePass<V>],
-) -> Result<Result<Vec<Entry>, Refusal>, Error>
+) -> Result<Result<Vec<FolderRow>, NameRefusal>, Error>
     ensures folder { IfOk result (λ answer. IfOk answer (λ entries. HasFolder (block_bytes V.Numbers.geometry.shape) passes.now (map row_of entries.items))) }
     ensures there { IfOk result (λ answer. IfOk answer (λ entries. All (λ row. IsThere passes.now row.number) (map row_of entries.items))) }
-    ensures error { IfErr result (λ error. (error ≡ NoMemory) ⊎ (error ≡ Device)) }
+    ensures error { IfErr result IsOfRead }
 {
     let Some(entries) = read_folder(rt, alloc, volume, passes)? else {
-        return Ok(Err(Refusal::NoFolder));
+        return Ok(Err(NameRefusal::NoFolder));
     };
     if !are_there(passes, entries.as_slice()) {
-        return Ok(Err(Refusal::LostFile));
+        return Ok(Err(NameRefusal::LostFile));
     }
     Ok(Ok(entries))
 }
@@ -88,7 +88,7 @@ pub(crate) fn read_rows<V: VolumeName, M: Meta, B: Block + Drop, R: Wait>(
 /// The rows of the folder, and where the first of a name stands.
 #[derive(Drop)]
 pub(crate) struct NamedRow {
-    pub entries: Vec<Entry>,
+    pub entries: Vec<FolderRow>,
     pub row: usize,
 }
 
@@ -100,17 +100,17 @@ pub(crate) fn find_named<V: VolumeName, M: Meta, B: Block + Drop, R: Wait>(
     volume: &Volume<V, M, B>,
     passes: &[FilePass<V>],
     name: &str,
-) -> Result<Result<NamedRow, Refusal>, Error>
+) -> Result<Result<NamedRow, NameRefusal>, Error>
     ensures found { IfOk result (λ answer. IfOk answer (λ found. IsNamedAt (block_bytes V.Numbers.geometry.shape) name.now passes.now (map row_of found.entries.items) found.row)) }
     ensures within { IfOk result (λ answer. IfOk answer (λ found. found.row < length found.entries.items)) }
-    ensures error { IfErr result (λ error. (error ≡ NoMemory) ⊎ (error ≡ Device)) }
+    ensures error { IfErr result IsOfRead }
 {
     let Some(entries) = read_folder(rt, alloc, volume, passes)? else {
-        return Ok(Err(Refusal::NoFolder));
+        return Ok(Err(NameRefusal::NoFolder));
     };
     match row_at(entries.as_slice(), name) {
         Some(row) => Ok(Ok(NamedRow { entries, row })),
-        None => Ok(Err(Refusal::NoSuchFile)),
+        None => Ok(Err(NameRefusal::NoSuchFile)),
     }
 }
 
@@ -121,7 +121,7 @@ pub(crate) fn write_folder<V: VolumeName, M: Meta, B: Block + Drop, R: Wait>(
     alloc: Global,
     volume: &Volume<V, M, B>,
     passes: &mut [FilePass<V>],
-    entries: &[Entry],
+    entries: &[FolderRow],
     now: u64,
 ) -> Result<(), Error>
     requires rows { All IsRow (map row_of entries.now) }

@@ -5,7 +5,7 @@ ghost use Rattle.geometry.specs.declared.error.Error.TheVariants.{NoMemory};
 ghost use Rattle.named_folder.specs.Folder.{Row, IsRow, BeginsWith, row_bytes, folder_bytes};
 ghost use Rattle.named_folder.specs.Rows.{row_of};
 
-use crate::entry::Entry;
+use crate::entry::FolderRow;
 use geometry::Error;
 use std::alloc::Global;
 
@@ -20,7 +20,7 @@ const MARK: &[u8; 8] = b"RUSZDIR1";
 const ROW_HEAD: usize = 20;
 
 /// The bytes that spell the entries. The only error is NoMemory.
-pub fn encode(alloc: Global, entries: &[Entry]) -> Result<Vec<u8>, Error>
+pub fn encode(alloc: Global, entries: &[FolderRow]) -> Result<Vec<u8>, Error>
     ensures bytes { IfOk result (λ bytes. bytes.items ≡ folder_bytes (map row_of entries.now)) }
     ensures error { IfErr result (λ error. error ≡ NoMemory) }
 {
@@ -32,7 +32,7 @@ pub fn encode(alloc: Global, entries: &[Entry]) -> Result<Vec<u8>, Error>
     Ok(bytes)
 }
 
-fn push_entry(bytes: &mut Vec<u8>, entry: &Entry) -> Result<(), Error>
+fn push_entry(bytes: &mut Vec<u8>, entry: &FolderRow) -> Result<(), Error>
     ensures bytes { OnOk result (bytes.new.items ≡ bytes.old.items ++ row_bytes (row_of entry.now)) }
     ensures error { IfErr result (λ error. error ≡ NoMemory) }
 {
@@ -46,7 +46,7 @@ fn push_entry(bytes: &mut Vec<u8>, entry: &Entry) -> Result<(), Error>
 
 /// The entries of the folder that the bytes begin with; what comes behind it is not looked at. None exactly where they begin with
 /// none. The only error is NoMemory.
-pub fn decode(alloc: Global, bytes: &[u8]) -> Result<Option<Vec<Entry>>, Error>
+pub fn decode(alloc: Global, bytes: &[u8]) -> Result<Option<Vec<FolderRow>>, Error>
     ensures some { IfOk result (λ found. IfSome found (λ entries. BeginsWith (map row_of entries.items) bytes.now)) }
     ensures none { IfOk result (λ found. IfNone found ((rows : List Row) → BeginsWith rows bytes.now → ⊥)) }
     ensures error { IfErr result (λ error. error ≡ NoMemory) }
@@ -70,7 +70,7 @@ pub fn decode(alloc: Global, bytes: &[u8]) -> Result<Option<Vec<Entry>>, Error>
 }
 
 // The entry that begins at a place of the bytes, and where it ends. None where none begins there.
-fn entry_at(alloc: Global, bytes: &[u8], at: usize) -> Result<Option<(Entry, usize)>, Error>
+fn entry_at(alloc: Global, bytes: &[u8], at: usize) -> Result<Option<(FolderRow, usize)>, Error>
     requires { at ≤ length bytes.now }
     ensures row { IfOk result (λ found. IfSome found (λ front. IsRow (row_of front.0))) }
     ensures within { IfOk result (λ found. IfSome found (λ front. front.1 ≤ length bytes.now)) }
@@ -85,7 +85,7 @@ fn entry_at(alloc: Global, bytes: &[u8], at: usize) -> Result<Option<(Entry, usi
 }
 
 // The entry that the bytes begin with, and how many bytes it has. None where they begin with none.
-fn front_entry(alloc: Global, bytes: &[u8]) -> Result<Option<(Entry, usize)>, Error>
+fn front_entry(alloc: Global, bytes: &[u8]) -> Result<Option<(FolderRow, usize)>, Error>
     ensures row { IfOk result (λ found. IfSome found (λ front. IsRow (row_of front.0))) }
     ensures within { IfOk result (λ found. IfSome found (λ front. front.1 ≤ length bytes.now)) }
     ensures spelled { IfOk result (λ found. IfSome found (λ front. take front.1 bytes.now ≡ row_bytes (row_of front.0))) }
@@ -105,7 +105,7 @@ fn front_entry(alloc: Global, bytes: &[u8]) -> Result<Option<(Entry, usize)>, Er
     match str::from_utf8(&bytes[ROW_HEAD..end]) {
         Ok(name) => {
             let name = String::from_str(alloc, name)?;
-            let entry = Entry {
+            let entry = FolderRow {
                 name,
                 number,
                 bytes: file_bytes,

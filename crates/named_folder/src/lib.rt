@@ -8,6 +8,6 @@ mod entry;
 mod folder;
 mod rows;
 
-pub use entry::{Entry, is_name};
+pub use entry::{FolderRow, is_name};
 pub use folder::{FOLDER, decode, encode, folder_law};
 pub use rows::{put_row, rename_row, row_at, take_row};

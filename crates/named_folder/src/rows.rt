@@ -5,12 +5,12 @@ ghost use Rattle.named_folder.specs.Folder.{Row, IsRow};
 ghost use Rattle.named_folder.specs.Names.{HasNoRow, IsRowOf, IsRowPlace, Removes, Renames, Renews};
 ghost use Rattle.named_folder.specs.Rows.{row_of};
 
-use crate::entry::Entry;
+use crate::entry::FolderRow;
 use geometry::Error;
 use std::alloc::Global;
 
 /// Where the first row of a name is.
-pub fn row_at(entries: &[Entry], name: &str) -> Option<usize>
+pub fn row_at(entries: &[FolderRow], name: &str) -> Option<usize>
     ensures within { IfSome result (λ place. place < length entries.now) }
     ensures some { IfSome result (λ place. IsRowPlace name.now (map row_of entries.now) place) }
     ensures none { IfNone result (HasNoRow name.now (map row_of entries.now)) }
@@ -27,7 +27,7 @@ pub fn row_at(entries: &[Entry], name: &str) -> Option<usize>
 /// The only error is NoMemory, and then the rows are as they were.
 pub fn put_row(
     alloc: Global,
-    entries: &mut Vec<Entry>,
+    entries: &mut Vec<FolderRow>,
     row: Option<usize>,
     name: &str,
     number: u32,
@@ -41,7 +41,7 @@ pub fn put_row(
     ensures error { IfErr result (λ error. error ≡ NoMemory) }
     ensures same { OnErr result (entries.new.items ≡ entries.old.items) }
 {
-    let entry = Entry {
+    let entry = FolderRow {
         name: String::from_str(alloc, name)?,
         number,
         bytes,
@@ -54,7 +54,7 @@ pub fn put_row(
 }
 
 /// Takes a row out, and answers the number of its file.
-pub fn take_row(entries: &mut Vec<Entry>, row: usize) -> u32
+pub fn take_row(entries: &mut Vec<FolderRow>, row: usize) -> u32
     requires within { row < length entries.old.items }
     ensures taken { (name : List ℕ) → IsRowPlace name (map row_of entries.old.items) row → (taken : Row) × (taken.number ≡ result) × IsRowOf name (map row_of entries.old.items) taken }
     ensures removed { (name : List ℕ) → IsRowPlace name (map row_of entries.old.items) row → Removes name (map row_of entries.old.items) (map row_of entries.new.items) }
@@ -65,7 +65,12 @@ pub fn take_row(entries: &mut Vec<Entry>, row: usize) -> u32
 }
 
 /// A row gets another name. The only error is NoMemory, and then the rows are as they were.
-pub fn rename_row(alloc: Global, entries: &mut [Entry], row: usize, to: &str) -> Result<(), Error>
+pub fn rename_row(
+    alloc: Global,
+    entries: &mut [FolderRow],
+    row: usize,
+    to: &str,
+) -> Result<(), Error>
     requires within { row < length entries.old }
     ensures renamed { OnOk result ((name : List ℕ) → IsRowPlace name (map row_of entries.old) row → Renames name to.now (map row_of entries.old) (map row_of entries.new)) }
     ensures rows { OnOk result (All IsRow (map row_of entries.old) → All IsRow (map row_of entries.new)) }
@@ -74,7 +79,7 @@ pub fn rename_row(alloc: Global, entries: &mut [Entry], row: usize, to: &str) ->
 {
     let name = String::from_str(alloc, to)?;
     let old = &entries[row];
-    let entry = Entry {
+    let entry = FolderRow {
         name,
         number: old.number,
         bytes: old.bytes,

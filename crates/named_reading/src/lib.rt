@@ -8,5 +8,5 @@ mod refusal;
 mod volume;
 
 pub use listing::{Listing, NumberedFile};
-pub use refusal::Refusal;
+pub use refusal::NameRefusal;
 pub use volume::OpenVolume;

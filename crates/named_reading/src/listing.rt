@@ -1,5 +1,5 @@
 //! What files there are.
-use named_folder::Entry;
+use named_folder::FolderRow;
 
 /// A file by its number, and its length in blocks.
 #[derive(Clone, Copy, Debug, PartialEq, Eq)]
@@ -11,6 +11,6 @@ pub struct NumberedFile {
 /// The rows of the folder, if there is one, and all files by their numbers, the folder among them.
 #[derive(Drop)]
 pub struct Listing {
-    pub named: Option<Vec<Entry>>,
+    pub named: Option<Vec<FolderRow>>,
     pub files: Vec<NumberedFile>,
 }

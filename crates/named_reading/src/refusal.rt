@@ -3,7 +3,7 @@ use thiserror::Error;
 
 /// Why work on named files was refused, before anything was changed.
 #[derive(Clone, Copy, Debug, PartialEq, Eq, Error)]
-pub enum Refusal {
+pub enum NameRefusal {
     /// The volume has no folder: its first file is none, or was not written by these calls.
     #[error("the volume has no folder of names")]
     NoFolder,

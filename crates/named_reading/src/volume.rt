@@ -11,11 +11,11 @@ ghost use Rattle.named_folder.specs.Rows.{row_of};
 ghost use Rattle.named_reading.specs.Named.{HasFile, HasFolder, HasNumber};
 
 use crate::listing::{Listing, NumberedFile};
-use crate::refusal::Refusal;
+use crate::refusal::NameRefusal;
 use geometry::{Error, Geometry};
 use image::Image;
 use image_reading::{ImageSource, ReadFault, hand_out, length_of, read_image};
-use named_folder::{Entry, FOLDER, decode, row_at};
+use named_folder::{FOLDER, FolderRow, decode, row_at};
 use std::alloc::Global;
 use std::io::Write;
 
@@ -50,7 +50,7 @@ impl<S: ImageSource + Drop> OpenVolume<S> {
         alloc: Global,
         name: &str,
         out: &mut O,
-    ) -> Result<Result<(), Refusal>, ReadFault>
+    ) -> Result<Result<(), NameRefusal>, ReadFault>
         ensures got { IfOk result (λ done. OnOk done ((bytes : List ℕ) → S.shows self.new.source bytes → (got : List ℕ)
             × HasFile (block_bytes self.old.geometry.shape) (files_in self.old.geometry (image_view self.old.image) bytes) name.now got
             × Appends (O.contents out.old) (O.contents out.new) got)) }
@@ -59,14 +59,14 @@ impl<S: ImageSource + Drop> OpenVolume<S> {
         ensures image { self.new.image ≡ self.old.image }
     {
         let Some(entries) = rows(alloc, &mut self.source, &self.geometry, &self.image)? else {
-            return Ok(Err(Refusal::NoFolder));
+            return Ok(Err(NameRefusal::NoFolder));
         };
         let Some(row) = row_at(entries.as_slice(), name) else {
-            return Ok(Err(Refusal::NoSuchFile));
+            return Ok(Err(NameRefusal::NoSuchFile));
         };
         let entry = &entries.as_slice()[row];
         if !has(&self.geometry, &self.image, entry.number) {
-            return Ok(Err(Refusal::NoSuchFile));
+            return Ok(Err(NameRefusal::NoSuchFile));
         }
         hand_out(
             alloc,
@@ -86,7 +86,7 @@ impl<S: ImageSource + Drop> OpenVolume<S> {
         alloc: Global,
         number: u32,
         out: &mut O,
-    ) -> Result<Result<(), Refusal>, ReadFault>
+    ) -> Result<Result<(), NameRefusal>, ReadFault>
         ensures got { IfOk result (λ done. OnOk done ((bytes : List ℕ) → S.shows self.new.source bytes → (got : List ℕ)
             × HasNumber (block_bytes self.old.geometry.shape) (files_in self.old.geometry (image_view self.old.image) bytes) number got
             × Appends (O.contents out.old) (O.contents out.new) got)) }
@@ -95,7 +95,7 @@ impl<S: ImageSource + Drop> OpenVolume<S> {
         ensures image { self.new.image ≡ self.old.image }
     {
         if !has(&self.geometry, &self.image, number) {
-            return Ok(Err(Refusal::NoSuchFile));
+            return Ok(Err(NameRefusal::NoSuchFile));
         }
         hand_out(
             alloc,
@@ -143,7 +143,7 @@ fn rows<S: ImageSource>(
     source: &mut S,
     geometry: &Geometry,
     image: &Image,
-) -> Result<Option<Vec<Entry>>, ReadFault>
+) -> Result<Option<Vec<FolderRow>>, ReadFault>
     ensures some { IfOk result (λ found. IfSome found (λ entries. (bytes : List ℕ) → S.shows source.new bytes
         → HasFolder (block_bytes geometry.now.shape) (files_in geometry.now (image_view image.now) bytes) (map row_of entries.items))) }
     ensures kept { Narrows (S.shows source.old) (S.shows source.new) }

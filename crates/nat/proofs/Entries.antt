@@ -2,7 +2,7 @@
 -- change of one slot changes what is shown by that entry.
 use Rattle.std.proofs.Common.{◌≡◌, ◌≢◌, ℕ, zero, suc, ◌+◌, ◌*◌, ◌%◌, ◌<◌, ◌≤◌, ◌==◌, List, [], ◌∷◌, Option, Some, None, Bool, true, false, length, get_or, set, replicate, if◌then◌else◌, refl, ap, ◌∙◌, eq-eqb, ne_eqb, arith}
 use Rattle.geometry.specs.Weights.{weigh}
-use Rattle.rights_books.specs.declared.claim.Entry.{Entry}
+use Rattle.rights_books.specs.declared.claim.TakenNumber.{TakenNumber}
 use Rattle.rights_books.specs.Lists.{times}
 use Rattle.rights_books.specs.Sameness.{same_entry}
 use Rattle.rights_books.proofs.Sameness.{entry_eq}
@@ -10,19 +10,19 @@ use Rattle.nat.specs.Taken.{entries_of}
 use Rattle.nat.specs.Slots.{SlotView, entry_of, entries_from}
 
 -- what a slot weighs
-abbrev pub of_slot : (Entry → ℕ) → ℕ → Option SlotView → ℕ
+abbrev pub of_slot : (TakenNumber → ℕ) → ℕ → Option SlotView → ℕ
 of_slot h n None = 0
 of_slot h n (Some s) = h (entry_of n s)
 
-of_same : (h : Entry → ℕ) (a b : ℕ) (s : Option SlotView) → a ≡ b → of_slot h a s ≡ of_slot h b s
+of_same : (h : TakenNumber → ℕ) (a b : ℕ) (s : Option SlotView) → a ≡ b → of_slot h a s ≡ of_slot h b s
 of_same h a b s e = ap (λ z. of_slot h z s) e
 
-entries_cons : (h : Entry → ℕ) (k j : ℕ) (s : Option SlotView) (ss : List (Option SlotView)) → weigh h (entries_from k j (s ∷ ss)) ≡ of_slot h (j * 16 + k) s + weigh h (entries_from k (suc j) ss)
+entries_cons : (h : TakenNumber → ℕ) (k j : ℕ) (s : Option SlotView) (ss : List (Option SlotView)) → weigh h (entries_from k j (s ∷ ss)) ≡ of_slot h (j * 16 + k) s + weigh h (entries_from k (suc j) ss)
 entries_cons h k j (Some s) ss = refl
 entries_cons h k j None ss = omega arith
 
 -- a slot changes
-pub entries-set : (h : Entry → ℕ) (k j : ℕ) (ss : List (Option SlotView)) (i : ℕ) (s : Option SlotView) (n : ℕ) → n ≡ (j + i) * 16 + k → i < length ss
+pub entries-set : (h : TakenNumber → ℕ) (k j : ℕ) (ss : List (Option SlotView)) (i : ℕ) (s : Option SlotView) (n : ℕ) → n ≡ (j + i) * 16 + k → i < length ss
     → weigh h (entries_from k j (set ss i s)) + of_slot h n (get_or ss i None) ≡ weigh h (entries_from k j ss) + of_slot h n s
 entries-set h k j [] i s n e within = absurd (omega arith)
 entries-set h k j (t ∷ ss) zero s n e within =
@@ -36,19 +36,19 @@ entries-set h k j (t ∷ ss) (suc i) s n e within =
     let r = entries-set h k (suc j) ss i s n (omega arith) (omega arith) in omega arith
 
 -- an entry that is there stands at the slot of its number
-abbrev pub StandsIn : Entry → ℕ → ℕ → List (Option SlotView) → Type 0
+abbrev pub StandsIn : TakenNumber → ℕ → ℕ → List (Option SlotView) → Type 0
 StandsIn e k j ss = (i : ℕ) × (slot : SlotView) × (i < length ss) × (get_or ss i None ≡ Some slot) × (e ≡ entry_of ((j + i) * 16 + k) slot)
 
-later : (e : Entry) (k j : ℕ) (s : Option SlotView) (ss : List (Option SlotView)) → StandsIn e k (suc j) ss → StandsIn e k j (s ∷ ss)
+later : (e : TakenNumber) (k j : ℕ) (s : Option SlotView) (ss : List (Option SlotView)) → StandsIn e k (suc j) ss → StandsIn e k j (s ∷ ss)
 later e k j s ss (i, slot, within, at, is) =
     (suc i, slot, omega arith, at, is ∙ (let n : (suc j + i) * 16 + k ≡ (j + suc i) * 16 + k = omega arith in ap (λ z. entry_of z slot) n))
 
-pub found : (e : Entry) (k j : ℕ) (ss : List (Option SlotView)) → 0 < times same_entry e (entries_from k j ss) → StandsIn e k j ss
+pub found : (e : TakenNumber) (k j : ℕ) (ss : List (Option SlotView)) → 0 < times same_entry e (entries_from k j ss) → StandsIn e k j ss
 found e k j [] some = absurd (omega arith)
 found e k j (None ∷ ss) some = later e k j None ss (found e k (suc j) ss some)
 found e k j (Some s ∷ ss) some = go (same_entry e here) refl some (found e k (suc j) ss)
   where
-    here : Entry
+    here : TakenNumber
     here = entry_of (j * 16 + k) s
 
     go : (b : Bool) → same_entry e here ≡ b → 0 < (if b then 1 else 0) + times same_entry e (entries_from k (suc j) ss)
@@ -64,7 +64,7 @@ held None = 0
 held (Some s) = 1
 
 -- the weight by which entries of a number are counted
-abbrev of_number : ℕ → Entry → ℕ
+abbrev of_number : ℕ → TakenNumber → ℕ
 of_number n e = if e.number == n then 1 else 0
 
 one_here : (n m : ℕ) → m ≡ n → ◌≡◌ {A = ℕ} (if m == n then 1 else 0) 1
@@ -118,7 +118,7 @@ held_some None some = absurd (omega arith)
 held_some (Some s) some = (s, refl)
 
 -- what a slot holds weighs no more than all slots do
-pub entry_weighs : (h : Entry → ℕ) (k j : ℕ) (ss : List (Option SlotView)) (i : ℕ) (s : SlotView) (n : ℕ) → n ≡ (j + i) * 16 + k → get_or ss i None ≡ Some s
+pub entry_weighs : (h : TakenNumber → ℕ) (k j : ℕ) (ss : List (Option SlotView)) (i : ℕ) (s : SlotView) (n : ℕ) → n ≡ (j + i) * 16 + k → get_or ss i None ≡ Some s
     → h (entry_of n s) ≤ weigh h (entries_from k j ss)
 entry_weighs h k j [] i s n e at = absurd (let no = at in cc)
 entry_weighs h k j (t ∷ ss) zero s n e at =

@@ -7,7 +7,7 @@ use Rattle.std.proofs.lemmas.List.{length-set, length-replicate, get_or_past, ge
 use mathlib.Core.Logic.{dite}
 use native.Mathlib.Decide.{ℕ_discrete}
 use Rattle.geometry.specs.Weights.{weigh}
-use Rattle.rights_books.specs.declared.claim.Entry.{Entry}
+use Rattle.rights_books.specs.declared.claim.TakenNumber.{TakenNumber}
 use Rattle.rights_books.specs.Accounts.{ShardView}
 use Rattle.rights_books.specs.Lists.{times, without}
 use Rattle.rights_books.specs.Rules.{lodged_of, moved_to}
@@ -64,7 +64,7 @@ module _ (nodes k : ℕ) (slots : List (Option SlotView)) (account : ShardView) 
 
   -- a slot changes, and its entry in the account with it
   set_law : (account' : ShardView) (i n : ℕ) (s : Option SlotView) → n ≡ (0 + i) * 16 + k → i < length slots → account'.shard ≡ account.shard → (k ≡ 0 → i ≡ 0 → s ≡ None)
-      → ((h : Entry → ℕ) → weigh h account'.taken + of_slot h n (get_or slots i None) ≡ weigh h account.taken + of_slot h n s)
+      → ((h : TakenNumber → ℕ) → weigh h account'.taken + of_slot h n (get_or slots i None) ≡ weigh h account.taken + of_slot h n s)
       → IsShard nodes k (set slots i s) account'
   set_law account' i n s is within same zero_free change = record {
     is_one = law.is_one;
@@ -93,7 +93,7 @@ module _ (nodes k : ℕ) (slots : List (Option SlotView)) (account : ShardView) 
     is_free at = subst (λ es. IsFree n es) (ap (λ x. x.taken) is) (count_at n ours ∙ ap held at)
 
     -- a number is taken
-    pub take_law : (slot : SlotView) (account' : ShardView) (token : Entry) → 1 ≤ n → n ≤ v.nodes → get_or slots (n / 16) None ≡ None
+    pub take_law : (slot : SlotView) (account' : ShardView) (token : TakenNumber) → 1 ≤ n → n ≤ v.nodes → get_or slots (n / 16) None ≡ None
         → token ≡ entry_of n slot → account' ≡ record account { taken = token ∷ account.taken } → IsShard nodes k (set slots (n / 16) (Some slot)) account'
     take_law slot account' token some most clear spells change =
         let o = ours in
@@ -104,7 +104,7 @@ module _ (nodes k : ℕ) (slots : List (Option SlotView)) (account : ShardView) 
     pub is_located : (slot : SlotView) → get_or slots (n / 16) None ≡ Some slot → IsLocated n v.taken (Some (slot.inode, slot.address))
     is_located slot at =
         let e = entry_of n slot in
-        let h : Entry → ℕ = λ y. if same_entry e y then 1 else 0 in
+        let h : TakenNumber → ℕ = λ y. if same_entry e y then 1 else 0 in
         let o = ours in
         let w = entry_weighs h k 0 slots (n / 16) slot n (omega arith) at in
         let one : h e ≡ 1 = is_self same_entry entry_eq entry_self e in
@@ -112,7 +112,7 @@ module _ (nodes k : ℕ) (slots : List (Option SlotView)) (account : ShardView) 
         let same = ap (λ x. weigh h x.taken) is in (is_taken slot at, slot.bytes, omega arith)
 
   -- an entry that the account has taken, whose number is called by two names
-  module _ (e : Entry) (n : ℕ) (named : n ≡ e.number) (some : 0 < times same_entry e account.taken) where
+  module _ (e : TakenNumber) (n : ℕ) (named : n ≡ e.number) (some : 0 < times same_entry e account.taken) where
     stands : (slot : SlotView) × (n / 16 < length slots) × (n ≡ (0 + (n / 16)) * 16 + k) × (get_or slots (n / 16) None ≡ Some slot) × (e ≡ entry_of n slot)
     stands =
         let t = law.taken (λ y. if same_entry e y then 1 else 0) in
@@ -145,7 +145,7 @@ module _ (nodes k : ℕ) (slots : List (Option SlotView)) (account : ShardView) 
           let t = ap h slot_spells in omega arith)
 
       -- its node gets another block
-      pub swap_law : (slot' : SlotView) (e' : Entry) (account' : ShardView) → e' ≡ entry_of n slot' → account' ≡ record account { taken = e' ∷ without same_entry e account.taken }
+      pub swap_law : (slot' : SlotView) (e' : TakenNumber) (account' : ShardView) → e' ≡ entry_of n slot' → account' ≡ record account { taken = e' ∷ without same_entry e account.taken }
           → IsShard nodes k (set slots (n / 16) (Some slot')) account'
       swap_law slot' e' account' spells change =
           set_law account' (n / 16) n (Some slot') stands.2 stands.1 (ap (λ a. a.shard) change)
@@ -172,7 +172,7 @@ new_law nodes k count slots account small many none empty =
     }
 
 -- what the books hand out fits the block that stands there
-pub lodged_fits : (e : Entry) (claimed : Option Mark) (a : ℕ) → claimed ≡ lodged_of e → e.address ≡ a → MatchOption claimed (Unit {0}) (λ mark. (0 < mark.address) × (mark.address ≡ a))
+pub lodged_fits : (e : TakenNumber) (claimed : Option Mark) (a : ℕ) → claimed ≡ lodged_of e → e.address ≡ a → MatchOption claimed (Unit {0}) (λ mark. (0 < mark.address) × (mark.address ≡ a))
 lodged_fits e claimed a is at = subst (λ (c : Option Mark). MatchOption c (Unit {0}) (λ mark. (0 < mark.address) × (mark.address ≡ a))) (sym is) (go (e.address == 0) refl)
   where
     positive : (n : ℕ) → (n == 0) ≡ false → 0 < n
@@ -183,7 +183,7 @@ lodged_fits e claimed a is at = subst (λ (c : Option Mark). MatchOption c (Unit
     go true z = tt
     go false z = (positive e.address z, at)
 
-pub placed_lodged : (e : Entry) (claimed : Option Mark) (bytes : List ℕ) → claimed ≡ lodged_of e → bytes ≡ e.bytes → placed_in claimed bytes ≡ placed_of e
+pub placed_lodged : (e : TakenNumber) (claimed : Option Mark) (bytes : List ℕ) → claimed ≡ lodged_of e → bytes ≡ e.bytes → placed_in claimed bytes ≡ placed_of e
 placed_lodged e claimed bytes is spelled = ap (λ c. placed_in c bytes) is ∙ (ap (placed_in (lodged_of e)) spelled ∙ go (e.address == 0))
   where
     go : (b : Bool) → placed_in (if b then None else Some (mark_of e)) e.bytes ≡ (if b then None else Some (record { mark = mark_of e; content = e.bytes }))
@@ -203,7 +203,7 @@ pub read_at : (slots : List (Option SlotView)) (i : ℕ) (o : Option SlotView) �
 read_at slots i o read within = sym (get_or_read_under slots i (length slots) o None read within refl)
 
 -- the entry of a node that got a block spells its slot
-pub moved_spells : (e e' : Entry) (a : ℕ) (bytes : List ℕ) (n : ℕ) (slot slot' : SlotView) (at : ℕ) (content : List ℕ) → e' ≡ moved_to a bytes e → e ≡ entry_of n slot
+pub moved_spells : (e e' : TakenNumber) (a : ℕ) (bytes : List ℕ) (n : ℕ) (slot slot' : SlotView) (at : ℕ) (content : List ℕ) → e' ≡ moved_to a bytes e → e ≡ entry_of n slot
     → slot' ≡ record { inode = slot.inode; address = at; bytes = content } → at ≡ e'.address → content ≡ e'.bytes → e' ≡ entry_of n slot'
 moved_spells e e' a bytes n slot slot' at content moved spells is same_address same_content =
     λ i. record {

@@ -9,7 +9,7 @@ use native.Mathlib.Decide.{ℕ_discrete}
 use Rattle.atomic_table.specs.Seated.{TableId}
 use Rattle.geometry.specs.Weights.{weigh, SameItems}
 use Rattle.geometry.proofs.Weighing.{weigh-append}
-use Rattle.rights_books.specs.declared.claim.Entry.{Entry}
+use Rattle.rights_books.specs.declared.claim.TakenNumber.{TakenNumber}
 use Rattle.rights_books.specs.Lists.{times, without}
 use Rattle.rights_books.specs.Sameness.{same_entry}
 use Rattle.rights_books.proofs.Steps.{without_entry}
@@ -23,7 +23,7 @@ some_is : {A : Type 0} (x y : A) → Some x ≡ Some y → x ≡ y
 some_is x y e = cc
 
 -- what all shards have taken, once one has changed
-all-set : (h : Entry → ℕ) (ss : List ShardNodes) (k : ℕ) (s s' : ShardNodes) → slice_get ss k ≡ Some s
+all-set : (h : TakenNumber → ℕ) (ss : List ShardNodes) (k : ℕ) (s s' : ShardNodes) → slice_get ss k ≡ Some s
     → weigh h (all_taken (set ss k s')) + weigh h s.taken ≡ weigh h (all_taken ss) + weigh h s'.taken
 all-set h [] k s s' at = absurd (let no = at in cc)
 all-set h (t ∷ ss) zero s s' at =
@@ -36,7 +36,7 @@ all-set h (t ∷ ss) (suc k) s s' at =
     let c = all-set h ss k s s' at in omega arith
 
 -- one shard's entries weigh no more than all
-part_weighs : (h : Entry → ℕ) (ss : List ShardNodes) (k : ℕ) (s : ShardNodes) → slice_get ss k ≡ Some s → weigh h s.taken ≤ weigh h (all_taken ss)
+part_weighs : (h : TakenNumber → ℕ) (ss : List ShardNodes) (k : ℕ) (s : ShardNodes) → slice_get ss k ≡ Some s → weigh h s.taken ≤ weigh h (all_taken ss)
 part_weighs h [] k s at = absurd (let no = at in cc)
 part_weighs h (t ∷ ss) zero s at =
     let b = weigh-append h t.taken (all_taken ss) in
@@ -131,14 +131,14 @@ module _ (book : TableId) (files nodes : ℕ) (ss : List ShardNodes) (law : IsTa
     count = sym (ap (λ x. entries_of n x.taken) is) ∙ one_has n ss (n % 16) s at (away n)
 
     -- the shard tells whether a number is taken, and where its node is
-    pub before_is : (o : Option Entry) → MatchOption o (IsTaken n s.taken) (λ _. IsFree n s.taken) → MatchOption o (IsTaken n v.taken) (λ _. IsFree n v.taken)
+    pub before_is : (o : Option TakenNumber) → MatchOption o (IsTaken n s.taken) (λ _. IsFree n s.taken) → MatchOption o (IsTaken n v.taken) (λ _. IsFree n v.taken)
     before_is None taken = count ∙ taken
     before_is (Some t) free = count ∙ free
 
     pub located_is : (o : Option (ℕ × ℕ)) → IsLocated n s.taken o → IsLocated n v.taken o
     located_is None free = count ∙ free
     located_is (Some place) found =
-        let h : Entry → ℕ = λ y. if same_entry (record { number = n; inode = place.0; address = place.1; bytes = found.1 }) y then 1 else 0 in
+        let h : TakenNumber → ℕ = λ y. if same_entry (record { number = n; inode = place.0; address = place.1; bytes = found.1 }) y then 1 else 0 in
         let w = part_weighs h ss (n % 16) s at in
         let e = ap (λ x. weigh h x.taken) is in
         let f = found.2 in (count ∙ found.0, found.1, omega arith)
@@ -157,29 +157,29 @@ module _ (book : TableId) (files nodes : ℕ) (ss : List ShardNodes) (law : IsTa
             (λ apart. law.each k t (sym (get_set_other ss (n % 16) k s' apart) ∙ there));
       }
 
-      all_change : (h : Entry → ℕ) → weigh h (all_taken (set ss (n % 16) s')) + weigh h s.taken ≡ weigh h v.taken + weigh h s'.taken
+      all_change : (h : TakenNumber → ℕ) → weigh h (all_taken (set ss (n % 16) s')) + weigh h s.taken ≡ weigh h v.taken + weigh h s'.taken
       all_change h = let a = all-set h ss (n % 16) s s' at in let e = ap (λ x. weigh h x.taken) is in omega arith
 
       same_shards : s' ≡ s → set ss (n % 16) s' ≡ ss
       same_shards still = ap (λ x. set ss (n % 16) x) (still ∙ read) ∙ set-get_or ss (n % 16) s
 
-      pub took : (o : Option Entry) → MatchOption o (s' ≡ s) (λ t. s' ≡ record s { taken = t ∷ s.taken })
+      pub took : (o : Option TakenNumber) → MatchOption o (s' ≡ s) (λ t. s' ≡ record s { taken = t ∷ s.taken })
           → MatchOption o (◌≡◌ {A = TableNodes} (record { book = book; files = files; nodes = nodes; taken = all_taken (set ss (n % 16) s') }) v) (λ t. SameItems (t ∷ v.taken) (all_taken (set ss (n % 16) s')))
       took None still = ap (λ (xs : List ShardNodes). (let t : TableNodes = record { book = book; files = files; nodes = nodes; taken = all_taken xs } in t)) (same_shards still) ∙ is
       took (Some t) change = λ h. let a = all_change h in let b = ap (λ x. weigh h x.taken) change in omega arith
 
-      pub gave : (e : Entry) → 0 < times same_entry e s.taken → s' ≡ record s { taken = without same_entry e s.taken } → SameItems (e ∷ all_taken (set ss (n % 16) s')) v.taken
+      pub gave : (e : TakenNumber) → 0 < times same_entry e s.taken → s' ≡ record s { taken = without same_entry e s.taken } → SameItems (e ∷ all_taken (set ss (n % 16) s')) v.taken
       gave e some change h = let a = all_change h in let b = ap (λ x. weigh h x.taken) change in let w = without_entry h e s.taken some in omega arith
 
-      pub swapped : (e e' : Entry) → 0 < times same_entry e s.taken → s' ≡ record s { taken = e' ∷ without same_entry e s.taken } → SameItems (e' ∷ v.taken) (e ∷ all_taken (set ss (n % 16) s'))
+      pub swapped : (e e' : TakenNumber) → 0 < times same_entry e s.taken → s' ≡ record s { taken = e' ∷ without same_entry e s.taken } → SameItems (e' ∷ v.taken) (e ∷ all_taken (set ss (n % 16) s'))
       swapped e e' some change h = let a = all_change h in let b = ap (λ x. weigh h x.taken) change in let w = without_entry h e s.taken some in omega arith
 
 -- a shard of which an entry was taken, or none
-pub still_of : (s s' : ShardNodes) (o : Option Entry) → MatchOption o (s' ≡ s) (λ t. s' ≡ record s { taken = t ∷ s.taken }) → (s'.book ≡ s.book) × (s'.shard ≡ s.shard) × (s'.nodes ≡ s.nodes)
+pub still_of : (s s' : ShardNodes) (o : Option TakenNumber) → MatchOption o (s' ≡ s) (λ t. s' ≡ record s { taken = t ∷ s.taken }) → (s'.book ≡ s.book) × (s'.shard ≡ s.shard) × (s'.nodes ≡ s.nodes)
 still_of s s' None is = (ap (λ x. x.book) is, ap (λ x. x.shard) is, ap (λ x. x.nodes) is)
 still_of s s' (Some t) is = (ap (λ x. x.book) is, ap (λ x. x.shard) is, ap (λ x. x.nodes) is)
 
-pub still : (s s' : ShardNodes) (taken : List Entry) → s' ≡ record s { taken = taken } → (s'.book ≡ s.book) × (s'.shard ≡ s.shard) × (s'.nodes ≡ s.nodes)
+pub still : (s s' : ShardNodes) (taken : List TakenNumber) → s' ≡ record s { taken = taken } → (s'.book ≡ s.book) × (s'.shard ≡ s.shard) × (s'.nodes ≡ s.nodes)
 still s s' taken is = (ap (λ x. x.book) is, ap (λ x. x.shard) is, ap (λ x. x.nodes) is)
 
 abbrev fresh : TableId → ℕ → ℕ → ShardNodes
@@ -229,7 +229,7 @@ fresh_table book files nodes number ss inodes all are = record {
 
 none_taken : (ss : List ShardNodes) → ((k : ℕ) (s : ShardNodes) → slice_get ss k ≡ Some s → s.taken ≡ []) → all_taken ss ≡ []
 none_taken [] none = refl
-none_taken (s ∷ ss) none = ap (λ (es : List Entry). es ++ all_taken ss) (none 0 s refl) ∙ none_taken ss (λ k t at. none (suc k) t at)
+none_taken (s ∷ ss) none = ap (λ (es : List TakenNumber). es ++ all_taken ss) (none 0 s refl) ∙ none_taken ss (λ k t at. none (suc k) t at)
 
 pub fresh_none : (book : TableId) (nodes number : ℕ) (ss : List ShardNodes) → AreFresh book nodes number ss → all_taken ss ≡ []
 fresh_none book nodes number ss are = none_taken ss (λ k s at. ap (λ x. x.taken) (are.each k s at).0)

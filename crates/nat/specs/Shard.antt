@@ -2,7 +2,7 @@
 use Rattle.std.specs.Prelude.{◌≡◌, ℕ, ◌<◌, ◌≤◌, ◌+◌, ◌*◌, ◌%◌, List, length, Option, None, slice_index_or}
 use Rattle.atomic_table.specs.Seated.{TableId}
 use Rattle.geometry.specs.Weights.{SameItems}
-use Rattle.rights_books.specs.declared.claim.Entry.{Entry}
+use Rattle.rights_books.specs.declared.claim.TakenNumber.{TakenNumber}
 use Rattle.rights_books.specs.Accounts.{ShardView}
 use Rattle.rights_books.specs.PartRow.{PartName}
 use Rattle.nat.specs.Taken.{AreNodes, entries_of}
@@ -13,7 +13,7 @@ pub record ShardNodes : Type 0 where
   pub book : TableId
   pub shard : ℕ
   pub nodes : ℕ
-  pub taken : List Entry
+  pub taken : List TakenNumber
   pub part : Option PartName
 
 -- The law of a shard: its account has taken what its slots hold, and there is a slot for each of its numbers up to `nodes`.

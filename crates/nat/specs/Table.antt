@@ -1,7 +1,7 @@
 -- The node address table of a volume: its 16 shards (Linux filesystems/f2fs, node address table).
 use Rattle.std.specs.Prelude.{◌≡◌, ℕ, ◌≤◌, List, [], ◌∷◌, ◌++◌, length, slice_get, Some}
 use Rattle.atomic_table.specs.Seated.{TableId}
-use Rattle.rights_books.specs.declared.claim.Entry.{Entry}
+use Rattle.rights_books.specs.declared.claim.TakenNumber.{TakenNumber}
 use Rattle.nat.specs.Shard.{ShardNodes, HasOwnNodes}
 
 -- a table: the books that it is of, how many files there may be, the largest node number, and the entries of the taken numbers
@@ -9,10 +9,10 @@ pub record TableNodes : Type 0 where
   pub book : TableId
   pub files : ℕ
   pub nodes : ℕ
-  pub taken : List Entry
+  pub taken : List TakenNumber
 
 -- what the shards have taken, one after another
-abbrev pub all_taken : List ShardNodes → List Entry
+abbrev pub all_taken : List ShardNodes → List TakenNumber
 all_taken [] = []
 all_taken (s ∷ shards) = s.taken ++ all_taken shards
 

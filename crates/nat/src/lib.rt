@@ -8,5 +8,5 @@ mod shard;
 mod slot;
 mod table;
 
-pub use shard::Shard;
+pub use shard::{SHARDS, Shard};
 pub use table::NodeTable;

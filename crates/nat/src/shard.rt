@@ -15,13 +15,13 @@ ghost use Rattle.nat.specs.Shard.{HasOwnNodes};
 use crate::slot::Slot;
 use device::{Block, DeviceError};
 use geometry::Error;
-use rights_books::{Audit, Books, PartRow, Permit, ShardAccount};
+use rights_books::{Audit, Books, CallAccount, PartRow, ShardAccount};
 use std::alloc::Global;
 use std::marker::Model;
 use tickets::{NidToken, Ticket, give_block};
 
 /// How many shards there are. A number is of the shard that it leaves by this.
-pub(crate) const SHARDS: u32 = 16;
+pub const SHARDS: u32 = 16;
 
 /// One of the 16 shards: a slot for each of its node numbers, and its account in the books, `{ book; shard; nodes; taken }`
 /// to contracts, and the `part` that its row is of. What the account has taken is what the slots hold, each number once. The
@@ -81,17 +81,17 @@ impl<B: Block + Drop> Shard<B> {
     pub fn take(
         &mut self,
         books: &Books,
-        permit: &mut Permit,
+        hand: &mut CallAccount,
         number: u32,
         inode: u32,
     ) -> Option<NidToken>
-        requires books { (self.old.book ≡ books.now.book) × (permit.old.book ≡ books.now.book) }
+        requires books { (self.old.book ≡ books.now.book) × (hand.old.book ≡ books.now.book) }
         requires home { number % 16 ≡ self.old.shard }
         requires range { (1 ≤ number) × (number ≤ self.old.nodes) }
         ensures token { MatchOption result (Unit {0}) (λ token. token ≡ bare_entry number inode) }
         ensures before { MatchOption result (IsTaken number self.old.taken) (λ _. IsFree number self.old.taken) }
         ensures shard { MatchOption result (self.new ≡ self.old) (λ token. self.new ≡ record self.old { taken = token ∷ self.old.taken }) }
-        ensures hand { MatchOption result (permit.new ≡ permit.old) (λ token. permit.new ≡ record permit.old { tokens = token ∷ permit.old.tokens }) }
+        ensures hand { MatchOption result (hand.new ≡ hand.old) (λ token. hand.new ≡ record hand.old { tokens = token ∷ hand.old.tokens }) }
         ensures own { HasOwnNodes self.new }
     {
         let slot = &mut self.slots[(number / SHARDS) as usize];
@@ -99,7 +99,7 @@ impl<B: Block + Drop> Shard<B> {
             return None;
         }
         self.row.change();
-        let token = books.take(&mut self.account, permit, number, inode);
+        let token = books.take(&mut self.account, hand, number, inode);
         *slot = Some(Slot::new(inode));
         Some(token)
     }
@@ -125,28 +125,28 @@ impl<B: Block + Drop> Shard<B> {
     pub fn swap(
         &mut self,
         books: &Books,
-        permit: &mut Permit,
+        hand: &mut CallAccount,
         token: &mut NidToken,
         ticket: Ticket<B>,
     ) -> Option<Ticket<B>>
-        requires books { (self.old.book ≡ books.now.book) × (permit.old.book ≡ books.now.book) }
+        requires books { (self.old.book ≡ books.now.book) × (hand.old.book ≡ books.now.book) }
         requires home { token.old.number % 16 ≡ self.old.shard }
-        requires token { 0 < times same_entry token.old permit.old.tokens }
-        requires ticket { 0 < times same_mark ticket.mark permit.old.tickets }
+        requires token { 0 < times same_entry token.old hand.old.tokens }
+        requires ticket { 0 < times same_mark ticket.mark hand.old.tickets }
         requires owner { ticket.mark.owner ≡ owner.Node token.old.number }
         ensures taken { 0 < times same_entry token.old self.old.taken }
         ensures token { token.new ≡ moved_to ticket.mark.address ticket.content token.old }
         ensures before { result ≡ placed_of token.old }
         ensures shard { self.new ≡ record self.old { taken = token.new ∷ without same_entry token.old self.old.taken } }
-        ensures hand { permit.new ≡ record permit.old {
-          tickets = with_lodged token.old (without same_mark ticket.mark permit.old.tickets);
-          tokens = token.new ∷ without same_entry token.old permit.old.tokens;
+        ensures hand { hand.new ≡ record hand.old {
+          tickets = with_lodged token.old (without same_mark ticket.mark hand.old.tickets);
+          tokens = token.new ∷ without same_entry token.old hand.old.tokens;
         } }
         ensures own { HasOwnNodes self.new }
     {
         let place = (token.number() / SHARDS) as usize;
         self.row.change();
-        let (block, before) = give_block(books, &mut self.account, permit, token, ticket);
+        let (block, before) = give_block(books, &mut self.account, hand, token, ticket);
         match &mut self.slots[place] {
             Some(slot) => slot.swap(block, before),
             None => unreachable!(),
@@ -158,21 +158,21 @@ impl<B: Block + Drop> Shard<B> {
     pub fn read(
         &mut self,
         books: &Books,
-        permit: &mut Permit,
+        hand: &mut CallAccount,
         token: &NidToken,
         out: &mut [u8],
     ) -> Result<(), DeviceError>
-        requires books { (self.old.book ≡ books.now.book) × (permit.old.book ≡ books.now.book) }
+        requires books { (self.old.book ≡ books.now.book) × (hand.old.book ≡ books.now.book) }
         requires home { token.now.number % 16 ≡ self.old.shard }
-        requires held { 0 < times same_entry token.now permit.old.tokens }
+        requires held { 0 < times same_entry token.now hand.old.tokens }
         requires out { length out.old ≡ length token.now.bytes }
         ensures shard { self.new ≡ self.old }
-        ensures hand { permit.new ≡ permit.old }
+        ensures hand { hand.new ≡ hand.old }
         ensures bytes { OnOk result (out.new ≡ token.now.bytes) }
         ensures own { HasOwnNodes self.new }
     {
         let place = (token.number() / SHARDS) as usize;
-        books.find(&mut self.account, permit, token);
+        books.find(&mut self.account, hand, token);
         match &mut self.slots[place] {
             Some(slot) => slot.read(out),
             None => unreachable!(),
@@ -181,22 +181,27 @@ impl<B: Block + Drop> Shard<B> {
 
     /// Spends a token that is in hand: its number is free again. The node's block, where it had one, comes out with its
     /// ticket.
-    pub fn give(&mut self, books: &Books, permit: &mut Permit, token: NidToken) -> Option<Ticket<B>>
-        requires books { (self.old.book ≡ books.now.book) × (permit.old.book ≡ books.now.book) }
+    pub fn give(
+        &mut self,
+        books: &Books,
+        hand: &mut CallAccount,
+        token: NidToken,
+    ) -> Option<Ticket<B>>
+        requires books { (self.old.book ≡ books.now.book) × (hand.old.book ≡ books.now.book) }
         requires home { token.number % 16 ≡ self.old.shard }
-        requires held { 0 < times same_entry token permit.old.tokens }
+        requires held { 0 < times same_entry token hand.old.tokens }
         ensures taken { 0 < times same_entry token self.old.taken }
         ensures ticket { result ≡ placed_of token }
         ensures shard { self.new ≡ record self.old { taken = without same_entry token self.old.taken } }
-        ensures hand { permit.new ≡ record permit.old {
-          tickets = with_lodged token permit.old.tickets;
-          tokens = without same_entry token permit.old.tokens;
+        ensures hand { hand.new ≡ record hand.old {
+          tickets = with_lodged token hand.old.tickets;
+          tokens = without same_entry token hand.old.tokens;
         } }
         ensures own { HasOwnNodes self.new }
     {
         let place = (token.number() / SHARDS) as usize;
         self.row.change();
-        let claimed = books.give(&mut self.account, permit, token);
+        let claimed = books.give(&mut self.account, hand, token);
         match self.slots[place].take() {
             Some(slot) => slot.into_ticket(claimed),
             None => unreachable!(),

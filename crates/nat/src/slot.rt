@@ -3,7 +3,7 @@ ghost use Rattle.std.specs.Prelude.{◌≡◌, ◌<◌, [], length, MatchOption,
 ghost use Rattle.nat.specs.Slots.{address_in, bytes_in, placed_in};
 
 use device::{Block, DeviceError};
-use rights_books::Ticket as Claimed;
+use rights_books::MarkClaim as Claimed;
 use std::marker::Model;
 use tickets::Ticket;
 

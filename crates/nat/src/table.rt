@@ -13,7 +13,7 @@ ghost use Rattle.nat.specs.Taken.{AreNodes, IsFree, IsTaken, AllTaken, IsLowestF
 use crate::shard::{SHARDS, Shard};
 use device::Block;
 use geometry::Error;
-use rights_books::{Books, Permit, ShardAccount};
+use rights_books::{Books, CallAccount, ShardAccount};
 use std::alloc::Global;
 use std::marker::Model;
 use std::snapshot::Snapshot;
@@ -82,37 +82,37 @@ impl<B: Block + Drop> NodeTable<B> {
     pub fn take(
         &mut self,
         books: &Books,
-        permit: &mut Permit,
+        hand: &mut CallAccount,
         number: u32,
         inode: u32,
     ) -> Option<NidToken>
-        requires books { (self.old.book ≡ books.now.book) × (permit.old.book ≡ books.now.book) }
+        requires books { (self.old.book ≡ books.now.book) × (hand.old.book ≡ books.now.book) }
         requires range { (1 ≤ number) × (number ≤ self.old.nodes) }
         ensures token { MatchOption result (Unit {0}) (λ token. token ≡ bare_entry number inode) }
         ensures before { MatchOption result (IsTaken number self.old.taken) (λ _. IsFree number self.old.taken) }
         ensures table { MatchOption result (self.new ≡ self.old) (λ token. SameItems (token ∷ self.old.taken) self.new.taken) }
-        ensures hand { MatchOption result (permit.new ≡ permit.old) (λ token. permit.new ≡ record permit.old { tokens = token ∷ permit.old.tokens }) }
+        ensures hand { MatchOption result (hand.new ≡ hand.old) (λ token. hand.new ≡ record hand.old { tokens = token ∷ hand.old.tokens }) }
         ensures kept { (self.new.book ≡ self.old.book) × (self.new.files ≡ self.old.files) × (self.new.nodes ≡ self.old.nodes) }
     {
-        self.shards[(number % SHARDS) as usize].take(books, permit, number, inode)
+        self.shards[(number % SHARDS) as usize].take(books, hand, number, inode)
     }
 
     /// Takes the lowest free number of an inode, for itself, and gives its token into the hand.
     ///
     /// The only error is NoFile, exactly where each number from 1 to `files` is taken; then nothing changes.
-    pub fn new_inode(&mut self, books: &Books, permit: &mut Permit) -> Result<NidToken, Error>
-        requires books { (self.old.book ≡ books.now.book) × (permit.old.book ≡ books.now.book) }
+    pub fn new_inode(&mut self, books: &Books, hand: &mut CallAccount) -> Result<NidToken, Error>
+        requires books { (self.old.book ≡ books.now.book) × (hand.old.book ≡ books.now.book) }
         ensures token { IfOk result (λ token. token ≡ bare_entry token.number token.number) }
         ensures lowest { IfOk result (λ token. IsLowestFree 0 self.old.files self.old.taken token.number) }
         ensures table { IfOk result (λ token. SameItems (token ∷ self.old.taken) self.new.taken) }
-        ensures hand { IfOk result (λ token. permit.new ≡ record permit.old { tokens = token ∷ permit.old.tokens }) }
+        ensures hand { IfOk result (λ token. hand.new ≡ record hand.old { tokens = token ∷ hand.old.tokens }) }
         ensures kept { (self.new.book ≡ self.old.book) × (self.new.files ≡ self.old.files) × (self.new.nodes ≡ self.old.nodes) }
         ensures error { IfErr result (λ error. error ≡ NoFile) }
         ensures err_taken { OnErr result (AllTaken 0 self.old.files self.old.taken) }
-        ensures err { OnErr result ((self.new ≡ self.old) × (permit.new ≡ permit.old)) }
+        ensures err { OnErr result ((self.new ≡ self.old) × (hand.new ≡ hand.old)) }
     {
         match self.lowest_free(0, self.files) {
-            Some(number) => match self.take(books, permit, number, number) {
+            Some(number) => match self.take(books, hand, number, number) {
                 Some(token) => Ok(token),
                 None => unreachable!(),
             },
@@ -127,21 +127,21 @@ impl<B: Block + Drop> NodeTable<B> {
     pub fn new_nid(
         &mut self,
         books: &Books,
-        permit: &mut Permit,
+        hand: &mut CallAccount,
         inode: u32,
     ) -> Result<NidToken, Error>
-        requires books { (self.old.book ≡ books.now.book) × (permit.old.book ≡ books.now.book) }
+        requires books { (self.old.book ≡ books.now.book) × (hand.old.book ≡ books.now.book) }
         ensures token { IfOk result (λ token. token ≡ bare_entry token.number inode) }
         ensures lowest { IfOk result (λ token. IsLowestFree self.old.files self.old.nodes self.old.taken token.number) }
         ensures table { IfOk result (λ token. SameItems (token ∷ self.old.taken) self.new.taken) }
-        ensures hand { IfOk result (λ token. permit.new ≡ record permit.old { tokens = token ∷ permit.old.tokens }) }
+        ensures hand { IfOk result (λ token. hand.new ≡ record hand.old { tokens = token ∷ hand.old.tokens }) }
         ensures kept { (self.new.book ≡ self.old.book) × (self.new.files ≡ self.old.files) × (self.new.nodes ≡ self.old.nodes) }
         ensures error { IfErr result (λ error. error ≡ NoNode) }
         ensures err_taken { OnErr result (AllTaken self.old.files self.old.nodes self.old.taken) }
-        ensures err { OnErr result ((self.new ≡ self.old) × (permit.new ≡ permit.old)) }
+        ensures err { OnErr result ((self.new ≡ self.old) × (hand.new ≡ hand.old)) }
     {
         match self.lowest_free(self.files, self.nodes) {
-            Some(number) => match self.take(books, permit, number, inode) {
+            Some(number) => match self.take(books, hand, number, inode) {
                 Some(token) => Ok(token),
                 None => unreachable!(),
             },
@@ -175,39 +175,44 @@ impl<B: Block + Drop> NodeTable<B> {
     pub fn swap_ticket(
         &mut self,
         books: &Books,
-        permit: &mut Permit,
+        hand: &mut CallAccount,
         token: &mut NidToken,
         ticket: Ticket<B>,
     ) -> Option<Ticket<B>>
-        requires books { (self.old.book ≡ books.now.book) × (permit.old.book ≡ books.now.book) }
-        requires token { 0 < times same_entry token.old permit.old.tokens }
-        requires ticket { 0 < times same_mark ticket.mark permit.old.tickets }
+        requires books { (self.old.book ≡ books.now.book) × (hand.old.book ≡ books.now.book) }
+        requires token { 0 < times same_entry token.old hand.old.tokens }
+        requires ticket { 0 < times same_mark ticket.mark hand.old.tickets }
         requires owner { ticket.mark.owner ≡ owner.Node token.old.number }
         ensures token { token.new ≡ moved_to ticket.mark.address ticket.content token.old }
         ensures before { result ≡ placed_of token.old }
         ensures table { SameItems (token.new ∷ self.old.taken) (token.old ∷ self.new.taken) }
-        ensures hand { permit.new ≡ record permit.old {
-          tickets = with_lodged token.old (without same_mark ticket.mark permit.old.tickets);
-          tokens = token.new ∷ without same_entry token.old permit.old.tokens;
+        ensures hand { hand.new ≡ record hand.old {
+          tickets = with_lodged token.old (without same_mark ticket.mark hand.old.tickets);
+          tokens = token.new ∷ without same_entry token.old hand.old.tokens;
         } }
         ensures kept { (self.new.book ≡ self.old.book) × (self.new.files ≡ self.old.files) × (self.new.nodes ≡ self.old.nodes) }
     {
-        self.shards[(token.number() % SHARDS) as usize].swap(books, permit, token, ticket)
+        self.shards[(token.number() % SHARDS) as usize].swap(books, hand, token, ticket)
     }
 
     /// Spends a token that is in hand: its number is free again. The node's block, where it had one, comes out with its
     /// ticket.
-    pub fn give(&mut self, books: &Books, permit: &mut Permit, token: NidToken) -> Option<Ticket<B>>
-        requires books { (self.old.book ≡ books.now.book) × (permit.old.book ≡ books.now.book) }
-        requires held { 0 < times same_entry token permit.old.tokens }
+    pub fn give(
+        &mut self,
+        books: &Books,
+        hand: &mut CallAccount,
+        token: NidToken,
+    ) -> Option<Ticket<B>>
+        requires books { (self.old.book ≡ books.now.book) × (hand.old.book ≡ books.now.book) }
+        requires held { 0 < times same_entry token hand.old.tokens }
         ensures ticket { result ≡ placed_of token }
         ensures table { SameItems (token ∷ self.new.taken) self.old.taken }
-        ensures hand { permit.new ≡ record permit.old {
-          tickets = with_lodged token permit.old.tickets;
-          tokens = without same_entry token permit.old.tokens;
+        ensures hand { hand.new ≡ record hand.old {
+          tickets = with_lodged token hand.old.tickets;
+          tokens = without same_entry token hand.old.tokens;
         } }
         ensures kept { (self.new.book ≡ self.old.book) × (self.new.files ≡ self.old.files) × (self.new.nodes ≡ self.old.nodes) }
     {
-        self.shards[(token.number() % SHARDS) as usize].give(books, permit, token)
+        self.shards[(token.number() % SHARDS) as usize].give(books, hand, token)
     }
 }

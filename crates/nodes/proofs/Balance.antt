@@ -1,6 +1,6 @@
 -- A node that stays has its token still: so a call's change balances the tickets and the tokens, each for themselves.
 use Rattle.std.proofs.Common.{◌≡◌, ℕ, ◌+◌, Bool, true, false, Some, None, refl, sym, ap, arith}
-use Rattle.rights_books.specs.declared.claim.Entry.{Entry}
+use Rattle.rights_books.specs.declared.claim.TakenNumber.{TakenNumber}
 use Rattle.nodes.specs.declared.spare.Spare.{Spare}
 use Rattle.nodes.specs.declared.spare.Spare.TheVariants.{Ticket, Token}
 use Rattle.nodes.specs.Change.{TreeNode, Weighing, Touched, MarksOne, gone, come, Trades, WeighsAs, nothing, each_one, of_tickets, of_tokens}
@@ -20,7 +20,7 @@ module _ {L : Type 0} (own : Bool) (old new out into : Weighing L → ℕ) (trad
       let same = even {L = L} (of_tickets {L = L} h) (λ a b e. refl) own trades.0 trades.1 in
       omega arith
 
-  pub balanced_tokens : (h : Entry → ℕ) → new (of_tokens h) + out (of_tokens h) ≡ old (of_tokens h) + into (of_tokens h)
+  pub balanced_tokens : (h : TakenNumber → ℕ) → new (of_tokens h) + out (of_tokens h) ≡ old (of_tokens h) + into (of_tokens h)
   balanced_tokens h =
       let all = trades.2 (of_tokens h) in
       let same = even {L = L} (of_tokens {L = L} h) (λ a b e. ap h e) own trades.0 trades.1 in

@@ -7,7 +7,7 @@ use Rattle.std.proofs.lemmas.List.{get_or_default, get_or-set_same}
 use Rattle.geometry.specs.Weights.{weigh}
 use Rattle.geometry.proofs.Weighing.{weigh-set}
 use Rattle.nodes.specs.Tree.{entry_at, AreNone, EmptyFrom}
-use Rattle.rights_books.specs.declared.claim.Entry.{Entry}
+use Rattle.rights_books.specs.declared.claim.TakenNumber.{TakenNumber}
 use Rattle.nodes.specs.Change.{tree_node, TreeNode, Weighing, Touched, gone, come, MarksOne, Trades, ChangesSlot, ChangesEntries}
 
 -- what the entries weigh, where one is set
@@ -91,7 +91,7 @@ node_trades before after old new out into false (Some t) m f kept token marked =
     (Some t, m, λ w. (let h = f w in let e = ap w.node (kept refl) in omega arith))
 
 -- of a node other than an inode
-pub branch_trades : {L C : Type 0} (leaf : Bool) (number : Option C → ℕ) (weight : Weighing L → Option C → ℕ) (token : Entry) (xs ys : List (Option C)) (was_dirty is_dirty : Bool)
+pub branch_trades : {L C : Type 0} (leaf : Bool) (number : Option C → ℕ) (weight : Weighing L → Option C → ℕ) (token : TakenNumber) (xs ys : List (Option C)) (was_dirty is_dirty : Bool)
     (out into : Weighing L → ℕ) → ChangesEntries number weight xs ys was_dirty is_dirty out into
     → Trades false (λ w. w.node (tree_node leaf token (map number xs) was_dirty) + weigh (weight w) xs) (λ w. w.node (tree_node leaf token (map number ys) is_dirty) + weigh (weight w) ys) out into
 branch_trades leaf number weight token xs ys was_dirty is_dirty out into change =

@@ -5,7 +5,7 @@ use Rattle.geometry.specs.Weights.{weigh}
 use Rattle.geometry.specs.declared.owner.Mark.{Mark}
 use Rattle.geometry.specs.Mark.{same_mark}
 use Rattle.geometry.proofs.MarkTests.{mark_self}
-use Rattle.rights_books.specs.declared.claim.Entry.{Entry}
+use Rattle.rights_books.specs.declared.claim.TakenNumber.{TakenNumber}
 use Rattle.rights_books.specs.Lists.{times, without}
 use Rattle.rights_books.specs.Sameness.{same_entry}
 use Rattle.rights_books.proofs.Sameness.{entry_self}
@@ -27,23 +27,23 @@ module _ {B L : Type 0} (resized : TreeNode → TreeNode) (old new : FileState B
       let all = balanced_tickets change.own (below_weight old) (below_weight new) out into change.trades (λ (t : Placed). h t.mark) in
       omega arith
 
-  pub weigh_tokens : (h : Entry → ℕ) → weight_of new (of_tokens h) + out (of_tokens h) ≡ weight_of old (of_tokens h) + into (of_tokens h)
+  pub weigh_tokens : (h : TakenNumber → ℕ) → weight_of new (of_tokens h) + out (of_tokens h) ≡ weight_of old (of_tokens h) + into (of_tokens h)
   weigh_tokens h =
       let all = balanced_tokens change.own (below_weight old) (below_weight new) out into change.trades h in
       let same = ap h change.token in
       omega arith
 
 -- a ticket is in hand beside the file's
-pub record HasTicket {B L : Type 0} (others : Others) (f : FileState B L) (m : Mark) (marks : List Mark) (entries : List Entry) : Type 0 where
+pub record HasTicket {B L : Type 0} (others : Others) (f : FileState B L) (m : Mark) (marks : List Mark) (entries : List TakenNumber) : Type 0 where
   pub tickets : (h : Mark → ℕ) → weigh h marks ≡ weight_of f (of_tickets (λ t. h t.mark)) + others.tickets h + h m
-  pub tokens : (h : Entry → ℕ) → weigh h entries ≡ weight_of f (of_tokens h) + others.tokens h
+  pub tokens : (h : TakenNumber → ℕ) → weigh h entries ≡ weight_of f (of_tokens h) + others.tokens h
 
 -- a token is
-pub record HasToken {B L : Type 0} (others : Others) (f : FileState B L) (k : Entry) (marks : List Mark) (entries : List Entry) : Type 0 where
+pub record HasToken {B L : Type 0} (others : Others) (f : FileState B L) (k : TakenNumber) (marks : List Mark) (entries : List TakenNumber) : Type 0 where
   pub tickets : (h : Mark → ℕ) → weigh h marks ≡ weight_of f (of_tickets (λ t. h t.mark)) + others.tickets h
-  pub tokens : (h : Entry → ℕ) → weigh h entries ≡ weight_of f (of_tokens h) + others.tokens h + h k
+  pub tokens : (h : TakenNumber → ℕ) → weigh h entries ≡ weight_of f (of_tokens h) + others.tokens h + h k
 
-module _ {B L : Type 0} {others : Others} (f : FileState B L) (m : Mark) (marks : List Mark) (entries : List Entry) (has : HasTicket others f m marks entries) where
+module _ {B L : Type 0} {others : Others} (f : FileState B L) (m : Mark) (marks : List Mark) (entries : List TakenNumber) (has : HasTicket others f m marks entries) where
   pub ticket_there : 0 < times same_mark m marks
   ticket_there =
       let all = has.tickets (λ y. if same_mark m y then 1 else 0) in
@@ -56,7 +56,7 @@ module _ {B L : Type 0} {others : Others} (f : FileState B L) (m : Mark) (marks 
     tokens = has.tokens;
   }
 
-module _ {B L : Type 0} {others : Others} (f : FileState B L) (k : Entry) (marks : List Mark) (entries : List Entry) (has : HasToken others f k marks entries) where
+module _ {B L : Type 0} {others : Others} (f : FileState B L) (k : TakenNumber) (marks : List Mark) (entries : List TakenNumber) (has : HasToken others f k marks entries) where
   pub token_there : 0 < times same_entry k entries
   token_there =
       let all = has.tokens (λ y. if same_entry k y then 1 else 0) in
@@ -69,7 +69,7 @@ module _ {B L : Type 0} {others : Others} (f : FileState B L) (k : Entry) (marks
     tokens = λ h. (let all = has.tokens h in let less = without_entry h k entries token_there in omega arith);
   }
 
-module _ {B L : Type 0} {others : Others} (old new : FileState B L) (marks : List Mark) (entries : List Entry) (held : AreHeldBeside others old marks entries) where
+module _ {B L : Type 0} {others : Others} (old new : FileState B L) (marks : List Mark) (entries : List TakenNumber) (held : AreHeldBeside others old marks entries) where
   pub held_put : (resized : TreeNode → TreeNode) (t : Placed) → MarksNode resized old new (λ w. ticket_weight w None) (λ w. w.ticket t) → AreHeldBeside others new (t.mark ∷ marks) entries
   held_put resized t change = record {
     tickets = λ h. (let all = weigh_tickets resized old new (λ w. ticket_weight w None) (λ w. w.ticket t) change h in let was = held.tickets h in omega arith);
@@ -88,7 +88,7 @@ module _ {B L : Type 0} {others : Others} (old new : FileState B L) (marks : Lis
     tokens = λ h. (let all = weigh_tokens resized old new out nothing change h in let was = held.tokens h in let one = is (of_tokens h) in omega arith);
   }
 
-  pub held_token : (resized : TreeNode → TreeNode) (k : Entry) (out : Weighing Placed → ℕ) → WeighsAs (Token k) out → MarksNode resized old new out nothing → HasToken others new k marks entries
+  pub held_token : (resized : TreeNode → TreeNode) (k : TakenNumber) (out : Weighing Placed → ℕ) → WeighsAs (Token k) out → MarksNode resized old new out nothing → HasToken others new k marks entries
   held_token resized k out is change = record {
     tickets = λ h. (let all = weigh_tickets resized old new out nothing change h in let was = held.tickets h in let one = is.2 (of_tickets (λ t. h t.mark)) in omega arith);
     tokens = λ h. (let all = weigh_tokens resized old new out nothing change h in let was = held.tokens h in let one = is.2 (of_tokens h) in let same = ap h is.1 in omega arith);
@@ -110,13 +110,13 @@ module _ {B L : Type 0} (f : FileState B L) (bare : IsBare f) where
       let d = weigh_nothing (weight_double w) refl f.double.slots.items bare.double in
       omega arith
 
-  pub held_new : (k : Entry) → f.token ≡ k → AreHeldBeside no_others f [] (k ∷ [])
+  pub held_new : (k : TakenNumber) → f.token ≡ k → AreHeldBeside no_others f [] (k ∷ [])
   held_new k is = record {
     tickets = λ h. (let none = bare_weighs (of_tickets (λ t. h t.mark)) in omega arith);
     tokens = λ h. (let none = bare_weighs (of_tokens h) in let same = ap h is in omega arith);
   }
 
-  pub root_there : {others : Others} (marks : List Mark) (entries : List Entry) → AreHeldBeside others f marks entries → 0 < times same_entry f.token entries
+  pub root_there : {others : Others} (marks : List Mark) (entries : List TakenNumber) → AreHeldBeside others f marks entries → 0 < times same_entry f.token entries
   root_there marks entries held =
       let all = held.tokens (λ y. if same_entry f.token y then 1 else 0) in
       let one : ◌≡◌ {A = ℕ} (if same_entry f.token f.token then 1 else 0) 1 = ap (λ b. if b then 1 else 0) (entry_self f.token) in

@@ -3,7 +3,7 @@
 use Rattle.std.specs.Prelude.{◌≡◌, ℕ, ◌+◌, ◌==◌, ◌&&◌, Bool, true, false, if◌then◌else◌, List, [], map, slice_index_or, Option, Some, None}
 use Rattle.geometry.specs.declared.kind.Kind.{Kind}
 use Rattle.geometry.specs.declared.kind.Kind.TheVariants.{File}
-use Rattle.rights_books.specs.declared.claim.Entry.{Entry}
+use Rattle.rights_books.specs.declared.claim.TakenNumber.{TakenNumber}
 use Rattle.geometry.specs.Weights.{weigh}
 use Rattle.nodes.specs.declared.spare.Spare.{Spare}
 use Rattle.nodes.specs.declared.spare.Spare.TheVariants.{Ticket, Token}
@@ -11,7 +11,7 @@ use Rattle.nodes.specs.declared.spare.Spare.TheVariants.{Ticket, Token}
 -- A node: its token, its class (0 an inode, 1 a direct node, 2 an indirect one), what its block spells, and whether it is
 -- marked, as changed since its block was written. Kind and length stand in an inode alone.
 pub record TreeNode : Type 0 where
-  pub token : Entry
+  pub token : TakenNumber
   pub class : ℕ
   pub kind : Kind
   pub length : ℕ
@@ -25,7 +25,7 @@ pub record Weighing (L : Type 0) : Type 0 where
   pub node : TreeNode → ℕ
 
 -- a node other than an inode, of these entries
-abbrev pub tree_node : Bool → Entry → List ℕ → Bool → TreeNode
+abbrev pub tree_node : Bool → TakenNumber → List ℕ → Bool → TreeNode
 tree_node is_leaf token numbers dirty = record {
   token = token;
   class = (if is_leaf then 1 else 2);
@@ -90,7 +90,7 @@ WeighsAs {L} (Ticket t) out = (w : Weighing L) → out w ≡ w.ticket t
 WeighsAs {L} (Token k) out = (n : TreeNode) × (n.token ≡ k) × ((w : Weighing L) → out w ≡ w.node n)
 
 -- a node of this token, still to be written
-abbrev pub IsNewNode : Entry → TreeNode → Type 0
+abbrev pub IsNewNode : TakenNumber → TreeNode → Type 0
 IsNewNode token n = (n.token ≡ token) × (n.dirty ≡ true)
 
 -- 1 for each ticket and each node
@@ -113,9 +113,9 @@ each_naming number at address = record { ticket = λ t. 0; node = λ n. if names
 abbrev pub of_tickets : {L : Type 0} → (L → ℕ) → Weighing L
 of_tickets h = record { ticket = h; node = λ n. 0 }
 
-abbrev pub of_tokens : {L : Type 0} → (Entry → ℕ) → Weighing L
+abbrev pub of_tokens : {L : Type 0} → (TakenNumber → ℕ) → Weighing L
 of_tokens h = record { ticket = λ t. 0; node = λ n. h n.token }
 
 -- 1 for a token without a number
-abbrev pub unnumbered : Entry → ℕ
+abbrev pub unnumbered : TakenNumber → ℕ
 unnumbered e = if e.number == 0 then 1 else 0

@@ -1,6 +1,6 @@
 -- The nodes that are made beside a file for the way to an index, and what is still to be made.
 use Rattle.std.specs.Prelude.{ℕ, ◌+◌, ◌*◌, Option, Some, None}
-use Rattle.rights_books.specs.declared.claim.Entry.{Entry}
+use Rattle.rights_books.specs.declared.claim.TakenNumber.{TakenNumber}
 use Rattle.geometry.specs.Path.{inode_entries, node_entries}
 use Rattle.geometry.specs.declared.path.Path.{Path}
 use Rattle.geometry.specs.declared.path.Path.TheVariants.{Inode, Direct, Indirect, Double}
@@ -51,7 +51,7 @@ module _ {B L : Type 0} where
       (λ k. lacking_in (lacking_double e) (e * (e * (e * 1))) f.double.slots.items k spares.nodes))) i
 
   -- what the tokens of the spare nodes weigh
-  abbrev pub spare_tokens : (Entry → ℕ) → SparePath B L → ℕ
+  abbrev pub spare_tokens : (TakenNumber → ℕ) → SparePath B L → ℕ
   spare_tokens h spares = token_weight h spares.nodes.node + (token_weight h spares.nodes.below.node + (token_weight h spares.nodes.below.below.node + 0))
 
   -- each of them has so many entries, none of which names anything, and is still to be written

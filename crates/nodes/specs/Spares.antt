@@ -1,6 +1,6 @@
 -- Nodes that are made before they are needed: of each level at most one.
 use Rattle.std.specs.Prelude.{◌≡◌, ℕ, ◌+◌, ◌/◌, ◌%◌, Bool, true, List, length, is_none, if◌then◌else◌, Option, Some, None}
-use Rattle.rights_books.specs.declared.claim.Entry.{Entry}
+use Rattle.rights_books.specs.declared.claim.TakenNumber.{TakenNumber}
 use Rattle.nodes.specs.declared.branch.Branch.{Branch}
 use Rattle.nodes.specs.Tree.{AreNone, entry_at, number_of}
 
@@ -22,7 +22,7 @@ lacking_below lacking span None i spare below = lack spare + lacking None (i % s
 lacking_below lacking span (Some b) i spare below = lacking_in lacking span b.entries.slots.items i below
 
 -- what the token of a node weighs, if there is one
-abbrev pub token_weight : {C : Type 0} → (Entry → ℕ) → Option (Branch C) → ℕ
+abbrev pub token_weight : {C : Type 0} → (TakenNumber → ℕ) → Option (Branch C) → ℕ
 token_weight h None = 0
 token_weight h (Some b) = h b.token
 

@@ -1,7 +1,7 @@
 //! The nodes on the way to an index are made beside the file, and come into it once a write can no longer be refused.
 ghost use Rattle.std.specs.Prelude.{Bool, ◌≡◌, ℕ, ◌+◌, ◌<◌, IsTrue, ◌↔◌, true, false, Some, OnOk, OnErr, IfErr};
 ghost use Rattle.geometry.specs.Path.{node_entries, largest_length};
-ghost use Rattle.rights_books.specs.declared.claim.Entry.{Entry};
+ghost use Rattle.rights_books.specs.declared.claim.TakenNumber.{TakenNumber};
 ghost use Rattle.nodes.specs.Tree.{Same, SparesIndex};
 ghost use Rattle.nodes.specs.Change.{TreeNode, IsNewNode, nothing};
 ghost use Rattle.nodes.specs.Marks.{unchanged};
@@ -59,7 +59,7 @@ impl<B: Block> FileState<B> {
         requires file { IsFile self.now }
         requires empty { AreEmptyNodes (node_entries self.now.shape) spares.old }
         ensures made { OnOk result (lacking_to self.now index spares.new + 1 ≡ lacking_to self.now index spares.old) }
-        ensures tokens { OnOk result ((h : Entry → ℕ) → spare_tokens h spares.new ≡ spare_tokens h spares.old + h token) }
+        ensures tokens { OnOk result ((h : TakenNumber → ℕ) → spare_tokens h spares.new ≡ spare_tokens h spares.old + h token) }
         ensures empty { AreEmptyNodes (node_entries self.now.shape) spares.new }
         ensures refused { OnErr result (spares.new ≡ spares.old) }
         ensures token { IfErr result (λ back. back ≡ token) }
@@ -119,7 +119,7 @@ impl<B: Block> FileState<B> {
         ensures rest { 0 < missing_to self.new index → end_number spares.new ≡ end_number spares.old }
         ensures grown { result ≡ true → missing_to self.new index + 1 ≡ missing_to self.old index }
         ensures change { result ≡ true → (n : TreeNode) × IsNewNode n.token n × MarksNode unchanged self.old self.new nothing (λ w. w.node n)
-            × ((h : Entry → ℕ) → spare_tokens h spares.new + h n.token ≡ spare_tokens h spares.old) }
+            × ((h : TakenNumber → ℕ) → spare_tokens h spares.new + h n.token ≡ spare_tokens h spares.old) }
         ensures none { result ≡ false → (missing_to self.old index ≡ 0) × (self.new ≡ self.old) × (spares.new ≡ spares.old) }
         ensures ready { lacking_to self.new index spares.new ≡ 0 }
         ensures empty { AreEmptyNodes (node_entries self.old.shape) spares.new }

@@ -1,6 +1,6 @@
 //! Spare nodes below one entry.
 ghost use Rattle.std.specs.Prelude.{Bool, ◌≡◌, ℕ, ◌+◌, ◌%◌, ◌^◌, ◌<◌, is_none, OnOk, OnErr, IfErr, MatchOption, IsTrue, ◌↔◌, Option, Some, None, true, false};
-ghost use Rattle.rights_books.specs.declared.claim.Entry.{Entry};
+ghost use Rattle.rights_books.specs.declared.claim.TakenNumber.{TakenNumber};
 ghost use Rattle.nodes.specs.Tree.{Same, SparesIndex};
 ghost use Rattle.nodes.specs.Change.{TreeNode, ChangesSlot, IsNewNode, nothing};
 ghost use Rattle.nodes.specs.Spares.{KeepsNames, lacking_below, token_weight, IsEmptyNode, number_at_end};
@@ -22,7 +22,7 @@ pub trait Planting: Subtree {
 
     ghost lacking: { ℕ → Option Self → ℕ → Self.Spares → ℕ };
 
-    ghost tokens_of: { (Entry → ℕ) → Self.Spares → ℕ };
+    ghost tokens_of: { (TakenNumber → ℕ) → Self.Spares → ℕ };
 
     ghost empty_nodes: { ℕ → Self.Spares → Type 0 };
 
@@ -52,7 +52,7 @@ pub trait Planting: Subtree {
         requires shaped { Self.shaped entries slot.now }
         requires empty { empty_nodes entries spares.old }
         ensures made { OnOk result (lacking entries slot.now index spares.new + 1 ≡ lacking entries slot.now index spares.old) }
-        ensures tokens { OnOk result ((h : Entry → ℕ) → tokens_of h spares.new ≡ tokens_of h spares.old + h token) }
+        ensures tokens { OnOk result ((h : TakenNumber → ℕ) → tokens_of h spares.new ≡ tokens_of h spares.old + h token) }
         ensures empty { empty_nodes entries spares.new }
         ensures refused { OnErr result (spares.new ≡ spares.old) }
         ensures token { IfErr result (λ back. back ≡ token) };
@@ -82,7 +82,7 @@ pub trait Planting: Subtree {
         ensures grown { result ≡ true → Self.missing entries slot.new index + 1 ≡ Self.missing entries slot.old index }
         ensures change { result ≡ true → (n : TreeNode) × IsNewNode n.token n
             × ChangesSlot Self.number Self.weight (is_none slot.old) slot.old slot.new nothing (λ w. w.node n)
-            × ((h : Entry → ℕ) → tokens_of h spares.new + h n.token ≡ tokens_of h spares.old) }
+            × ((h : TakenNumber → ℕ) → tokens_of h spares.new + h n.token ≡ tokens_of h spares.old) }
         ensures none { result ≡ false → (Self.missing entries slot.old index ≡ 0) × (slot.new ≡ slot.old) × (spares.new ≡ spares.old) };
 
     ghost missing_none: { (e i : ℕ) → Self.is_leaf ≡ false → 0 < Self.missing e None i };

@@ -1,6 +1,6 @@
 //! Spare nodes below the entries of a node.
 ghost use Rattle.std.specs.Prelude.{Bool, ◌≡◌, ℕ, ◌+◌, ◌*◌, ◌/◌, ◌%◌, ◌^◌, ◌<◌, length, slice_set, OnOk, OnErr, IfErr, IsTrue, ◌↔◌, true, false, Some};
-ghost use Rattle.rights_books.specs.declared.claim.Entry.{Entry};
+ghost use Rattle.rights_books.specs.declared.claim.TakenNumber.{TakenNumber};
 ghost use Rattle.nodes.specs.Tree.{Same, ShapedIn, UsefulIn, SparesIndex, entry_at, find_in, missing_in};
 ghost use Rattle.nodes.specs.Change.{TreeNode, ChangesEntries, IsNewNode, nothing};
 ghost use Rattle.nodes.specs.TreeMarks.{AreCounted};
@@ -47,7 +47,7 @@ pub fn prepare_in<C: Planting>(
     requires empty { C.empty_nodes entries spares.old }
     ensures made { OnOk result (lacking_in (C.lacking entries) (C.span_of entries) below.now.slots.items index spares.new + 1
         ≡ lacking_in (C.lacking entries) (C.span_of entries) below.now.slots.items index spares.old) }
-    ensures tokens { OnOk result ((h : Entry → ℕ) → C.tokens_of h spares.new ≡ C.tokens_of h spares.old + h token) }
+    ensures tokens { OnOk result ((h : TakenNumber → ℕ) → C.tokens_of h spares.new ≡ C.tokens_of h spares.old + h token) }
     ensures empty { C.empty_nodes entries spares.new }
     ensures refused { OnErr result (spares.new ≡ spares.old) }
     ensures token { IfErr result (λ back. back ≡ token) }
@@ -92,7 +92,7 @@ pub fn plant_in<C: Planting>(
     ensures empty { C.empty_nodes entries spares.new }
     ensures change { result ≡ true → (n : TreeNode) × IsNewNode n.token n
         × ChangesEntries C.number C.weight below.old.slots.items below.new.slots.items below.old.dirty below.new.dirty nothing (λ w. w.node n)
-        × ((h : Entry → ℕ) → C.tokens_of h spares.new + h n.token ≡ C.tokens_of h spares.old) }
+        × ((h : TakenNumber → ℕ) → C.tokens_of h spares.new + h n.token ≡ C.tokens_of h spares.old) }
 {
     let span = C::span(entries);
     plant_at(below, spares, index / span, entries, index % span)
@@ -127,7 +127,7 @@ fn plant_at<C: Planting>(
     ensures empty { C.empty_nodes entries spares.new }
     ensures change { result ≡ true → (n : TreeNode) × IsNewNode n.token n
         × ChangesEntries C.number C.weight below.old.slots.items below.new.slots.items below.old.dirty below.new.dirty nothing (λ w. w.node n)
-        × ((h : Entry → ℕ) → C.tokens_of h spares.new + h n.token ≡ C.tokens_of h spares.old) }
+        × ((h : TakenNumber → ℕ) → C.tokens_of h spares.new + h n.token ≡ C.tokens_of h spares.old) }
 {
     let slot = &below.slots[at];
     let fresh = slot.is_none();

@@ -1,6 +1,6 @@
 //! The nodes that the way to an index lacks, made beside a file.
 ghost use Rattle.std.specs.Prelude.{◌≡◌, ℕ, ◌+◌, MatchOption, None};
-ghost use Rattle.rights_books.specs.declared.claim.Entry.{Entry};
+ghost use Rattle.rights_books.specs.declared.claim.TakenNumber.{TakenNumber};
 
 use crate::{Branch, SpareNodes};
 use device::Block;
@@ -20,7 +20,7 @@ impl<B: Block> SparePath<B> {
 
     /// No nodes.
     pub fn new() -> SparePath<B>
-        ensures none { (h : Entry → ℕ) → spare_tokens h result ≡ 0 }
+        ensures none { (h : TakenNumber → ℕ) → spare_tokens h result ≡ 0 }
         ensures empty { (e : ℕ) → AreEmptyNodes e result }
     {
         let direct = SpareNodes {
@@ -52,8 +52,8 @@ impl<B: Block> SparePath<B> {
     /// Hands out the token of one of the nodes. None: there is none.
     pub fn give_back(&mut self) -> Option<NidToken>
         requires empty { (e : ℕ) × AreEmptyNodes e self.old }
-        ensures none { MatchOption result ((self.new ≡ self.old) × ((h : Entry → ℕ) → spare_tokens h self.old ≡ 0)) (λ _. Unit {0}) }
-        ensures token { MatchOption result (Unit {0}) (λ token. (h : Entry → ℕ) → spare_tokens h self.new + h token ≡ spare_tokens h self.old) }
+        ensures none { MatchOption result ((self.new ≡ self.old) × ((h : TakenNumber → ℕ) → spare_tokens h self.old ≡ 0)) (λ _. Unit {0}) }
+        ensures token { MatchOption result (Unit {0}) (λ token. (h : TakenNumber → ℕ) → spare_tokens h self.new + h token ≡ spare_tokens h self.old) }
         ensures empty { (e : ℕ) → AreEmptyNodes e self.old → AreEmptyNodes e self.new }
     {
         if let Some(node) = self.nodes.node.take() {
@@ -70,7 +70,7 @@ impl<B: Block> SparePath<B> {
 
     /// Ends a path of which no node is left.
     pub fn end(self)
-        requires { (h : Entry → ℕ) → spare_tokens h self ≡ 0 }
+        requires { (h : TakenNumber → ℕ) → spare_tokens h self ≡ 0 }
     {
         let SparePath { nodes } = self;
         let SpareNodes { node, below } = nodes;

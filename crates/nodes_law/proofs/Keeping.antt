@@ -4,7 +4,7 @@ use Rattle.std.proofs.Common.{◌≡◌, ◌⊎◌, inl, inr, ℕ, ◌<◌, Bool
 use Rattle.geometry.specs.Weights.{weigh}
 use Rattle.image_law.specs.Items.{Among}
 use Rattle.image_law.proofs.Weighing.{weigh_among, among_of_weigh}
-use Rattle.rights_books.specs.declared.claim.Entry.{Entry}
+use Rattle.rights_books.specs.declared.claim.TakenNumber.{TakenNumber}
 use Rattle.tickets.specs.Placed.{Placed}
 use Rattle.nodes.specs.Change.{TreeNode, Weighing, Touched, come, MarksOne, Trades}
 use Rattle.nodes_walks.specs.Writing.{rewritten, WritesOne}
@@ -101,13 +101,13 @@ module _ {B L : Type 0} (old new : FileState B L) where
   pub spells_marked : (resized : TreeNode → TreeNode) → Resizes resized → (out into : Weighing Placed → ℕ) → MarksNode resized old new out into → ComesMarked into
       → new.shape ≡ old.shape → SpellsUnmarked old → SpellsUnmarked new
   spells_marked resized resizes out into change comes shape spelled =
-      spells_still (was_there resized resizes out into change comes) shape (ap (λ (k : Entry). k.number) change.token) spelled
+      spells_still (was_there resized resizes out into change comes) shape (ap (λ (k : TakenNumber). k.number) change.token) spelled
 
   -- a cut that hands out nothing
   pub spells_resized : (resized : TreeNode → TreeNode) → Resizes resized → ((w : Weighing Placed) → below_weight new w ≡ below_weight old w)
       → inode_of new ≡ resized (inode_of old) → new.token ≡ old.token → new.shape ≡ old.shape → SpellsUnmarked old → SpellsUnmarked new
   spells_resized resized resizes same inode token shape spelled =
-      spells_still was shape (ap (λ (k : Entry). k.number) token) spelled
+      spells_still was shape (ap (λ (k : TakenNumber). k.number) token) spelled
     where
       was : (n : TreeNode) → n.dirty ≡ false → Among n (nodes_of new) → Among n (nodes_of old)
       was n clean (inl e) = inl (inode_was resized resizes (inode_of old) (inode_of new) n inode e clean)
@@ -119,7 +119,7 @@ module _ {B L : Type 0} (old new : FileState B L) where
           inr (among_list n (nodes_below old) (omega arith))
 
   -- a node was written: each node was there, or is the one that was written
-  pub each_written : (P : TreeNode → Type 0) (n : TreeNode) (token : Entry) → WritesOne (weight_of old) (weight_of new) n token
+  pub each_written : (P : TreeNode → Type 0) (n : TreeNode) (token : TakenNumber) → WritesOne (weight_of old) (weight_of new) n token
       → ((m : TreeNode) → Among m (nodes_of old) → P m) → P (rewritten token n) → (m : TreeNode) → Among m (nodes_of new) → P m
   each_written P n token one all written m there = go (same_node m (rewritten token n)) refl
     where
@@ -133,7 +133,7 @@ module _ {B L : Type 0} (old new : FileState B L) where
           let none : is_it m (rewritten token n) ≡ 0 = ap (λ (b : Bool). if b then 1 else 0) e in
           all m (among_list m (nodes_of old) (omega arith))
 
-  pub spells_written : (n : TreeNode) (token : Entry) → WritesOne (weight_of old) (weight_of new) n token
+  pub spells_written : (n : TreeNode) (token : TakenNumber) → WritesOne (weight_of old) (weight_of new) n token
       → IsSpelled old.shape old.token.number (rewritten token n)
       → new.shape ≡ old.shape → new.token.number ≡ old.token.number → SpellsUnmarked old → SpellsUnmarked new
   spells_written n token one written shape number spelled m there clean =

@@ -4,7 +4,7 @@ use Rattle.std.proofs.Common.{◌≡◌, ◌⊎◌, inl, inr, ℕ, ◌+◌, ◌<
 use borrow.Author.Tests.{lt-ltb}
 use Rattle.geometry.specs.declared.shape.Shape.{Shape}
 use Rattle.geometry.specs.Shape.{block_bytes}
-use Rattle.rights_books.specs.declared.claim.Entry.{Entry}
+use Rattle.rights_books.specs.declared.claim.TakenNumber.{TakenNumber}
 use Rattle.rights_books.specs.Rules.{bare_entry}
 use Rattle.tickets.specs.Placed.{Placed}
 use Rattle.nodes.specs.declared.spare.Spare.{Spare}
@@ -75,7 +75,7 @@ module _ {B L : Type 0} (files : ℕ) (old new : FileState B L) (law : FileState
   }
 
   module _ (had has : SparePath B L) (own : HaveOwnTokens files old.shape old.token.number had) (n : TreeNode) (fresh : n.dirty ≡ true)
-      (spares : (h : Entry → ℕ) → spare_tokens h has + h n.token ≡ spare_tokens h had) where
+      (spares : (h : TakenNumber → ℕ) → spare_tokens h has + h n.token ≡ spare_tokens h had) where
     pub law_plant : MarksNode unchanged old new nothing (λ w. w.node n) → FileStateLaw files new
     law_plant change =
         let a = spares (strange files old.token.number) in
@@ -101,7 +101,7 @@ module _ {B L : Type 0} (files : ℕ) (f : FileState B L) (bare : IsBare f) (mar
   law_new is = record {
     spelled = new_spelled;
     tokens = record {
-      inode = ap (λ (e : Entry). e.inode) is;
+      inode = ap (λ (e : TakenNumber). e.inode) is;
       below = bare_weighs f bare (of_tokens (strange files f.token.number));
       whole = (let none = bare_weighs f bare (of_tokens (ragged (block_bytes f.shape))) in
           let here : ragged (block_bytes f.shape) f.token ≡ 0 = ap (ragged (block_bytes f.shape)) is in omega arith);
@@ -111,15 +111,15 @@ module _ {B L : Type 0} (files : ℕ) (f : FileState B L) (bare : IsBare f) (mar
 
 -- spare nodes, where one of them comes into the file
 pub own_planted : {B L : Type 0} (files : ℕ) (shape : Shape) (inode : ℕ) (had has : SparePath B L) → HaveOwnTokens files shape inode had → (n : TreeNode)
-    → ((h : Entry → ℕ) → spare_tokens h has + h n.token ≡ spare_tokens h had) → HaveOwnTokens files shape inode has
+    → ((h : TakenNumber → ℕ) → spare_tokens h has + h n.token ≡ spare_tokens h had) → HaveOwnTokens files shape inode has
 own_planted files shape inode had has own n spares = record {
   below = (let a = spares (strange files inode) in let c = own.below in omega arith);
   whole = (let b = spares (ragged (block_bytes shape)) in let d = own.whole in omega arith);
 }
 
 -- and as they are made
-pub own_prepared : {B L : Type 0} (files : ℕ) (shape : Shape) (inode : ℕ) (had has : SparePath B L) (token : Entry) → HaveOwnTokens files shape inode had
-    → ((h : Entry → ℕ) → spare_tokens h has ≡ spare_tokens h had + h token) → token ≡ bare_entry token.number inode → files < token.number → HaveOwnTokens files shape inode has
+pub own_prepared : {B L : Type 0} (files : ℕ) (shape : Shape) (inode : ℕ) (had has : SparePath B L) (token : TakenNumber) → HaveOwnTokens files shape inode had
+    → ((h : TakenNumber → ℕ) → spare_tokens h has ≡ spare_tokens h had + h token) → token ≡ bare_entry token.number inode → files < token.number → HaveOwnTokens files shape inode has
 own_prepared files shape inode had has token own all is high =
     let a = all (strange files inode) in
     let b = all (ragged (block_bytes shape)) in
@@ -129,8 +129,8 @@ own_prepared files shape inode had has token own all is high =
     let f : ragged (block_bytes shape) token ≡ 0 = ap (ragged (block_bytes shape)) is in
     record { below = omega arith; whole = omega arith }
   where
-    own_bare : (files inode : ℕ) (token : Entry) → token ≡ bare_entry token.number inode → files < token.number → strange files inode token ≡ 0
+    own_bare : (files inode : ℕ) (token : TakenNumber) → token ≡ bare_entry token.number inode → files < token.number → strange files inode token ≡ 0
     own_bare files inode token is high =
-        let a = eq-eqb token.inode inode (ap (λ (e : Entry). e.inode) is) in
+        let a = eq-eqb token.inode inode (ap (λ (e : TakenNumber). e.inode) is) in
         let b = lt-ltb files token.number high in
         λ i. if (a i) && (b i) then 0 else 1

@@ -6,7 +6,7 @@ use Rattle.geometry.specs.Weights.{weigh}
 use Rattle.geometry.proofs.Weighing.{weigh-append, weigh-same}
 use Rattle.image_law.specs.Items.{Among}
 use Rattle.image_law.proofs.Weighing.{weigh-flat_map, weigh_among}
-use Rattle.rights_books.specs.declared.claim.Entry.{Entry}
+use Rattle.rights_books.specs.declared.claim.TakenNumber.{TakenNumber}
 use Rattle.tickets.specs.Placed.{Placed}
 use Rattle.nodes.specs.declared.branch.Branch.{Branch}
 use Rattle.nodes.specs.Change.{TreeNode, ticket_weight, each_marked}
@@ -72,7 +72,7 @@ none_all h [] each = refl
 none_all h (x ∷ xs) each =
     let here = each x (inl refl) in let rest = none_all h xs (λ y m. each y (inr m)) in omega arith
 
-written_one : (e : Entry) → 0 < e.address → unwritten e ≡ 0
+written_one : (e : TakenNumber) → 0 < e.address → unwritten e ≡ 0
 written_one e some = ap (λ (b : Bool). if b then 1 else 0) (ne_eqb e.address 0 (λ none. absurd (omega arith)))
 
 module _ {B L : Type 0} (f : FileState B L) where

@@ -6,7 +6,7 @@ use Rattle.std.proofs.lemmas.Bool.{and_parts}
 use Rattle.geometry.specs.Weights.{weigh}
 use Rattle.image_law.specs.Items.{Among}
 use Rattle.geometry.specs.Shape.{block_bytes}
-use Rattle.rights_books.specs.declared.claim.Entry.{Entry}
+use Rattle.rights_books.specs.declared.claim.TakenNumber.{TakenNumber}
 use Rattle.tickets.specs.Placed.{Placed}
 use Rattle.nodes.specs.Change.{TreeNode, Weighing, of_tokens}
 use Rattle.nodes.proofs.Balance.{balanced_tokens}
@@ -17,7 +17,7 @@ use Rattle.nodes_law.specs.Nodes.{nodes_below, nodes_of}
 use Rattle.nodes_law.proofs.Listing.{below_weighs, none_each}
 use Rattle.nodes_law.specs.Law.{strange, ragged, HasOwnTokens}
 
-own : (files inode : ℕ) (e : Entry) → strange files inode e ≡ 0 → (e.inode ≡ inode) × (files < e.number)
+own : (files inode : ℕ) (e : TakenNumber) → strange files inode e ≡ 0 → (e.inode ≡ inode) × (files < e.number)
 own files inode e none = go ((e.inode == inode) && nat_lt files e.number) refl none
   where
     go : (b : Bool) → ((e.inode == inode) && nat_lt files e.number) ≡ b → ◌≡◌ {A = ℕ} (if b then 0 else 1) 0 → (e.inode ≡ inode) × (files < e.number)
@@ -40,14 +40,14 @@ module _ {B L : Type 0} (f : FileState B L) where
 module _ {B L : Type 0} (files : ℕ) (old new : FileState B L) (tokens : HasOwnTokens files old) (shape : new.shape ≡ old.shape) where
   -- where the tokens that come are strange to nobody
   own_after : new.token ≡ old.token
-      → ((h : Entry → ℕ) → below_weight old (of_tokens h) ≡ 0 → h ≡ strange files old.token.number → below_weight new (of_tokens h) ≡ 0)
-      → ((h : Entry → ℕ) → below_weight old (of_tokens h) ≡ 0 → h ≡ ragged (block_bytes old.shape) → below_weight new (of_tokens h) ≡ 0)
+      → ((h : TakenNumber → ℕ) → below_weight old (of_tokens h) ≡ 0 → h ≡ strange files old.token.number → below_weight new (of_tokens h) ≡ 0)
+      → ((h : TakenNumber → ℕ) → below_weight old (of_tokens h) ≡ 0 → h ≡ ragged (block_bytes old.shape) → below_weight new (of_tokens h) ≡ 0)
       → HasOwnTokens files new
   own_after same below whole =
-      let number = ap (λ (e : Entry). e.number) same in
+      let number = ap (λ (e : TakenNumber). e.number) same in
       let parts = tokens.whole in
       record {
-        inode = ap (λ (e : Entry). e.inode) same ∙ (tokens.inode ∙ sym number);
+        inode = ap (λ (e : TakenNumber). e.inode) same ∙ (tokens.inode ∙ sym number);
         below = subst (λ k. below_weight new (of_tokens (strange files k)) ≡ 0) (sym number) (below (strange files old.token.number) tokens.below refl);
         whole = subst (λ s. weight_of new (of_tokens (ragged (block_bytes s))) ≡ 0) (sym shape)
             (let rest = whole (ragged (block_bytes old.shape)) (omega arith) refl in
@@ -59,9 +59,9 @@ module _ {B L : Type 0} (files : ℕ) (old new : FileState B L) (tokens : HasOwn
   own_marked resized out into change one other =
       own_after change.token
       (λ h none is. (let all = balanced_tokens change.own (below_weight old) (below_weight new) out into change.trades h in
-      let came : into (of_tokens h) ≡ 0 = ap (λ (h : Entry → ℕ). into (of_tokens h)) is ∙ one in omega arith))
+      let came : into (of_tokens h) ≡ 0 = ap (λ (h : TakenNumber → ℕ). into (of_tokens h)) is ∙ one in omega arith))
       (λ h none is. (let all = balanced_tokens change.own (below_weight old) (below_weight new) out into change.trades h in
-      let came : into (of_tokens h) ≡ 0 = ap (λ (h : Entry → ℕ). into (of_tokens h)) is ∙ other in omega arith))
+      let came : into (of_tokens h) ≡ 0 = ap (λ (h : TakenNumber → ℕ). into (of_tokens h)) is ∙ other in omega arith))
 
   pub own_same : ((w : Weighing Placed) → below_weight new w ≡ below_weight old w) → new.token ≡ old.token → HasOwnTokens files new
   own_same same token =

@@ -13,7 +13,7 @@ use Rattle.geometry.specs.Path.{largest_length, path}
 use Rattle.geometry.specs.Shape.{block_bytes}
 use Rattle.geometry.specs.File.{File, Block, written, cut_to}
 use Rattle.rights_books.specs.Accounts.{HandView}
-use Rattle.rights_books.specs.declared.claim.Entry.{Entry}
+use Rattle.rights_books.specs.declared.claim.TakenNumber.{TakenNumber}
 use Rattle.rights_books.specs.Lists.{times, without}
 use Rattle.rights_books.specs.Sameness.{same_entry}
 use Rattle.rights_books.proofs.Sameness.{entry_self}
@@ -50,16 +50,16 @@ with_ticket m hand = record hand { tickets = m ∷ hand.tickets }
 abbrev pub less_ticket : Mark → HandView → HandView
 less_ticket m hand = record hand { tickets = without same_mark m hand.tickets }
 
-abbrev pub with_token : Entry → HandView → HandView
+abbrev pub with_token : TakenNumber → HandView → HandView
 with_token k hand = record hand { tokens = k ∷ hand.tokens }
 
-abbrev pub less_token : Entry → HandView → HandView
+abbrev pub less_token : TakenNumber → HandView → HandView
 less_token k hand = record hand { tokens = without same_entry k hand.tokens }
 
-pub has_number : (k : Entry) → 0 < k.number → unnumbered k ≡ 0
+pub has_number : (k : TakenNumber) → 0 < k.number → unnumbered k ≡ 0
 has_number k some = ap (λ b. if b then 1 else 0) (ne_eqb k.number 0 (λ e. absurd (omega arith)))
 
-pub first_token : (k : Entry) (ks : List Entry) → 0 < times same_entry k (k ∷ ks)
+pub first_token : (k : TakenNumber) (ks : List TakenNumber) → 0 < times same_entry k (k ∷ ks)
 first_token k ks =
     let one : ◌≡◌ {A = ℕ} (if same_entry k k then 1 else 0) 1 = ap (λ b. if b then 1 else 0) (entry_self k) in
     omega arith
@@ -87,7 +87,7 @@ mark_in (Some t) = t.mark
 
 -- ---- a node's number is given back, and its block where it has one
 
-module _ (k : Entry) (x y : HandView) where
+module _ (k : TakenNumber) (x y : HandView) where
   abbrev given : HandView
   given = record x { tickets = with_lodged k x.tickets; tokens = without same_entry k x.tokens }
 
@@ -168,7 +168,7 @@ module _ {B L : Type 0} (old new : FileState B L) (is : IsStored old) (now : IsF
   }
 
 -- a token came and went again
-pub serves_back : {B L : Type 0} (f : FileState B L) (x y z : HandView) (k : Entry) → IsStored f → y ≡ with_token k x → z ≡ less_token k y
+pub serves_back : {B L : Type 0} (f : FileState B L) (x y z : HandView) (k : TakenNumber) → IsStored f → y ≡ with_token k x → z ≡ less_token k y
     → Serves f f x z
 serves_back f x y z k is there back = record {
   stored = is;
@@ -227,7 +227,7 @@ module _ {B L : Type 0} (old new : FileState B L) (x y : HandView) (index : ℕ)
   serves_put names owner at change hand = record {
     stored = stored_put names owner None at change;
     shape = shape;
-    number = ap (λ (e : Entry). e.number) change.token;
+    number = ap (λ (e : TakenNumber). e.number) change.token;
     others = λ others was. subst (λ (h : HandView). AreHeldBeside others new h.tickets h.tokens) (sym hand)
         (held_put old new x.tickets x.tokens was (lengthened index) t change);
     book = ap (λ (h : HandView). h.book) hand;
@@ -238,7 +238,7 @@ module _ {B L : Type 0} (old new : FileState B L) (x y : HandView) (index : ℕ)
   serves_over names owner b at change hand = record {
     stored = stored_put names owner (Some b) at change;
     shape = shape;
-    number = ap (λ (e : Entry). e.number) change.token;
+    number = ap (λ (e : TakenNumber). e.number) change.token;
     others = λ others was. subst (λ (h : HandView). AreHeldBeside others new h.tickets h.tokens) (sym hand)
         (ticket_spent new b.mark (t.mark ∷ x.tickets) x.tokens (held_over old new x.tickets x.tokens was (lengthened index) t b change));
     book = ap (λ (h : HandView). h.book) hand;
@@ -329,13 +329,13 @@ module _ {B L : Type 0} (old new : FileState B L) (x y : HandView) (n : ℕ) (is
             let less = fewer in omega arith;
       };
       shape = shape;
-      number = ap (λ (e : Entry). e.number) change.token;
+      number = ap (λ (e : TakenNumber). e.number) change.token;
       others = λ others was. subst (λ (h : HandView). AreHeldBeside others new h.tickets h.tokens) (sym hand)
           (ticket_spent new t.mark x.tickets x.tokens (held_ticket old new x.tickets x.tokens was unchanged t out weighs change));
       book = ap (λ (h : HandView). h.book) hand;
     }
 
-  module _ (k : Entry) (same : Same (ticket_at old) (ticket_at new)) (out : Weighing Placed → ℕ) (weighs : WeighsAs (Token k) out) (change : MarksNode unchanged old new out nothing) where
+  module _ (k : TakenNumber) (same : Same (ticket_at old) (ticket_at new)) (out : Weighing Placed → ℕ) (weighs : WeighsAs (Token k) out) (change : MarksNode unchanged old new out nothing) where
     pub cut_node : cut_to (file_of new) n ≡ cut_to (file_of old) n
     cut_node = cut_same (λ q lt. same q)
 
@@ -356,7 +356,7 @@ module _ {B L : Type 0} (old new : FileState B L) (x y : HandView) (n : ℕ) (is
           (let all = weigh_tickets unchanged old new out nothing change (λ m. 1) in let none = weighs.2 each_ticket in omega arith)
           (let all = weigh_tokens unchanged old new out nothing change unnumbered in let was = is.numbered in omega arith);
       shape = shape;
-      number = ap (λ (e : Entry). e.number) change.token;
+      number = ap (λ (e : TakenNumber). e.number) change.token;
       others = λ others was. subst (λ (h : HandView). AreHeldBeside others new h.tickets h.tokens) (sym hand)
           (token_spent new k x.tickets x.tokens (held_token old new x.tickets x.tokens was unchanged k out weighs change));
       book = ap (λ (h : HandView). h.book) hand;
@@ -388,7 +388,7 @@ module _ {B L : Type 0} (old new : FileState B L) (x : HandView) (n : ℕ) (is :
           omega arith;
     };
     shape = shape;
-    number = ap (λ (e : Entry). e.number) token;
+    number = ap (λ (e : TakenNumber). e.number) token;
     others = λ others was. held_same old new x.tickets x.tokens was below token;
     book = refl;
   }

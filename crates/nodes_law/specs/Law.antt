@@ -5,7 +5,7 @@ use Rattle.geometry.specs.declared.shape.Shape.{Shape}
 use Rattle.geometry.specs.Shape.{block_bytes}
 use Rattle.image.specs.Node.{Spells}
 use Rattle.image_law.specs.Items.{Among}
-use Rattle.rights_books.specs.declared.claim.Entry.{Entry}
+use Rattle.rights_books.specs.declared.claim.TakenNumber.{TakenNumber}
 use Rattle.tickets.specs.Placed.{Placed}
 use Rattle.nodes.specs.Change.{TreeNode, of_tickets, of_tokens}
 use Rattle.nodes.specs.declared.file.FileState.{FileState}
@@ -15,15 +15,15 @@ use Rattle.nodes.specs.File.{below_weight, weight_of}
 use Rattle.nodes_law.specs.Nodes.{nodes_of, node_in}
 
 -- 1 for a token that is not of a node below this inode, where the numbers up to `files` are those of inodes
-abbrev pub strange : ℕ → ℕ → Entry → ℕ
+abbrev pub strange : ℕ → ℕ → TakenNumber → ℕ
 strange files inode e = if (e.inode == inode) && nat_lt files e.number then 0 else 1
 
 -- 1 for a token of a node that has no block yet
-abbrev pub unwritten : Entry → ℕ
+abbrev pub unwritten : TakenNumber → ℕ
 unwritten e = if e.address == 0 then 1 else 0
 
 -- 1 for a token of a node whose block has not so many bytes
-abbrev pub ragged : ℕ → Entry → ℕ
+abbrev pub ragged : ℕ → TakenNumber → ℕ
 ragged size e = if (e.address == 0) || (length e.bytes == size) then 0 else 1
 
 -- 1 for a ticket without an address

@@ -1,7 +1,7 @@
 //! The law through the calls on a file's state.
 ghost use Rattle.std.specs.Prelude.{◌≡◌, ℕ, ◌+◌, ◌<◌, true, Option};
 ghost use Rattle.image_law.specs.Items.{Among};
-ghost use Rattle.rights_books.specs.declared.claim.Entry.{Entry};
+ghost use Rattle.rights_books.specs.declared.claim.TakenNumber.{TakenNumber};
 ghost use Rattle.rights_books.specs.Rules.{bare_entry};
 ghost use Rattle.tickets.specs.Placed.{Placed};
 ghost use Rattle.nodes.specs.declared.spare.Spare.{Spare};
@@ -40,14 +40,14 @@ pub fn calls_keep_law<B: Block>(
     ensures end { (files length : ℕ) → FileStateLaw files old.now → ((w : Weighing Placed) → below_weight new.now w ≡ below_weight old.now w)
         → inode_of new.now ≡ shortened length (inode_of old.now) → new.now.token ≡ old.now.token → FileStateLaw files new.now }
     ensures plant { (files : ℕ) (n : TreeNode) → FileStateLaw files old.now → HaveOwnTokens files old.now.shape old.now.token.number had.now → n.dirty ≡ true
-        → ((h : Entry → ℕ) → spare_tokens h has.now + h n.token ≡ spare_tokens h had.now) → MarksNode unchanged old.now new.now nothing (λ w. w.node n)
+        → ((h : TakenNumber → ℕ) → spare_tokens h has.now + h n.token ≡ spare_tokens h had.now) → MarksNode unchanged old.now new.now nothing (λ w. w.node n)
         → FileStateLaw files new.now }
     ensures planted { (files : ℕ) (n : TreeNode) → HaveOwnTokens files old.now.shape old.now.token.number had.now
-        → ((h : Entry → ℕ) → spare_tokens h has.now + h n.token ≡ spare_tokens h had.now) → HaveOwnTokens files old.now.shape old.now.token.number has.now }
-    ensures prepare { (files : ℕ) (token : Entry) → HaveOwnTokens files old.now.shape old.now.token.number had.now
-        → ((h : Entry → ℕ) → spare_tokens h has.now ≡ spare_tokens h had.now + h token) → token ≡ bare_entry token.number old.now.token.number → files < token.number
+        → ((h : TakenNumber → ℕ) → spare_tokens h has.now + h n.token ≡ spare_tokens h had.now) → HaveOwnTokens files old.now.shape old.now.token.number has.now }
+    ensures prepare { (files : ℕ) (token : TakenNumber) → HaveOwnTokens files old.now.shape old.now.token.number had.now
+        → ((h : TakenNumber → ℕ) → spare_tokens h has.now ≡ spare_tokens h had.now + h token) → token ≡ bare_entry token.number old.now.token.number → files < token.number
         → HaveOwnTokens files old.now.shape old.now.token.number has.now }
-    ensures write { (n : TreeNode) (token : Entry) → WritesOne (weight_of old.now) (weight_of new.now) n token
+    ensures write { (n : TreeNode) (token : TakenNumber) → WritesOne (weight_of old.now) (weight_of new.now) n token
         → IsSpelled old.now.shape old.now.token.number (rewritten token n) → new.now.token.number ≡ old.now.token.number
         → SpellsUnmarked old.now → SpellsUnmarked new.now }
 {}

@@ -10,7 +10,7 @@ use Rattle.std.proofs.Math.Nat.{div-one, mod-one}
 use Rattle.std.proofs.Math.ListN.{get_or-map}
 use Rattle.geometry.specs.Weights.{weigh}
 use Rattle.geometry.proofs.Weighing.{weigh-set}
-use Rattle.rights_books.specs.declared.claim.Entry.{Entry}
+use Rattle.rights_books.specs.declared.claim.TakenNumber.{TakenNumber}
 use Rattle.nodes.specs.declared.branch.Branch.{Branch}
 use Rattle.nodes.specs.declared.entries.Entries.{Entries}
 use Rattle.nodes.specs.Tree.{number_of, find_in, entry_at}
@@ -22,7 +22,7 @@ use Rattle.nodes_walks.specs.Moving.{MovesOne}
 
 module _ {L C : Type 0} (weight : Weighing L → Option C → ℕ) (xs : List (Option C)) (i : ℕ) (x : Option C)
     (inside : i < length xs) (is : x ≡ get_or xs i x) where
-  pub moves_entry : (y : Option C) (n : TreeNode) (token : Entry) → MovesOne (λ w. weight w x) (λ w. weight w y) n token
+  pub moves_entry : (y : Option C) (n : TreeNode) (token : TakenNumber) → MovesOne (λ w. weight w x) (λ w. weight w y) n token
       → MovesOne (λ w. weigh (weight w) xs) (λ w. weigh (weight w) (set xs i y)) n token
   moves_entry y n token one = record {
     among = among_entries weight xs i x inside is n one.among;
@@ -32,7 +32,7 @@ module _ {L C : Type 0} (weight : Weighing L → Option C → ℕ) (xs : List (O
 
 module _ {L : Type 0} (old new : Weighing L → ℕ) where
   -- the same of a node beside others that stay
-  pub moves_below : (own : TreeNode) (n : TreeNode) (token : Entry) → MovesOne old new n token
+  pub moves_below : (own : TreeNode) (n : TreeNode) (token : TakenNumber) → MovesOne old new n token
       → MovesOne (λ w. w.node own + old w) (λ w. w.node own + new w) n token
   moves_below own n token one = record {
     among = among_below old new own n one.among;
@@ -108,7 +108,7 @@ if_some None h f = tt
 
 -- who moves a node's block marks none
 pub marks_stay : {L C E : Type 0} (weight : Weighing L → Option C → ℕ) (x y : Option C) (r : Result Bool E)
-    → IfOk r (λ found. found ≡ true → (n : TreeNode) × (token : Entry) × MovesOne (λ w. weight w x) (λ w. weight w y) n token)
+    → IfOk r (λ found. found ≡ true → (n : TreeNode) × (token : TakenNumber) × MovesOne (λ w. weight w x) (λ w. weight w y) n token)
     → IfOk r (λ found. found ≡ false → y ≡ x) → IfErr r (λ e. y ≡ x) → weight each_marked y ≡ weight each_marked x
 marks_stay weight x y (Ok true) moved none failed =
     let one = moved refl in

@@ -2,7 +2,7 @@
 -- held is held, and one node less is to be written.
 use Rattle.std.proofs.Common.{◌≡◌, ℕ, ◌+◌, ◌<◌, List, ◌∷◌, if◌then◌else◌, ap, arith}
 use Rattle.geometry.specs.declared.owner.Mark.{Mark}
-use Rattle.rights_books.specs.declared.claim.Entry.{Entry}
+use Rattle.rights_books.specs.declared.claim.TakenNumber.{TakenNumber}
 use Rattle.rights_books.specs.Lists.{times, without}
 use Rattle.rights_books.specs.Sameness.{same_entry}
 use Rattle.rights_books.proofs.Sameness.{entry_self}
@@ -14,7 +14,7 @@ use Rattle.nodes.specs.File.{weight_of}
 use Rattle.nodes.specs.Held.{Others, AreHeldBeside}
 
 -- the token of each node of the file is in hand
-pub node_there : {B L : Type 0} {others : Others} (f : FileState B L) (marks : List Mark) (entries : List Entry) → AreHeldBeside others f marks entries
+pub node_there : {B L : Type 0} {others : Others} (f : FileState B L) (marks : List Mark) (entries : List TakenNumber) → AreHeldBeside others f marks entries
     → (n : TreeNode) → IsAmong (weight_of f) n → 0 < times same_entry n.token entries
 node_there f marks entries held n among =
     let all = held.tokens (λ y. if same_entry n.token y then 1 else 0) in
@@ -22,8 +22,8 @@ node_there f marks entries held n among =
     let some = among (of_tokens (λ y. if same_entry n.token y then 1 else 0)) in
     omega arith
 
-module _ {B L : Type 0} {others : Others} (old new : FileState B L) (marks : List Mark) (entries : List Entry) (held : AreHeldBeside others old marks entries)
-    (n : TreeNode) (k : Entry) (one : WritesOne (weight_of old) (weight_of new) n k) where
+module _ {B L : Type 0} {others : Others} (old new : FileState B L) (marks : List Mark) (entries : List TakenNumber) (held : AreHeldBeside others old marks entries)
+    (n : TreeNode) (k : TakenNumber) (one : WritesOne (weight_of old) (weight_of new) n k) where
   -- a node was written, and its token stands for another block
   pub held_moved : AreHeldBeside others new marks (k ∷ without same_entry n.token entries)
   held_moved = record {
@@ -40,7 +40,7 @@ module _ {B L : Type 0} {others : Others} (old new : FileState B L) (marks : Lis
   }
 
 -- each node that is written is one less to write
-pub fewer_marked : {L : Type 0} (old new : Weighing L → ℕ) (n : TreeNode) (k : Entry) → WritesOne old new n k → new each_marked + 1 ≡ old each_marked
+pub fewer_marked : {L : Type 0} (old new : Weighing L → ℕ) (n : TreeNode) (k : TakenNumber) → WritesOne old new n k → new each_marked + 1 ≡ old each_marked
 fewer_marked {L} old new n k one =
     let all = one.trades each_marked in
     let marked : ◌≡◌ {A = ℕ} (if n.dirty then 1 else 0) 1 = ap (λ b. if b then 1 else 0) one.marked in

@@ -1,7 +1,7 @@
 -- A file stays what it was where one range keeps what it names, where its inode alone is written, and where nothing is.
 use Rattle.std.proofs.Common.{◌≡◌, ℕ, Bool, false, Option, refl, ap, subst, sym, ◌∙◌}
 use Rattle.geometry.specs.Path.{node_entries}
-use Rattle.rights_books.specs.declared.claim.Entry.{Entry}
+use Rattle.rights_books.specs.declared.claim.TakenNumber.{TakenNumber}
 use Rattle.nodes.specs.declared.entries.Entries.{Entries}
 use Rattle.nodes.specs.declared.file.FileState.{FileState}
 use Rattle.nodes.specs.File.{IsFile}
@@ -40,7 +40,7 @@ module _ {B L : Type 0} (f : FileState B L) where
       kept_double x walk = kept_below f.direct f.indirect x (stays f is OfDouble e entries x walk)
 
     -- above them, whatever is marked
-    kept_above : (token : Entry) (resized tickets direct indirect double : Bool) → token.number ≡ f.token.number
+    kept_above : (token : TakenNumber) (resized tickets direct indirect double : Bool) → token.number ≡ f.token.number
         → KeepsFile f (record f {
           token = token;
           resized = resized;
@@ -60,10 +60,10 @@ module _ {B L : Type 0} (f : FileState B L) where
       file = record { tickets = is.tickets; direct = is.direct; indirect = is.indirect; double = is.double; within = is.within };
     }
 
-    pub kept_token : (token : Entry) → token.number ≡ f.token.number → KeepsFile f (record f { token = token })
+    pub kept_token : (token : TakenNumber) → token.number ≡ f.token.number → KeepsFile f (record f { token = token })
     kept_token token = kept_above token f.resized f.tickets.dirty f.direct.dirty f.indirect.dirty f.double.dirty
 
-    pub kept_unmarked : (token : Entry) → token.number ≡ f.token.number → KeepsFile f (unmarked (record f { token = token }))
+    pub kept_unmarked : (token : TakenNumber) → token.number ≡ f.token.number → KeepsFile f (unmarked (record f { token = token }))
     kept_unmarked token = kept_above token false false false false false
 
     pub kept_same : (new : FileState B L) → new ≡ f → KeepsFile f new

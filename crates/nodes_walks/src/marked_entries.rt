@@ -1,7 +1,7 @@
 //! The walk over the entries of a node.
 ghost use Rattle.std.specs.Prelude.{Bool, ℕ, None, ◌≡◌, ◌≤◌, ◌<◌, ◌+◌, ◌*◌, ◌^◌, true, false, map, slice_set, length, OnOk, OnErr, IfOk, IfErr};
 ghost use Rattle.geometry.specs.Weights.{weigh};
-ghost use Rattle.rights_books.specs.declared.claim.Entry.{Entry};
+ghost use Rattle.rights_books.specs.declared.claim.TakenNumber.{TakenNumber};
 ghost use Rattle.nodes.specs.Tree.{Same, ShapedIn, UsefulIn, AreNone, entry_at, find_in};
 ghost use Rattle.nodes.specs.Change.{TreeNode, tree_node, each_marked};
 ghost use Rattle.nodes.specs.TreeMarks.{AreCounted};
@@ -24,7 +24,7 @@ pub fn spell_entries<C: Subtree>(slots: &Slots<C>, numbers: &mut [u32])
 
 // What the block of a node other than an inode is to spell.
 fn block_of(is_leaf: bool, numbers: &[u32]) -> NodeBlock<'_>
-    ensures { (token : Entry) → marked_node token result.class result.kind result.length result.addresses.now result.children.now
+    ensures { (token : TakenNumber) → marked_node token result.class result.kind result.length result.addresses.now result.children.now
         ≡ tree_node is_leaf token numbers.now true }
 {
     if is_leaf {
@@ -91,7 +91,7 @@ fn flush_at<C: Walk, W: NodeWriter>(
     requires shaped { C.shaped entries (entry_at below.old.slots.items place) }
     requires room { entries ≤ length numbers.old }
     requires ready { (n : TreeNode) → n.dirty ≡ true → IsAmong (λ w. weigh (C.weight w) below.old.slots.items) n → W.ready writer.old n }
-    ensures wrote { IfOk result (λ found. found ≡ true → (n : TreeNode) × (token : Entry)
+    ensures wrote { IfOk result (λ found. found ≡ true → (n : TreeNode) × (token : TakenNumber)
         × WritesOne (λ w. weigh (C.weight w) below.old.slots.items) (λ w. weigh (C.weight w) below.new.slots.items) n token × W.wrote writer.old n token writer.new) }
     ensures clean { IfOk result (λ found. found ≡ false → (from.old ≡ 0 → C.weight each_marked (entry_at below.old.slots.items place) ≡ 0) × (below.new ≡ below.old) × (writer.new ≡ writer.old)) }
     ensures refused { IfErr result (λ e. (below.new ≡ below.old) × (n : TreeNode) × (n.dirty ≡ true)
@@ -129,7 +129,7 @@ pub fn flush_entries<C: Walk, W: NodeWriter>(
     requires shaped { ShapedIn (C.shaped entries) count below.old.slots.items }
     requires room { entries ≤ length numbers.old }
     requires ready { (n : TreeNode) → n.dirty ≡ true → IsAmong (λ w. weigh (C.weight w) below.old.slots.items) n → W.ready writer.old n }
-    ensures wrote { IfOk result (λ found. found ≡ true → (n : TreeNode) × (token : Entry)
+    ensures wrote { IfOk result (λ found. found ≡ true → (n : TreeNode) × (token : TakenNumber)
         × WritesOne (λ w. weigh (C.weight w) below.old.slots.items) (λ w. weigh (C.weight w) below.new.slots.items) n token × W.wrote writer.old n token writer.new) }
     ensures clean { IfOk result (λ found. found ≡ false → (from.old ≡ 0 → weigh (C.weight each_marked) below.old.slots.items ≡ 0) × (below.new ≡ below.old) × (writer.new ≡ writer.old)) }
     ensures refused { IfErr result (λ e. (below.new ≡ below.old) × (n : TreeNode) × (n.dirty ≡ true)

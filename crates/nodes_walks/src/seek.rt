@@ -1,6 +1,6 @@
 //! What is found below one entry.
 ghost use Rattle.std.specs.Prelude.{Bool, ℕ, ◌≡◌, ◌+◌, ◌*◌, ◌%◌, ◌^◌, ◌<◌, true, false, Some, None, IfSome, OnOk, OnErr, IfOk, IfErr};
-ghost use Rattle.rights_books.specs.declared.claim.Entry.{Entry};
+ghost use Rattle.rights_books.specs.declared.claim.TakenNumber.{TakenNumber};
 ghost use Rattle.nodes.specs.Tree.{Same, number_of};
 ghost use Rattle.nodes.specs.Change.{TreeNode, each_naming};
 ghost use Rattle.nodes_walks.specs.Writing.{IsAmong};
@@ -44,7 +44,7 @@ pub trait Seek: Subtree {
     ) -> Result<bool, Error>
         requires shaped { Self.shaped entries slot.old }
         requires ready { (n : TreeNode) → n.token.number ≡ nid → IsAmong (λ w. Self.weight w slot.old) n → V.ready visitor.old n.token }
-        ensures visited { IfOk result (λ found. found ≡ true → (n : TreeNode) × (token : Entry)
+        ensures visited { IfOk result (λ found. found ≡ true → (n : TreeNode) × (token : TakenNumber)
             × MovesOne (λ w. Self.weight w slot.old) (λ w. Self.weight w slot.new) n token × V.visited visitor.old n.token token visitor.new) }
         ensures none { IfOk result (λ found. found ≡ false → (Self.weight (each_numbered nid) slot.old ≡ 0) × (slot.new ≡ slot.old) × (visitor.new ≡ visitor.old)) }
         ensures refused { IfErr result (λ e. (slot.new ≡ slot.old) × (n : TreeNode)

@@ -1,7 +1,7 @@
 //! What is found below the entries of a node, one after another.
 ghost use Rattle.std.specs.Prelude.{Bool, ℕ, ◌+◌, ◌≡◌, ◌*◌, ◌%◌, ◌^◌, ◌<◌, true, false, Some, None, IsTrue, ◌↔◌, map, slice_set, slice_index_or, length, IfSome, IfOk, IfErr};
 ghost use Rattle.geometry.specs.Weights.{weigh};
-ghost use Rattle.rights_books.specs.declared.claim.Entry.{Entry};
+ghost use Rattle.rights_books.specs.declared.claim.TakenNumber.{TakenNumber};
 ghost use Rattle.nodes.specs.Tree.{Same, ShapedIn, UsefulIn, AreNone, entry_at, find_in, number_of};
 ghost use Rattle.nodes.specs.Change.{TreeNode, each_naming};
 ghost use Rattle.nodes.specs.TreeMarks.{AreCounted};
@@ -61,7 +61,7 @@ fn visit_at<C: Seek, V: NodeVisitor>(
     requires at { place < length below.old.slots.items }
     requires shaped { C.shaped entries (entry_at below.old.slots.items place) }
     requires ready { (n : TreeNode) → n.token.number ≡ nid → IsAmong (λ w. weigh (C.weight w) below.old.slots.items) n → V.ready visitor.old n.token }
-    ensures visited { IfOk result (λ found. found ≡ true → (n : TreeNode) × (token : Entry)
+    ensures visited { IfOk result (λ found. found ≡ true → (n : TreeNode) × (token : TakenNumber)
         × MovesOne (λ w. weigh (C.weight w) below.old.slots.items) (λ w. weigh (C.weight w) below.new.slots.items) n token × V.visited visitor.old n.token token visitor.new) }
     ensures none { IfOk result (λ found. found ≡ false → (C.weight (each_numbered nid) (entry_at below.old.slots.items place) ≡ 0) × (below.new ≡ below.old) × (visitor.new ≡ visitor.old)) }
     ensures refused { IfErr result (λ e. (below.new ≡ below.old) × (n : TreeNode)
@@ -89,7 +89,7 @@ pub fn visit_in<C: Seek, V: NodeVisitor>(
 ) -> Result<bool, Error>
     requires shaped { ShapedIn (C.shaped entries) count below.old.slots.items }
     requires ready { (n : TreeNode) → n.token.number ≡ nid → IsAmong (λ w. weigh (C.weight w) below.old.slots.items) n → V.ready visitor.old n.token }
-    ensures visited { IfOk result (λ found. found ≡ true → (n : TreeNode) × (token : Entry)
+    ensures visited { IfOk result (λ found. found ≡ true → (n : TreeNode) × (token : TakenNumber)
         × MovesOne (λ w. weigh (C.weight w) below.old.slots.items) (λ w. weigh (C.weight w) below.new.slots.items) n token × V.visited visitor.old n.token token visitor.new) }
     ensures none { IfOk result (λ found. found ≡ false → (weigh (C.weight (each_numbered nid)) below.old.slots.items ≡ 0) × (below.new ≡ below.old) × (visitor.new ≡ visitor.old)) }
     ensures refused { IfErr result (λ e. (below.new ≡ below.old) × (n : TreeNode)

@@ -1,6 +1,6 @@
 //! The walk below one entry.
 ghost use Rattle.std.specs.Prelude.{Bool, ℕ, None, ◌≡◌, ◌≤◌, ◌<◌, ◌^◌, true, false, length, IfOk, IfErr};
-ghost use Rattle.rights_books.specs.declared.claim.Entry.{Entry};
+ghost use Rattle.rights_books.specs.declared.claim.TakenNumber.{TakenNumber};
 ghost use Rattle.nodes.specs.Tree.{Same};
 ghost use Rattle.nodes.specs.Change.{TreeNode, each_marked};
 ghost use Rattle.nodes_walks.specs.Writing.{IsAmong, WritesOne};
@@ -32,7 +32,7 @@ pub trait Walk: Subtree {
         requires shaped { Self.shaped entries slot.old }
         requires room { entries ≤ length numbers.old }
         requires ready { (n : TreeNode) → n.dirty ≡ true → IsAmong (λ w. Self.weight w slot.old) n → W.ready writer.old n }
-        ensures wrote { IfOk result (λ found. found ≡ true → (n : TreeNode) × (token : Entry)
+        ensures wrote { IfOk result (λ found. found ≡ true → (n : TreeNode) × (token : TakenNumber)
             × WritesOne (λ w. Self.weight w slot.old) (λ w. Self.weight w slot.new) n token × W.wrote writer.old n token writer.new) }
         ensures clean { IfOk result (λ found. found ≡ false → (from.old ≡ 0 → Self.weight each_marked slot.old ≡ 0) × (slot.new ≡ slot.old) × (writer.new ≡ writer.old)) }
         ensures refused { IfErr result (λ e. (slot.new ≡ slot.old) × (n : TreeNode) × (n.dirty ≡ true)

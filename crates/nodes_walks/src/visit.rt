@@ -1,6 +1,6 @@
 //! The node of a number in a whole file.
 ghost use Rattle.std.specs.Prelude.{Bool, ℕ, ◌≡◌, true, false, OnOk, OnErr, IfOk, IfErr};
-ghost use Rattle.rights_books.specs.declared.claim.Entry.{Entry};
+ghost use Rattle.rights_books.specs.declared.claim.TakenNumber.{TakenNumber};
 ghost use Rattle.nodes.specs.Change.{TreeNode};
 ghost use Rattle.nodes_walks.specs.Writing.{IsAmong};
 ghost use Rattle.nodes_walks.specs.Moving.{MovesOne, each_numbered};
@@ -21,7 +21,7 @@ pub fn visit_node<B: Block, V: NodeVisitor>(
 ) -> Result<bool, Error>
     requires file { IsFile file.old }
     requires ready { (n : TreeNode) → n.token.number ≡ nid → IsAmong (weight_of file.old) n → V.ready visitor.old n.token }
-    ensures visited { IfOk result (λ found. found ≡ true → (n : TreeNode) × (token : Entry)
+    ensures visited { IfOk result (λ found. found ≡ true → (n : TreeNode) × (token : TakenNumber)
         × MovesOne (weight_of file.old) (weight_of file.new) n token × V.visited visitor.old n.token token visitor.new) }
     ensures none { IfOk result (λ found. found ≡ false → (weight_of file.old (each_numbered nid) ≡ 0) × (file.new ≡ file.old) × (visitor.new ≡ visitor.old)) }
     ensures refused { IfErr result (λ e. (file.new ≡ file.old) × (n : TreeNode)
@@ -63,7 +63,7 @@ fn visit_below<B: Block, V: NodeVisitor>(
 ) -> Result<bool, Error>
     requires file { IsFile file.old }
     requires ready { (n : TreeNode) → n.token.number ≡ nid → IsAmong (below_weight file.old) n → V.ready visitor.old n.token }
-    ensures visited { IfOk result (λ found. found ≡ true → (n : TreeNode) × (token : Entry)
+    ensures visited { IfOk result (λ found. found ≡ true → (n : TreeNode) × (token : TakenNumber)
         × MovesOne (below_weight file.old) (below_weight file.new) n token × V.visited visitor.old n.token token visitor.new) }
     ensures none { IfOk result (λ found. found ≡ false → (below_weight file.old (each_numbered nid) ≡ 0) × (file.new ≡ file.old) × (visitor.new ≡ visitor.old)) }
     ensures refused { IfErr result (λ e. (file.new ≡ file.old) × (n : TreeNode)

@@ -1,6 +1,6 @@
 //! Who is lent the token of a node.
 ghost use Rattle.std.specs.Prelude.{◌≡◌, OnOk, OnErr, IfErr};
-ghost use Rattle.rights_books.specs.declared.claim.Entry.{Entry};
+ghost use Rattle.rights_books.specs.declared.claim.TakenNumber.{TakenNumber};
 ghost use Rattle.geometry.specs.declared.error.Error.{Error as Reason};
 
 use geometry::{Class, Error};
@@ -11,11 +11,11 @@ use tickets::NidToken;
 /// To contracts `ready` is what a visitor asks of a token, `visited` what an Ok says of the token before and after and of
 /// the visitor before and after, and `refused` what an error says.
 pub trait NodeVisitor {
-    ghost ready: { Self → Entry → Type 0 };
+    ghost ready: { Self → TakenNumber → Type 0 };
 
-    ghost visited: { Self → Entry → Entry → Self → Type 0 };
+    ghost visited: { Self → TakenNumber → TakenNumber → Self → Type 0 };
 
-    ghost refused: { Self → Entry → Reason → Self → Type 0 };
+    ghost refused: { Self → TakenNumber → Reason → Self → Type 0 };
 
     /// Works with the token of a node of this class. An error leaves the token as it was.
     fn visit(&mut self, class: Class, token: &mut NidToken) -> Result<(), Error>

@@ -1,7 +1,7 @@
 //! The walk over a file's marked nodes.
 ghost use Rattle.std.specs.Prelude.{Bool, ℕ, ◌≡◌, ◌≤◌, ◌<◌, ◌+◌, ◌++◌, ◌↔◌, IsTrue, true, false, map, length, OnOk, OnErr, IfOk, IfErr};
 ghost use Rattle.geometry.specs.Path.{node_entries};
-ghost use Rattle.rights_books.specs.declared.claim.Entry.{Entry};
+ghost use Rattle.rights_books.specs.declared.claim.TakenNumber.{TakenNumber};
 ghost use Rattle.tickets.specs.Placed.{Placed};
 ghost use Rattle.nodes.specs.Change.{TreeNode, Weighing, each_marked};
 ghost use Rattle.nodes_walks.specs.Writing.{IsAmong, WritesOne};
@@ -33,7 +33,7 @@ pub fn flush_next<B: Block, W: NodeWriter>(
     requires file { IsFile file.old }
     requires room { node_entries file.old.shape ≤ length numbers.old }
     requires ready { (n : TreeNode) → n.dirty ≡ true → IsAmong (weight_of file.old) n → W.ready writer.old n }
-    ensures wrote { IfOk result (λ found. found ≡ true → (n : TreeNode) × (token : Entry)
+    ensures wrote { IfOk result (λ found. found ≡ true → (n : TreeNode) × (token : TakenNumber)
         × WritesOne (weight_of file.old) (weight_of file.new) n token × W.wrote writer.old n token writer.new) }
     ensures clean { IfOk result (λ found. found ≡ false → (from.old ≡ 0 → weight_of file.old each_marked ≡ 0) × (file.new ≡ file.old) × (writer.new ≡ writer.old)) }
     ensures refused { IfErr result (λ e. (file.new ≡ file.old) × (n : TreeNode) × (n.dirty ≡ true)
@@ -132,7 +132,7 @@ fn flush_below<B: Block, W: NodeWriter>(
     requires file { IsFile file.old }
     requires room { node_entries file.old.shape ≤ length numbers.old }
     requires ready { (n : TreeNode) → n.dirty ≡ true → IsAmong (below_weight file.old) n → W.ready writer.old n }
-    ensures wrote { IfOk result (λ found. found ≡ true → (n : TreeNode) × (token : Entry)
+    ensures wrote { IfOk result (λ found. found ≡ true → (n : TreeNode) × (token : TakenNumber)
         × WritesOne (below_weight file.old) (below_weight file.new) n token × W.wrote writer.old n token writer.new) }
     ensures clean { IfOk result (λ found. found ≡ false → (from.old ≡ 0 → below_weight file.old each_marked ≡ 0) × (file.new ≡ file.old) × (writer.new ≡ writer.old)) }
     ensures refused { IfErr result (λ e. (file.new ≡ file.old) × (n : TreeNode) × (n.dirty ≡ true)

@@ -1,6 +1,6 @@
 //! Who writes the block of a node.
 ghost use Rattle.std.specs.Prelude.{◌≡◌, OnOk, OnErr, IfErr};
-ghost use Rattle.rights_books.specs.declared.claim.Entry.{Entry};
+ghost use Rattle.rights_books.specs.declared.claim.TakenNumber.{TakenNumber};
 ghost use Rattle.geometry.specs.declared.error.Error.{Error as Reason};
 ghost use Rattle.nodes.specs.Change.{TreeNode};
 ghost use Rattle.nodes_walks.specs.Writing.{marked_node};
@@ -29,7 +29,7 @@ pub struct NodeBlock<'a> {
 pub trait NodeWriter {
     ghost ready: { Self → TreeNode → Type 0 };
 
-    ghost wrote: { Self → TreeNode → Entry → Self → Type 0 };
+    ghost wrote: { Self → TreeNode → TakenNumber → Self → Type 0 };
 
     ghost refused: { Self → TreeNode → Reason → Self → Type 0 };
 

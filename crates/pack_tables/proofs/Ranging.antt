@@ -7,7 +7,7 @@ use Rattle.geometry.specs.declared.shape.Shape.{Shape}
 use Rattle.geometry.specs.declared.shape.Shape.TheVariants.{Tiny, Kernel}
 use Rattle.geometry.specs.declared.geometry.Geometry.{Geometry}
 use Rattle.geometry.specs.Shape.{segment_blocks}
-use Rattle.image.specs.declared.image.Place.{Place}
+use Rattle.image.specs.declared.image.LogHead.{LogHead}
 use Rattle.image.specs.Image.{Image}
 use Rattle.image.specs.Node.{Node}
 use Rattle.image.specs.Rules.{IsInRange, IsPlace}
@@ -21,7 +21,7 @@ offset_small : (shape : Shape) (offset : ℕ) → offset < segment_blocks shape 
 offset_small Tiny offset below = omega arith
 offset_small Kernel offset below = omega arith
 
-place_small : (geometry : Geometry) (log : Option Place) → IfSome log (IsPlace geometry) → IfSome log IsPlaceRow
+place_small : (geometry : Geometry) (log : Option LogHead) → IfSome log (IsPlace geometry) → IfSome log IsPlaceRow
 place_small geometry None is = is
 place_small geometry (Some place) is =
     let few = geometry.limits.segments_fit in

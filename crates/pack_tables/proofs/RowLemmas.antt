@@ -13,7 +13,7 @@ use Rattle.geometry.specs.declared.shape.Shape.TheVariants.{Tiny, Kernel}
 use Rattle.geometry.specs.declared.owner.Summary.{Summary}
 use Rattle.geometry.specs.Shape.{segment_blocks}
 use Rattle.image.specs.declared.image.NodeEntry.{NodeEntry}
-use Rattle.image.specs.declared.image.Place.{Place}
+use Rattle.image.specs.declared.image.LogHead.{LogHead}
 use Rattle.image.specs.Image.{SegmentInfo}
 use Rattle.image.specs.Node.{numbers}
 use Rattle.image.specs.Pack.{log_bytes, entry_bytes, segment_bytes, summary_bytes, bits_number, bitmap}
@@ -57,12 +57,12 @@ pair_there front rest a b p q =
     two (suc zero) d below = q
     two (suc (suc k)) d below = absurd (omega arith)
 
-place_item : List ℕ → ℕ → Option Place
+place_item : List ℕ → ℕ → Option LogHead
 place_item body place =
     if eqb (number_at body place) (2 ^ 32 - 1) then None
     else Some (record { segment = number_at body place; next = number_at body (place + 4) })
 
-place_there : (front rest : List ℕ) (log : Option Place) → IfSome log IsPlaceRow → place_item (front ++ (log_bytes log ++ rest)) (length front) ≡ log
+place_there : (front rest : List ℕ) (log : Option LogHead) → IfSome log IsPlaceRow → place_item (front ++ (log_bytes log ++ rest)) (length front) ≡ log
 unfolding place_item
 place_there front rest None fits = rw ((pair_there front rest (2 ^ 32 - 1) 0 (omega arith) (omega arith)).0) refl
 place_there front rest (Some place) fits =
@@ -71,7 +71,7 @@ place_there front rest (Some place) fits =
     let other : eqb place.segment (2 ^ 32 - 1) ≡ false = ne_eqb place.segment (2 ^ 32 - 1) (λ e. omega arith) in
     rw (p.0, p.1, other) refl
 
-pub places_there : (front rest : List ℕ) (logs : List (Option Place)) → All (λ log. IfSome log IsPlaceRow) logs
+pub places_there : (front rest : List ℕ) (logs : List (Option LogHead)) → All (λ log. IfSome log IsPlaceRow) logs
     → read_places (front ++ (flat_map log_bytes logs ++ rest)) (length front) (length logs) ≡ logs
 unfolding place_item
 places_there =

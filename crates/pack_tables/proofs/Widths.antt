@@ -6,12 +6,12 @@ use Rattle.geometry.specs.declared.shape.Shape.{Shape}
 use Rattle.geometry.specs.declared.owner.Summary.{Summary}
 use Rattle.geometry.specs.Shape.{segment_blocks}
 use Rattle.image.specs.declared.image.NodeEntry.{NodeEntry}
-use Rattle.image.specs.declared.image.Place.{Place}
+use Rattle.image.specs.declared.image.LogHead.{LogHead}
 use Rattle.image.specs.Image.{SegmentInfo}
 use Rattle.image.specs.Pack.{log_bytes, entry_bytes, segment_bytes, summary_bytes}
 use Rattle.pack_tables.proofs.Bits.{length-bitmap}
 
-pub log_long : (log : Option Place) → length (log_bytes log) ≡ 8
+pub log_long : (log : Option LogHead) → length (log_bytes log) ≡ 8
 log_long None = refl
 log_long (Some place) = refl
 

@@ -6,7 +6,7 @@ use Rattle.geometry.specs.declared.owner.Summary.{Summary}
 use Rattle.geometry.specs.Shape.{segment_blocks}
 use Rattle.geometry.specs.Area.{block_count}
 use Rattle.image.specs.declared.image.NodeEntry.{NodeEntry}
-use Rattle.image.specs.declared.image.Place.{Place}
+use Rattle.image.specs.declared.image.LogHead.{LogHead}
 use Rattle.image.specs.Image.{Image, SegmentInfo}
 use Rattle.image.specs.Pack.{superblock, pack_body}
 
@@ -16,7 +16,7 @@ abbrev pub HasSuper : Geometry → List ℕ → Type 0
 HasSuper geometry bytes = (64 ≤ length bytes) × (take 32 bytes ≡ take 32 (superblock geometry))
 
 -- the largest number stands for no segment
-abbrev pub IsPlaceRow : Place → Type 0
+abbrev pub IsPlaceRow : LogHead → Type 0
 IsPlaceRow place = (place.segment < 2 ^ 32 - 1) × (place.next < 2 ^ 32)
 
 -- an inode number and an address, or neither

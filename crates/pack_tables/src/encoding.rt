@@ -14,7 +14,7 @@ ghost use Rattle.pack_tables.specs.Grammar.{HasSmallNumbers, IsSummaryRow, Spell
 use crate::rows::NO_SEGMENT;
 use byteorder::{ByteOrder, LittleEndian};
 use geometry::{Error, Geometry, Shape, Summary};
-use image::{Image, NodeEntry, Place, SegmentInfo};
+use image::{Image, LogHead, NodeEntry, SegmentInfo};
 use std::alloc::{AllocError, Global};
 
 // So many rows of two numbers are spelled before they are added.
@@ -108,7 +108,7 @@ fn push_pair(out: &mut Vec<u8>, first: u32, second: u32) -> Result<(), AllocErro
     out.extend_from_slice(&row)
 }
 
-fn push_logs(out: &mut Vec<u8>, logs: &[Option<Place>]) -> Result<(), AllocError>
+fn push_logs(out: &mut Vec<u8>, logs: &[Option<LogHead>]) -> Result<(), AllocError>
     ensures { OnOk result (out.new.items ≡ out.old.items ++ flat_map log_bytes logs.now) }
 {
     for log in logs {
@@ -207,7 +207,7 @@ pub fn spell_head(
     out: &mut Vec<u8>,
     version: u32,
     total: u32,
-    logs: &[Option<Place>],
+    logs: &[Option<LogHead>],
 ) -> Result<(), AllocError>
     ensures added { OnOk result (out.new.items ≡ (out.old.items ++ numbers (version ∷ total ∷ [])) ++ flat_map log_bytes logs.now) }
     ensures small { OnOk result ((version < 2 ^ 32) × (total < 2 ^ 32)) }

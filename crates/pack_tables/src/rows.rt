@@ -10,7 +10,7 @@ ghost use Rattle.pack_tables.specs.Rows.{AreRows, AreNoRows};
 
 use byteorder::{ByteOrder, LittleEndian};
 use geometry::{Shape, Summary};
-use image::{NodeEntry, Place, SegmentInfo};
+use image::{LogHead, NodeEntry, SegmentInfo};
 use std::alloc::{AllocError, Global};
 
 // The bytes of a row of two numbers.
@@ -38,7 +38,7 @@ fn is_log(segment: u32, next: u32) -> bool
 }
 
 // The place that these two numbers spell.
-fn place_of(segment: u32, next: u32) -> Option<Place>
+fn place_of(segment: u32, next: u32) -> Option<LogHead>
     requires { segment ≡ 2 ^ 32 - 1 → next ≡ 0 }
     ensures fits { IfSome result IsPlaceRow }
     ensures bytes { log_bytes result ≡ numbers (segment ∷ next ∷ []) }
@@ -46,7 +46,7 @@ fn place_of(segment: u32, next: u32) -> Option<Place>
     if segment == NO_SEGMENT {
         None
     } else {
-        Some(Place { segment, next })
+        Some(LogHead { segment, next })
     }
 }
 
@@ -55,7 +55,7 @@ pub fn decode_logs(
     alloc: Global,
     count: usize,
     bytes: &[u8],
-) -> Result<Option<Vec<Option<Place>>>, AllocError>
+) -> Result<Option<Vec<Option<LogHead>>>, AllocError>
     requires { length bytes.now ≡ 8 * count }
     ensures { IfOk result (λ found. MatchOption found (AreNoRows log_bytes (λ log. IfSome log IsPlaceRow) count bytes.now)
         (λ logs. AreRows log_bytes (λ log. IfSome log IsPlaceRow) count bytes.now logs.items)) }

@@ -8,9 +8,7 @@ ghost use Rattle.pack_tables.specs.Grammar.{HasSuper};
 ghost use Rattle.pack_tables.specs.Fields.{HasNumbers};
 
 use byteorder::{ByteOrder, LittleEndian};
-use geometry::{Error, Geometry, Packing, Shape};
-
-const SUPER_BYTES: usize = 64;
+use geometry::{Error, Geometry, Packing, SUPER_BYTES, Shape};
 
 // The bytes of the superblock that tell the geometry. The maps of the two slots follow.
 const FRONT_BYTES: usize = 32;

@@ -18,7 +18,7 @@ use Rattle.packs.proofs.Apart.{footer_map}
 use Rattle.packs.proofs.Gathering.{assembled_version}
 use Rattle.packs.proofs.Sizes.{is_more, front_fits}
 use Rattle.packs.proofs.Keeping.{slots_torn_footer}
-use Rattle.packs_journal.specs.Places.{head_at, footer_at as foot_at, page_at, page_size}
+use Rattle.packs_journal.specs.Places.{head_at, footer_at as foot_at, page_at, page_size, head_bytes}
 use Rattle.packs_journal.specs.Journal.{map_of, copy_in, is_head}
 use Rattle.packs_journal.specs.Reading.{head_in, rest_by, assembled as paged}
 use Rattle.packs_journal.specs.Staging.{body_page}
@@ -41,7 +41,7 @@ footer_is Slots g slot area = refl
 footer_is Pages g slot area = refl
 
 -- in pages a footer lies behind its head, and before the pages
-heads_apart : (a b : ℕ) → a ≤ 1 → b ≤ 1 → (head_at a + 3584 ≤ foot_at b) ⊎ (foot_at b + 4 ≤ head_at a)
+heads_apart : (a b : ℕ) → a ≤ 1 → b ≤ 1 → (head_at a + head_bytes ≤ foot_at b) ⊎ (foot_at b + 4 ≤ head_at a)
 heads_apart zero zero le le' = inl (omega arith)
 heads_apart zero (suc zero) le le' = inl (omega arith)
 heads_apart (suc zero) zero le le' = inr (omega arith)
@@ -52,7 +52,7 @@ heads_apart (suc zero) (suc (suc b)) le le' = absurd (omega (arith, le'))
 
 body_stays : (len a b : ℕ) (c d : List ℕ) → a ≤ 1 → b ≤ 1 → Torn (foot_at b) 4 c d → paged len a d ≡ paged len a c
 body_stays len a b c d le le' torn =
-    assembled_same len a c d (apart_same (foot_at b) 4 (head_at a) 3584 c d (heads_apart a b le le') torn)
+    assembled_same len a c d (apart_same (foot_at b) 4 (head_at a) head_bytes c d (heads_apart a b le le') torn)
     (λ is. gathered_same len (map_of (head_in a c)) _ c d (λ k below. apart_same (foot_at b) 4 (page_at k (copy_in (map_of (head_in a c)) k)) (page_size len k) c d (inr (omega (arith, le'))) torn))
 
 pages_torn_footer : (g : Geometry) (slot : ℕ) (old new : List ℕ) → slot ≤ 1 → Torn (foot_at (1 - slot)) 4 old new → SameButFooter (pages_reading g) slot old new
@@ -76,7 +76,7 @@ pub footer_known : (g : Geometry) (slot other : ℕ) (known : Known) (c d : List
 footer_known g slot other known c d le le' torn has = record {
   map = λ is. ap (read_map g) (footer_map g slot other c d le (subst (λ p. Torn (footer_by p (body_bytes g) other) 4 c d) is torn)) ∙ has.map is;
   pages = λ is head.
-      let same = apart_same (foot_at other) 4 (head_at slot) 3584 c d (heads_apart slot other le le') (subst (λ p. Torn (footer_by p (body_bytes g) other) 4 c d) is torn) in
+      let same = apart_same (foot_at other) 4 (head_at slot) head_bytes c d (heads_apart slot other le le') (subst (λ p. Torn (footer_by p (body_bytes g) other) 4 c d) is torn) in
       ap map_of same ∙ has.pages is (ap (is_head (body_bytes g)) (sym same) ∙ head);
   names = has.names;
   noted = λ is k below out.
@@ -86,15 +86,15 @@ footer_known g slot other known c d le le' torn has = record {
 }
 
 -- a pack begins with its version
-paged_version : (len slot : ℕ) (area : List ℕ) → head_at slot + 3584 ≤ length area → version_of (paged len slot area) ≡ little_number 4 (part (head_at slot) 4 area)
+paged_version : (len slot : ℕ) (area : List ℕ) → head_at slot + head_bytes ≤ length area → version_of (paged len slot area) ≡ little_number 4 (part (head_at slot) 4 area)
 unfolding version_of paged
 paged_version len slot area fits =
     let head = head_in slot area in
-    let whole : length head ≡ 3584 = part_long (head_at slot) 3584 area fits in
+    let whole : length head ≡ head_bytes = part_long (head_at slot) head_bytes area fits in
     let front : length (take 56 head) ≡ 56 = length-take-le 56 head (omega (arith, whole)) in
     little_from-append 4 (take 56 head) (rest_by len head area) (omega (arith, front))
     ∙ little_from-take 0 4 56 head (omega arith)
-    ∙ little_from-take 0 4 3584 (drop (head_at slot) area) (omega arith)
+    ∙ little_from-take 0 4 head_bytes (drop (head_at slot) area) (omega arith)
     ∙ sym (little_from-take 0 4 4 (drop (head_at slot) area) (omega arith))
 
 pub header_is : (packing : Packing) (g : Geometry) (slot : ℕ) (area : List ℕ) → slot ≤ 1 → area_of packing (pack_bytes g) ≤ length area

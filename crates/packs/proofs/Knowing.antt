@@ -8,7 +8,7 @@ use Rattle.packs.specs.Pack.{Reading}
 use Rattle.packs.specs.Parts.{body_bytes, map_in}
 use Rattle.packs.specs.Area.{slots_reading, pages_reading, reading_by, reading_of}
 use Rattle.packs.specs.Device.{IsKnown}
-use Rattle.packs_journal.specs.Places.{page_count}
+use Rattle.packs_journal.specs.Places.{page_count, map_pages}
 use Rattle.packs_journal.specs.Journal.{names_pages}
 use Rattle.packs_journal.specs.Reading.{assembled as paged}
 use Rattle.packs_journal.specs.Staging.{IsMapOf}
@@ -24,7 +24,7 @@ pub of_pages : (g : Geometry) → g.packing ≡ Pages → reading_of g ≡ pages
 of_pages g is = ap (λ p. reading_by p g) is
 
 -- no page is out of a set of all
-pub none_out : (g : Geometry) (pages : PageSet) → ((k : ℕ) → k < 4352 → has_page pages k ≡ true) → (k : ℕ) → k < page_count (body_bytes g) → has_page pages k ≡ false → ⊥
+pub none_out : (g : Geometry) (pages : PageSet) → ((k : ℕ) → k < map_pages → has_page pages k ≡ true) → (k : ℕ) → k < page_count (body_bytes g) → has_page pages k ≡ false → ⊥
 none_out g pages all k below out = let few = (is_body g).mapped in true≢false (sym (all k (omega (arith, below, few))) ∙ out)
 
 module _ (g : Geometry) (slot : ℕ) (known : Known) (area : List ℕ) where
@@ -38,7 +38,7 @@ module _ (g : Geometry) (slot : ℕ) (known : Known) (area : List ℕ) where
       apart Slots is other = cc
       apart Pages is other = cc
 
-  pub known_pages : g.packing ≡ Pages → IsMapOf (body_bytes g) slot known.pages.map area → names_pages (page_count (body_bytes g)) known.pages.map 4352 ≡ true
+  pub known_pages : g.packing ≡ Pages → IsMapOf (body_bytes g) slot known.pages.map area → names_pages (page_count (body_bytes g)) known.pages.map map_pages ≡ true
       → DiffersIn known.pages.noted (body_bytes g) known.pages.map (paged (body_bytes g) slot area) area → IsKnown g slot known area
   known_pages is map names noted = record { map = λ other. absurd (apart g.packing is other); pages = λ _. map; names = λ _. names; noted = λ _. noted }
     where

@@ -16,7 +16,7 @@ use Rattle.packs.proofs.Crash.{settled_staging}
 use Rattle.packs.proofs.Fronts.{kept_alone}
 use Rattle.packs.proofs.Keeping.{area_joined}
 use Rattle.packs.proofs.Knowing.{known_pages}
-use Rattle.packs_journal.specs.Places.{page_count}
+use Rattle.packs_journal.specs.Places.{page_count, map_pages}
 use Rattle.packs_journal.specs.Journal.{map_of, names_pages, is_head}
 use Rattle.packs_journal.specs.Reading.{head_in, assembled as paged}
 use Rattle.packs_journal.specs.Staging.{IsMapOf, IsBeside, IsBesideOne}
@@ -53,7 +53,7 @@ module _ {D : Type 0} (seen : D → List ℕ) (may_leave : D → List ℕ → Ty
   pub known_map : Leaves may_leave packs.meta (IsMapOf (body_bytes packs.geometry) (slot_of packs.version) packs.known.pages.map)
   known_map c left = (settled.known c left).pages pages
 
-  pub known_names : names_pages (page_count (body_bytes packs.geometry)) packs.known.pages.map 4352 ≡ true
+  pub known_names : names_pages (page_count (body_bytes packs.geometry)) packs.known.pages.map map_pages ≡ true
   known_names = (settled.known (seen packs.meta) (seen_is_left packs.meta)).names pages
 
   -- and so are the pages in which the body that counts may differ
@@ -64,7 +64,7 @@ module _ {D : Type 0} (seen : D → List ℕ) (may_leave : D → List ℕ → Ty
   paged_moments after run = weaker moment left_since packs.meta after (IsBesideOne may_leave (body_bytes packs.geometry) (slot_of packs.version) packs.meta) S (λ d is. kept_beside is.0 d (settled.left is.0 is.1) is.2) run
 
   pub paged_staged : (after : D) (body : List ℕ) (next : Known) → IsBeside (body_bytes packs.geometry) (slot_of packs.version) (seen packs.meta) (seen after) → Only (seen after) (may_leave after)
-      → paged (body_bytes packs.geometry) (1 - slot_of packs.version) (seen after) ≡ body → map_of (head_in (1 - slot_of packs.version) (seen after)) ≡ next.pages.map → names_pages (page_count (body_bytes packs.geometry)) next.pages.map 4352 ≡ true
+      → paged (body_bytes packs.geometry) (1 - slot_of packs.version) (seen after) ≡ body → map_of (head_in (1 - slot_of packs.version) (seen after)) ≡ next.pages.map → names_pages (page_count (body_bytes packs.geometry)) next.pages.map map_pages ≡ true
       → DiffersIn next.pages.noted (body_bytes packs.geometry) next.pages.map body (seen after) → AreStaged (pages_reading packs.geometry) seen may_leave (record packs { meta = after }) old body next
   paged_staged after body next beside only is mapped named noted =
       let here = kept_beside (seen packs.meta) (seen after) (settled.left (seen packs.meta) (seen_is_left packs.meta)) beside in

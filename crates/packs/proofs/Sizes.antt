@@ -24,15 +24,19 @@ is_slots geometry area slots long =
     let whole : length area ≡ 64 + 2 * pack_bytes geometry = long ∙ ap (λ p. area_of p (pack_bytes geometry)) slots in
     record { header = omega arith; long = omega (arith, whole); fits = omega (arith, small) }
 
+-- the bytes of a pack of the largest volume: 4,300 pages and 60 more
+abbrev largest_pack : ℕ
+largest_pack = 17612860
+
 -- the pages of a pack are no more than a map has bits
 pages_with : (shape : Shape) (segments nodes : ℕ) → segments ≤ 4096 → nodes ≤ 65536
-    → 60 + 8 * nodes + segments * (12 + segment_blocks shape / 8) + 8 * segments * segment_blocks shape ≤ 17612860
+    → 60 + 8 * nodes + segments * (12 + segment_blocks shape / 8) + 8 * segments * segment_blocks shape ≤ largest_pack
 pages_with Tiny segments nodes few fewer = omega arith
 pages_with Kernel segments nodes few fewer = omega arith
 
 pub is_body : (geometry : Geometry) → IsBody (body_bytes geometry)
 is_body geometry =
-    let small : pack_bytes geometry ≤ 17612860 = pages_with geometry.shape geometry.segments geometry.nodes geometry.limits.segments_fit geometry.limits.nodes_fit in
+    let small : pack_bytes geometry ≤ largest_pack = pages_with geometry.shape geometry.segments geometry.nodes geometry.limits.segments_fit geometry.limits.nodes_fit in
     let some = geometry.limits.a_file in
     let more = geometry.limits.inodes in
     record { header = omega (arith, some, more); mapped = omega (arith, small) }

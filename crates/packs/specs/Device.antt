@@ -12,7 +12,7 @@ use Rattle.packs.specs.declared.map.Map.{Map}
 use Rattle.packs.specs.declared.packs.Known.{Known}
 use Rattle.geometry.specs.Area.{meta_bytes}
 use Rattle.geometry.specs.declared.packing.Packing.TheVariants.{Slots, Pages}
-use Rattle.packs_journal.specs.Places.{page_count}
+use Rattle.packs_journal.specs.Places.{page_count, map_pages}
 use Rattle.packs_journal.specs.Journal.{map_of, names_pages, is_head}
 use Rattle.packs_journal.specs.Reading.{head_in, assembled}
 use Rattle.packs_journal.specs.Pages.{DiffersIn}
@@ -44,7 +44,7 @@ pub record KeepsArea (area : List ℕ) (P : List ℕ → Type 0) (c : List ℕ) 
 pub record IsKnown (geometry : Geometry) (slot : ℕ) (known : Known) (area : List ℕ) : Type 0 where
   pub map : geometry.packing ≡ Slots → map_in geometry slot area ≡ known.map
   pub pages : geometry.packing ≡ Pages → is_head (body_bytes geometry) (head_in slot area) ≡ true → map_of (head_in slot area) ≡ known.pages.map
-  pub names : geometry.packing ≡ Pages → names_pages (page_count (body_bytes geometry)) known.pages.map 4352 ≡ true
+  pub names : geometry.packing ≡ Pages → names_pages (page_count (body_bytes geometry)) known.pages.map map_pages ≡ true
   pub noted : geometry.packing ≡ Pages → DiffersIn known.pages.noted (body_bytes geometry) known.pages.map (assembled (body_bytes geometry) slot area) area
 
 -- in slots, old stands whole in an area like start, and this map in a slot

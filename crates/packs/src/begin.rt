@@ -9,10 +9,10 @@ ghost use Rattle.packs.specs.Parts.{body_bytes as bytes_of_body};
 ghost use Rattle.packs.specs.Device.{IsArea, IsSameArea, IsKnown, AreSettled, body_of};
 
 use crate::area::footer_at;
-use crate::{Known, Packs, Stored};
+use crate::{Known, Packs, WrittenPack};
 use device::{DeviceError, Meta};
 use geometry::{Geometry, Packing};
-use packs_journal::{KnownPages, PageSet};
+use packs_journal::{HEAD_BYTES, KnownPages, PageSet};
 
 impl<M: Meta> Packs<M> {
     /// Writes version 1 into an area with any bytes in its slots. Answers DeviceError where the device failed, and hands
@@ -21,7 +21,7 @@ impl<M: Meta> Packs<M> {
         meta: M,
         geometry: &Geometry,
         body: &[u8],
-    ) -> Result<(Packs<M>, Stored<M>), (DeviceError, M)>
+    ) -> Result<(Packs<M>, WrittenPack<M>), (DeviceError, M)>
         requires area { length (M.seen meta) ≡ meta_bytes geometry.now }
         requires len { length body.now ≡ bytes_of_body geometry.now }
         requires first { version_of body.now ≡ 1 }
@@ -43,7 +43,7 @@ impl<M: Meta> Packs<M> {
         };
         match packs.write_first(body) {
             Ok(()) => {
-                let stored = Stored::of(&packs);
+                let stored = WrittenPack::of(&packs);
                 Ok((packs, stored))
             }
             Err(error) => Err((error, packs.meta)),
@@ -123,7 +123,8 @@ impl<M: Meta> Packs<M> {
         ensures cause { HasCause (M.failed self.old.meta) (M.failed self.new.meta) result }
     {
         // A head of zeros names the first copies.
-        self.meta.write(packs_journal::head_at(0), &[0; 3584])?;
+        self.meta
+            .write(packs_journal::head_at(0), &[0; HEAD_BYTES])?;
         self.meta.sync()?;
         let mut pages = KnownPages::nothing();
         packs_journal::stage(&mut self.meta, 0, &mut pages, &PageSet::all(), body)?;

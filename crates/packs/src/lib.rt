@@ -26,4 +26,4 @@ pub use map::Map;
 pub use packs::{Known, Packs};
 pub use packs_journal::PageSet;
 pub use reading::assemble;
-pub use stored::Stored;
+pub use stored::WrittenPack;

@@ -1,5 +1,6 @@
 //! A pack is written where the picked one does not lie: all but its footer is settled before its footer is touched.
 ghost use Rattle.std.specs.Prelude.{◌≡◌, ◌<◌, ◌+◌, ℕ, [], ◌∷◌, None, true, replicate, length, OnOk, IfOk};
+ghost use Rattle.packs_journal.specs.Places.{map_bytes, map_pages};
 ghost use Rattle.device.specs.Disk.{LeavesOnly, IsQuiet, HasCause};
 ghost use Rattle.image.specs.Slots.{version_of};
 ghost use Rattle.packs.specs.Pack.{IsSettled, Between};
@@ -9,7 +10,7 @@ ghost use Rattle.packs.specs.Parts.{body_bytes as bytes_of_body, format_of, newe
 ghost use Rattle.packs.specs.Device.{IsSameArea, KeepsArea, AreSettled, AreStaged, body_of, staged_in};
 ghost use Rattle.packs_journal.specs.Pages.{has_page, ChangesIn};
 
-use crate::Stored;
+use crate::WrittenPack;
 use crate::area::footer_at;
 use crate::map::Map;
 use byteorder::{ByteOrder, LittleEndian};
@@ -42,8 +43,8 @@ impl Known {
     /// Nothing.
     pub(crate) fn nothing() -> Known
         ensures map { result.map ≡ None }
-        ensures pages { result.pages.map ≡ replicate 544 0 }
-        ensures noted { (k : ℕ) → k < 4352 → has_page result.pages.noted k ≡ true }
+        ensures pages { result.pages.map ≡ replicate map_bytes 0 }
+        ensures noted { (k : ℕ) → k < map_pages → has_page result.pages.noted k ≡ true }
     {
         Known {
             map: None,
@@ -74,7 +75,7 @@ impl<M: Meta> Packs<M> {
     ///
     /// Of packs in pages the body has to be that of the pack that counts in each page that is not touched; of the pages that are
     /// neither touched nor in the journal of that pack nothing is read. Of packs in slots `touched` is not looked at.
-    pub fn write(&mut self, body: &[u8], touched: &PageSet) -> Result<Stored<M>, DeviceError>
+    pub fn write(&mut self, body: &[u8], touched: &PageSet) -> Result<WrittenPack<M>, DeviceError>
         requires settled { let reading = reading_of self.old.geometry in
             AreSettled reading M.seen M.may_leave self.old (body_of reading M.seen self.old) }
         requires len { length body.now ≡ bytes_of_body self.old.geometry }
@@ -100,7 +101,7 @@ impl<M: Meta> Packs<M> {
         let version = LittleEndian::read_u32(body);
         let known = self.stage(body, touched)?;
         self.commit(version, known)?;
-        Ok(Stored::of(self))
+        Ok(WrittenPack::of(self))
     }
 
     // Settles a body as the other pack, and tells what is known of it. Both footers stay, and so does the picked pack.

@@ -5,7 +5,7 @@ ghost use Rattle.packs.specs.Device.{AreSettled, body_of};
 
 use crate::Packs;
 use device::Meta;
-use device::log::Log;
+use device::log::History;
 
 /// Shows that a pack was settled, and in which area: only an Ok of `Packs::write` or `Packs::begin` makes one. It takes
 /// no memory.
@@ -13,19 +13,19 @@ use device::log::Log;
 /// A clause reads `stored.shown.items`: one entry, with the packs as they were right after the write, and the version.
 /// At that moment every crash left them settled, with the body that was written.
 #[derive(Drop)]
-pub struct Stored<M: Meta> {
-    shown: Log<Packs<M>, u32>,
+pub struct WrittenPack<M: Meta> {
+    shown: History<Packs<M>, u32>,
     ghost settled: { All (λ entry. AreSettled (reading_of entry.0.geometry) M.seen M.may_leave entry.0
         (body_of (reading_of entry.0.geometry) M.seen entry.0)) shown.items },
 }
 
-impl<M: Meta> Stored<M> {
-    pub(crate) fn of(packs: &Packs<M>) -> Stored<M>
+impl<M: Meta> WrittenPack<M> {
+    pub(crate) fn of(packs: &Packs<M>) -> WrittenPack<M>
         requires { AreSettled (reading_of packs.now.geometry) M.seen M.may_leave packs.now
             (body_of (reading_of packs.now.geometry) M.seen packs.now) }
         ensures { result.shown.items ≡ (packs.now, packs.now.version) ∷ [] }
     {
-        let shown = Log::new().and(packs, &packs.version);
-        Stored { shown }
+        let shown = History::new().and(packs, &packs.version);
+        WrittenPack { shown }
     }
 }

@@ -8,7 +8,7 @@ use Rattle.device.specs.Disk.{part, Torn, Follows, Elapses, IsQuiet, LeavesOnly,
 use Rattle.device.proofs.Ranges.{torn_before, torn_after, torn_front}
 use Rattle.device.proofs.Moments.{started, joined, weaker, quiet_moments, torn_moments}
 use Rattle.image.specs.Reading.{number_at}
-use Rattle.packs_journal.specs.Places.{head_at, footer_at, page_count, page_at, page_size}
+use Rattle.packs_journal.specs.Places.{head_at, footer_at, page_count, page_at, page_size, head_bytes}
 use Rattle.packs_journal.specs.Journal.{map_of, changes_of, copy_in, patched, is_head}
 use Rattle.packs_journal.specs.Reading.{head_in, gathered, rest_by, assembled}
 use Rattle.packs_journal.specs.Staging.{IsMapOf, IsBeside, IsBesideOne}
@@ -54,12 +54,12 @@ pub map_beside : (len slot : ℕ) (map c d : List ℕ) → IsMapOf len slot map 
 map_beside len slot map c d is beside has = ap map_of beside.head ∙ is (ap (is_head len) (sym beside.head) ∙ has)
 
 -- a write that reaches none of these
-pub beside_by : (len slot at n : ℕ) (c d : List ℕ) → 4096 ≤ at → (head_at slot + 3584 ≤ at) ⊎ (at + n ≤ head_at slot) → ((s : ℕ) → s < 2 → (footer_at s + 4 ≤ at) ⊎ (at + n ≤ footer_at s))
+pub beside_by : (len slot at n : ℕ) (c d : List ℕ) → 4096 ≤ at → (head_at slot + head_bytes ≤ at) ⊎ (at + n ≤ head_at slot) → ((s : ℕ) → s < 2 → (footer_at s + 4 ≤ at) ⊎ (at + n ≤ footer_at s))
     → (is_head len (head_in slot c) ≡ true → (k : ℕ) → k < page_count len
     → (page_at k (copy_in (map_of (head_in slot c)) k) + page_size len k ≤ at) ⊎ (at + n ≤ page_at k (copy_in (map_of (head_in slot c)) k)))
     → Torn at n c d → IsBeside len slot c d
 beside_by len slot at n c d behind head footers pages torn =
-    let same = apart_same at n (head_at slot) 3584 c d head torn in
+    let same = apart_same at n (head_at slot) head_bytes c d head torn in
     record {
       long = torn.long;
       front = torn_front at n 4096 c d behind torn;
@@ -98,17 +98,17 @@ page_beside len slot k copy n map c d le one few other is torn =
     torn
 
 -- a write of the other slot's head
-pub head_beside : (len slot n : ℕ) (c d : List ℕ) → slot ≤ 1 → n ≤ 3584 → Torn (head_at (1 - slot)) n c d → IsBeside len slot c d
+pub head_beside : (len slot n : ℕ) (c d : List ℕ) → slot ≤ 1 → n ≤ head_bytes → Torn (head_at (1 - slot)) n c d → IsBeside len slot c d
 head_beside len slot n c d le few torn =
     beside_by len slot (head_at (1 - slot)) n c d (omega arith) (heads slot n le few) (λ s below. footers s slot n below le few)
     (λ has k below. inr (pages slot n k (copy_in (map_of (head_in slot c)) k) le few)) torn
   where
-    heads : (slot n : ℕ) → slot ≤ 1 → n ≤ 3584 → (head_at slot + 3584 ≤ head_at (1 - slot)) ⊎ (head_at (1 - slot) + n ≤ head_at slot)
+    heads : (slot n : ℕ) → slot ≤ 1 → n ≤ head_bytes → (head_at slot + head_bytes ≤ head_at (1 - slot)) ⊎ (head_at (1 - slot) + n ≤ head_at slot)
     heads zero n le few = inl (omega arith)
     heads (suc zero) n le few = inr (omega (arith, few))
     heads (suc (suc slot)) n le few = absurd (omega (arith, le))
 
-    footers : (s slot n : ℕ) → s < 2 → slot ≤ 1 → n ≤ 3584 → (footer_at s + 4 ≤ head_at (1 - slot)) ⊎ (head_at (1 - slot) + n ≤ footer_at s)
+    footers : (s slot n : ℕ) → s < 2 → slot ≤ 1 → n ≤ head_bytes → (footer_at s + 4 ≤ head_at (1 - slot)) ⊎ (head_at (1 - slot) + n ≤ footer_at s)
     footers zero zero n below le few = inl (omega arith)
     footers zero (suc zero) n below le few = inr (omega (arith, few))
     footers (suc zero) zero n below le few = inr (omega (arith, few))
@@ -117,7 +117,7 @@ head_beside len slot n c d le few torn =
     footers zero (suc (suc slot)) n below le few = absurd (omega (arith, le))
     footers (suc zero) (suc (suc slot)) n below le few = absurd (omega (arith, le))
 
-    pages : (slot n k a : ℕ) → slot ≤ 1 → n ≤ 3584 → head_at (1 - slot) + n ≤ page_at k a
+    pages : (slot n k a : ℕ) → slot ≤ 1 → n ≤ head_bytes → head_at (1 - slot) + n ≤ page_at k a
     pages slot n k a le few = omega (arith, le, few)
 
 -- a call that changes no byte, and a write that leaves each outcome beside

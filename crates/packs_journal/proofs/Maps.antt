@@ -1,5 +1,6 @@
 -- The map is gone through bit by bit, and one bit is turned.
 use Rattle.std.proofs.Common.{◌≡◌, ◌≢◌, refl, sym, ◌∙◌, ap, ⊎_elim, ℕ, zero, suc, ◌+◌, ◌-◌, ◌*◌, ◌/◌, ◌%◌, ◌^◌, ◌<◌, ◌≤◌, Bool, true, false, List, length, get_or, set, replicate, arith}
+use Rattle.packs_journal.specs.Places.{map_bytes, map_pages}
 use Rattle.std.specs.Prelude.{◌&&◌, ◌||◌, ◌==◌, nat_lt}
 use Rattle.std.specs.Int.{bit_at}
 use Rattle.std.specs.Int.RustNames.{bit_xor}
@@ -54,19 +55,19 @@ module _ (pages : ℕ) (map : List ℕ) where
       is_zero n behind is = eqb-true (copy_in map n) 0 (ap (λ b. b || (copy_in map n == 0)) (sym (le-ltb n pages behind)) ∙ is)
 
 -- a map of zeros names the first copies
-pub zero_copy : (k : ℕ) → copy_in (replicate 544 0) k ≡ 0
+pub zero_copy : (k : ℕ) → copy_in (replicate map_bytes 0) k ≡ 0
 zero_copy k = ⊎_elim
-    (λ (less : k / 8 < 544). ap (λ (x : ℕ). bit_at x (k % 8)) (get_or-replicate 544 (k / 8) 0 0 less) ∙ bit_at-zero (k % 8))
-    (λ past. ap (λ (x : ℕ). bit_at x (k % 8)) (get_or_past (replicate 544 0) (k / 8) 0 (omega (arith, past))) ∙ bit_at-zero (k % 8))
-    (cases_lt (k / 8) 544)
+    (λ (less : k / 8 < map_bytes). ap (λ (x : ℕ). bit_at x (k % 8)) (get_or-replicate map_bytes (k / 8) 0 0 less) ∙ bit_at-zero (k % 8))
+    (λ past. ap (λ (x : ℕ). bit_at x (k % 8)) (get_or_past (replicate map_bytes 0) (k / 8) 0 (omega (arith, past))) ∙ bit_at-zero (k % 8))
+    (cases_lt (k / 8) map_bytes)
 
-pub zeros_named : (pages : ℕ) → names_pages pages (replicate 544 0) 4352 ≡ true
-zeros_named pages = named_by pages (replicate 544 0) 4352 (λ k less behind. zero_copy k)
+pub zeros_named : (pages : ℕ) → names_pages pages (replicate map_bytes 0) map_pages ≡ true
+zeros_named pages = named_by pages (replicate map_bytes 0) map_pages (λ k less behind. zero_copy k)
 
 -- where one page's bit is another
-pub named_turned : (pages k : ℕ) (old new : List ℕ) → k < pages → ((j : ℕ) → j ≢ k → copy_in new j ≡ copy_in old j) → names_pages pages old 4352 ≡ true → names_pages pages new 4352 ≡ true
+pub named_turned : (pages k : ℕ) (old new : List ℕ) → k < pages → ((j : ℕ) → j ≢ k → copy_in new j ≡ copy_in old j) → names_pages pages old map_pages ≡ true → names_pages pages new map_pages ≡ true
 named_turned pages k old new below others named =
-    named_by pages new 4352 (λ j less behind. others j (λ same. absurd (omega (arith, below, behind, same))) ∙ named_at pages old 4352 j named less behind)
+    named_by pages new map_pages (λ j less behind. others j (λ same. absurd (omega (arith, below, behind, same))) ∙ named_at pages old map_pages j named less behind)
 
 -- the number that has bit k of a byte
 pub one_bit : (k : ℕ) → 1 * 2 ^ (k % 8) % 256 ≡ 2 ^ (k % 8)

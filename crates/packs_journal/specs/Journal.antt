@@ -3,14 +3,14 @@ use Rattle.std.specs.Prelude.{◌≡◌, ◌≤◌, ◌<◌, ℕ, zero, suc, ◌
 use Rattle.std.specs.Int.{bit_at}
 use Rattle.device.specs.Disk.{part}
 use Rattle.image.specs.Reading.{number_at}
-use Rattle.packs_journal.specs.Places.{page_count, word_count}
+use Rattle.packs_journal.specs.Places.{page_count, word_count, changes_at, changes_bytes, map_bytes, map_pages, most_changes}
 
 -- the bytes of a head's map, and those of its journal; at 56 stands the number of the changes, and behind it are four zeros
 abbrev pub map_of : List ℕ → List ℕ
-map_of head = part 64 544 head
+map_of head = part 64 map_bytes head
 
 abbrev pub changes_of : List ℕ → List ℕ
-changes_of head = part 608 2976 head
+changes_of head = part changes_at changes_bytes head
 
 -- which copy of page k counts: bit k of the map, the lowest bit of each byte first
 abbrev pub copy_in : List ℕ → ℕ → ℕ
@@ -53,8 +53,8 @@ patched changes (suc n) bytes = with_word (place_of changes n) (word_of changes 
 unfoldable pub is_head : ℕ → List ℕ → Bool
 is_head len head =
     (number_at head 60 == 0)
-    && (not (nat_lt 248 (number_at head 56))
-    && (names_pages (page_count len) (map_of head) 4352
+    && (not (nat_lt most_changes (number_at head 56))
+    && (names_pages (page_count len) (map_of head) map_pages
     && rises (word_count len) (changes_of head) (number_at head 56)))
 
 -- the first n changes are of words that there are, each behind the one before, and the last one comes before word m

@@ -4,11 +4,11 @@ use Rattle.byteorder.specs.Endian.{little_number}
 use Rattle.device.specs.Disk.{part}
 use Rattle.image.specs.Reading.{number_at}
 use Rattle.image.specs.Slots.{Slot}
-use Rattle.packs_journal.specs.Places.{head_at, footer_at, page_count, page_at, page_size}
+use Rattle.packs_journal.specs.Places.{head_at, footer_at, page_count, page_at, page_size, head_bytes}
 use Rattle.packs_journal.specs.Journal.{map_of, changes_of, copy_in, patched, is_head}
 
 abbrev pub head_in : ℕ → List ℕ → List ℕ
-head_in slot area = part (head_at slot) 3584 area
+head_in slot area = part (head_at slot) head_bytes area
 
 -- the copy of page k that counts by a map
 abbrev pub page_in : ℕ → List ℕ → ℕ → List ℕ → List ℕ

@@ -1,7 +1,7 @@
 -- What a write of the next pack leaves of the pack that counts.
 use Rattle.std.specs.Prelude.{◌≡◌, ℕ, ◌+◌, ◌<◌, ◌≤◌, true, List, length, take}
 use Rattle.device.specs.Disk.{part, Leaves}
-use Rattle.packs_journal.specs.Places.{IsArea, page_count, page_start, page_size}
+use Rattle.packs_journal.specs.Places.{IsArea, page_count, page_start, page_size, map_pages}
 use Rattle.packs_journal.specs.Journal.{map_of, names_pages, is_head}
 use Rattle.packs_journal.specs.Reading.{head_in, assembled, footer_in}
 
@@ -15,7 +15,7 @@ pub record IsMapped {D : Type 0} (seen : D → List ℕ) (may_leave : D → List
   pub area : IsArea len (seen device)
   pub one : slot ≤ 1
   pub mapped : Leaves may_leave device (IsMapOf len slot map)
-  pub named : names_pages (page_count len) map 4352 ≡ true
+  pub named : names_pages (page_count len) map map_pages ≡ true
 
 -- Two areas that differ at most in what the pack of the other slot is made of: the front, the slot's head and body, and both
 -- footers are the same.

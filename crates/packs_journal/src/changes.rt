@@ -1,5 +1,6 @@
 //! The words of a body that have changed since its pages were written.
 ghost use Rattle.std.specs.Prelude.{◌≡◌, ◌≤◌, ◌<◌, ◌+◌, ◌*◌, true, false, length, take};
+ghost use Rattle.packs_journal.specs.Places.{changes_bytes, most_changes};
 ghost use Rattle.packs_journal.specs.Journal.{place_of as place_in, word_of, rises as rises_in, patched, with_word};
 
 use crate::bytes::{put_bytes, put_number};
@@ -43,21 +44,21 @@ impl Changes {
     /// All bytes of the changes, and those that are not used.
     pub(crate) fn bytes(&self) -> &[u8]
         ensures bytes { result.now ≡ self.now.bytes }
-        ensures long { length result.now ≡ 2976 }
+        ensures long { length result.now ≡ changes_bytes }
     {
         &self.bytes
     }
 
     /// Notes a word, or its first bytes where the body ends in it. Answers false where there is no room.
     pub(crate) fn note(&mut self, place: u32, word: &[u8]) -> bool
-        requires few { self.old.count ≤ 248 }
+        requires few { self.old.count ≤ most_changes }
         requires word { length word.now ≤ 8 }
         ensures full { result ≡ false → self.new ≡ self.old }
         ensures count { result ≡ true → self.new.count ≡ self.old.count + 1 }
-        ensures few { self.new.count ≤ 248 }
+        ensures few { self.new.count ≤ most_changes }
         ensures place { result ≡ true → place_in self.new.bytes self.old.count ≡ place }
         ensures word { result ≡ true → take (length word.now) (word_of self.new.bytes self.old.count) ≡ word.now }
-        ensures long { length self.new.bytes ≡ 2976 }
+        ensures long { length self.new.bytes ≡ changes_bytes }
         ensures pages { self.new.pages ≡ self.old.pages }
         ensures others { take (12 * self.old.count) self.new.bytes ≡ take (12 * self.old.count) self.old.bytes }
     {

@@ -22,8 +22,8 @@ mod staging;
 mod turning;
 
 pub use known::KnownPages;
-pub use map::Map;
+pub use map::PageMap;
 pub use page_set::PageSet;
-pub use places::{footer_at, head_at};
+pub use places::{HEAD_BYTES, MAP_BYTES, MAP_PAGES, footer_at, head_at};
 pub use reading::{assemble, find_map, read_body};
 pub use staging::stage;

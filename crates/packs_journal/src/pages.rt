@@ -5,7 +5,7 @@ ghost use Rattle.packs_journal.specs.Places.{IsBody, IsArea, page_count, page_si
 ghost use Rattle.packs_journal.specs.Reading.{page_in};
 ghost use Rattle.packs_journal.specs.Staging.{body_page};
 
-use crate::map::{Map, copy_of};
+use crate::map::{PageMap, copy_of};
 use crate::places::{page_at, page_size, page_start};
 use device::{DeviceError, Meta};
 
@@ -13,7 +13,7 @@ use device::{DeviceError, Meta};
 pub(crate) fn read_page<M: Meta>(
     meta: &mut M,
     len: u64,
-    map: &Map,
+    map: &PageMap,
     k: u32,
     out: &mut [u8],
 ) -> Result<(), DeviceError>

@@ -6,16 +6,16 @@ ghost use Rattle.packs_journal.specs.Journal.{map_of as map_in, is_head as is_he
 ghost use Rattle.packs_journal.specs.Reading.{head_in, gathered, assembled};
 
 use crate::changes::patch;
-use crate::head::{CHANGES_AT, HEAD, count_of, is_head, map_of, read_head};
-use crate::map::{Map, copy_of};
+use crate::head::{CHANGES_AT, count_of, is_head, map_of, read_head};
+use crate::map::{PageMap, copy_of};
 use crate::pages::read_page;
-use crate::places::{FRONT, head_at, page_at, page_count, page_size, page_start};
+use crate::places::{FRONT, HEAD_BYTES, head_at, page_at, page_count, page_size, page_start};
 use device::{DeviceError, Meta};
 use std::alloc::{AllocError, Global};
 
 /// The map of a slot's pack, of a body of this length. None where its head is none. Answers DeviceError where the device
 /// failed.
-pub fn find_map<M: Meta>(meta: &mut M, len: u64, slot: u32) -> Result<Option<Map>, DeviceError>
+pub fn find_map<M: Meta>(meta: &mut M, len: u64, slot: u32) -> Result<Option<PageMap>, DeviceError>
     requires area { IsArea len (M.seen meta.old) }
     requires slot { slot ≤ 1 }
     ensures map { IfOk result (λ found. MatchOption found (is_head_of len (head_in slot (M.seen meta.old)) ≡ false)
@@ -23,7 +23,7 @@ pub fn find_map<M: Meta>(meta: &mut M, len: u64, slot: u32) -> Result<Option<Map
     ensures quiet { IsQuiet M.seen M.may_leave M.moment M.left_since meta.old meta.new }
     ensures cause { HasCause (M.failed meta.old) (M.failed meta.new) result }
 {
-    let mut head = [0u8; HEAD];
+    let mut head = [0u8; HEAD_BYTES];
     read_head(meta, len, slot, &mut head)?;
     if is_head(len, &head) {
         Ok(Some(map_of(&head)))
@@ -43,7 +43,7 @@ pub fn read_body<M: Meta>(meta: &mut M, slot: u32, out: &mut [u8]) -> Result<boo
     ensures cause { HasCause (M.failed meta.old) (M.failed meta.new) result }
 {
     let len = out.len() as u64;
-    let mut head = [0u8; HEAD];
+    let mut head = [0u8; HEAD_BYTES];
     read_head(meta, len, slot, &mut head)?;
     if !is_head(len, &head) {
         return Ok(false);
@@ -51,7 +51,7 @@ pub fn read_body<M: Meta>(meta: &mut M, slot: u32, out: &mut [u8]) -> Result<boo
     let (front, rest) = out.split_at_mut(56);
     front.copy_from_slice(&head[..56]);
     read_pages(meta, len, &map_of(&head), rest)?;
-    patch(&head[CHANGES_AT..HEAD], count_of(&head), rest);
+    patch(&head[CHANGES_AT..HEAD_BYTES], count_of(&head), rest);
     Ok(true)
 }
 
@@ -69,14 +69,14 @@ pub fn assemble(
         (λ body. body.items ≡ assembled len slot area.now)) }
 {
     let at = head_at(slot) as usize;
-    let mut head = [0u8; HEAD];
-    head.copy_from_slice(&area[at..at + HEAD]);
+    let mut head = [0u8; HEAD_BYTES];
+    head.copy_from_slice(&area[at..at + HEAD_BYTES]);
     if !is_head(len, &head) {
         return Ok(None);
     }
     let mut rest = gather(alloc, len, area, &map_of(&head))?;
     patch(
-        &head[CHANGES_AT..HEAD],
+        &head[CHANGES_AT..HEAD_BYTES],
         count_of(&head),
         rest.as_mut_slice(),
     );
@@ -87,7 +87,7 @@ pub fn assemble(
 }
 
 // The pages that a map names, one after the other.
-fn gather(alloc: Global, len: u64, area: &[u8], map: &Map) -> Result<Vec<u8>, AllocError>
+fn gather(alloc: Global, len: u64, area: &[u8], map: &PageMap) -> Result<Vec<u8>, AllocError>
     requires body { IsBody len }
     requires long { area_bytes len ≤ length area.now }
     ensures { IfOk result (λ rest. rest.items ≡ gathered len map.now (pages_of len) area.now) }
@@ -104,7 +104,7 @@ fn gather(alloc: Global, len: u64, area: &[u8], map: &Map) -> Result<Vec<u8>, Al
 fn read_pages<M: Meta>(
     meta: &mut M,
     len: u64,
-    map: &Map,
+    map: &PageMap,
     rest: &mut [u8],
 ) -> Result<(), DeviceError>
     requires area { IsArea len (M.seen meta.old) }

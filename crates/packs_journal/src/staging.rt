@@ -1,7 +1,7 @@
 //! All of a pack but its footer is put beside the pack that counts.
 ghost use Rattle.std.specs.Prelude.{◌≡◌, ◌≤◌, ◌<◌, ◌-◌, ℕ, true, false, length, drop, OnOk};
 ghost use Rattle.device.specs.Disk.{Only, LeavesOnly, HasCause};
-ghost use Rattle.packs_journal.specs.Places.{IsArea, page_count, word_count};
+ghost use Rattle.packs_journal.specs.Places.{IsArea, page_count, word_count, map_pages, most_changes};
 ghost use Rattle.packs_journal.specs.Journal.{map_of, names_pages, rises, patched, is_head};
 ghost use Rattle.packs_journal.specs.Reading.{head_in, page_in, gathered, assembled};
 ghost use Rattle.packs_journal.specs.Staging.{IsMapped, IsBeside, IsBesideOne, body_page};
@@ -11,7 +11,7 @@ use crate::changes::Changes;
 use crate::difference::find_changes;
 use crate::head::{CHANGES_AT, spell_head};
 use crate::known::KnownPages;
-use crate::map::Map;
+use crate::map::PageMap;
 use crate::page_set::PageSet;
 use crate::places::head_at;
 use crate::turning::turn_pages;
@@ -38,7 +38,7 @@ pub fn stage<M: Meta>(
     ensures staged { OnOk result (assembled (length body.now) (1 - slot) (M.seen meta.new) ≡ body.now) }
     ensures head { OnOk result (is_head (length body.now) (head_in (1 - slot) (M.seen meta.new)) ≡ true) }
     ensures map { OnOk result (map_of (head_in (1 - slot) (M.seen meta.new)) ≡ pages.new.map) }
-    ensures named { names_pages (page_count (length body.now)) pages.new.map 4352 ≡ true }
+    ensures named { names_pages (page_count (length body.now)) pages.new.map map_pages ≡ true }
     ensures noted { OnOk result (DiffersIn pages.new.noted (length body.now) pages.new.map body.now (M.seen meta.new)) }
     ensures durable { OnOk result (Only (M.seen meta.new) (M.may_leave meta.new)) }
 
@@ -61,7 +61,7 @@ pub fn stage<M: Meta>(
 fn prepare<M: Meta>(
     meta: &mut M,
     slot: u32,
-    map: &mut Map,
+    map: &mut PageMap,
     may_differ: &PageSet,
     body: &[u8],
     changes: &mut Changes,
@@ -71,9 +71,9 @@ fn prepare<M: Meta>(
     requires none { changes.old.count ≡ 0 }
     ensures patched { OnOk result (patched changes.new.bytes changes.new.count (gathered (length body.now) map.new (page_count (length body.now)) (M.seen meta.new)) ≡ drop 56 body.now) }
     ensures rises { OnOk result (rises (word_count (length body.now)) changes.new.bytes changes.new.count ≡ true) }
-    ensures few { OnOk result (changes.new.count ≤ 248) }
+    ensures few { OnOk result (changes.new.count ≤ most_changes) }
     ensures noted { OnOk result (DiffersIn changes.new.pages (length body.now) map.new body.now (M.seen meta.new)) }
-    ensures named { names_pages (page_count (length body.now)) map.new 4352 ≡ true }
+    ensures named { names_pages (page_count (length body.now)) map.new map_pages ≡ true }
     ensures beside { IsBeside (length body.now) slot (M.seen meta.old) (M.seen meta.new) }
     ensures any_moment { LeavesOnly M.moment M.left_since meta.old meta.new (IsBesideOne M.may_leave (length body.now) slot meta.old) }
     ensures cause { HasCause (M.failed meta.old) (M.failed meta.new) result }
@@ -91,14 +91,14 @@ fn prepare<M: Meta>(
 fn write_head<M: Meta>(
     meta: &mut M,
     slot: u32,
-    map: &Map,
+    map: &PageMap,
     body: &[u8],
     changes: &Changes,
 ) -> Result<(), DeviceError>
     requires area { IsArea (length body.now) (M.seen meta.old) }
     requires slot { slot ≤ 1 }
-    requires named { names_pages (page_count (length body.now)) map.now 4352 ≡ true }
-    requires few { changes.now.count ≤ 248 }
+    requires named { names_pages (page_count (length body.now)) map.now map_pages ≡ true }
+    requires few { changes.now.count ≤ most_changes }
     requires rises { rises (word_count (length body.now)) changes.now.bytes changes.now.count ≡ true }
     requires patched { patched changes.now.bytes changes.now.count (gathered (length body.now) map.now (page_count (length body.now)) (M.seen meta.old)) ≡ drop 56 body.now }
     ensures staged { OnOk result (assembled (length body.now) (1 - slot) (M.seen meta.new) ≡ body.now) }

@@ -1,14 +1,14 @@
 //! Pages are written over the copies that do not count.
 ghost use Rattle.std.specs.Prelude.{◌≡◌, ◌≢◌, ◌≤◌, ◌<◌, ℕ, List, true, false, length, drop, OnOk};
 ghost use Rattle.device.specs.Disk.{part, Leaves, LeavesOnly, HasCause};
-ghost use Rattle.packs_journal.specs.Places.{IsArea, page_count as pages_of, page_at as place_of_page, page_size};
+ghost use Rattle.packs_journal.specs.Places.{IsArea, page_count as pages_of, page_at as place_of_page, page_size, map_pages};
 ghost use Rattle.packs_journal.specs.Journal.{copy_in, names_pages};
 ghost use Rattle.packs_journal.specs.Reading.{page_in, gathered};
 ghost use Rattle.packs_journal.specs.Staging.{IsMapOf, IsMapped, IsBeside, IsBesideOne, body_page};
 ghost use Rattle.packs_journal.specs.Pages.{has_page, DiffersIn};
 
 use crate::bytes::are_same;
-use crate::map::{Map, copy_of, turn_page};
+use crate::map::{PageMap, copy_of, turn_page};
 use crate::page_set::PageSet;
 use crate::pages::{page_of, read_page};
 use crate::places::{PAGE, page_at, page_count};
@@ -20,7 +20,7 @@ use device::{DeviceError, Meta};
 pub(crate) fn turn_pages<M: Meta>(
     meta: &mut M,
     slot: u32,
-    map: &mut Map,
+    map: &mut PageMap,
     may_differ: &PageSet,
     body: &[u8],
 ) -> Result<(), DeviceError>
@@ -29,7 +29,7 @@ pub(crate) fn turn_pages<M: Meta>(
     ensures pages { OnOk result ((k : ℕ) → k < pages_of (length body.now)
         → page_in (length body.now) map.new k (M.seen meta.new) ≡ body_page (length body.now) k body.now) }
     ensures turned { OnOk result (gathered (length body.now) map.new (pages_of (length body.now)) (M.seen meta.new) ≡ drop 56 body.now) }
-    ensures named { names_pages (pages_of (length body.now)) map.new 4352 ≡ true }
+    ensures named { names_pages (pages_of (length body.now)) map.new map_pages ≡ true }
     ensures beside { IsBeside (length body.now) slot (M.seen meta.old) (M.seen meta.new) }
     ensures any_moment { LeavesOnly M.moment M.left_since meta.old meta.new (IsBesideOne M.may_leave (length body.now) slot meta.old) }
     ensures cause { HasCause (M.failed meta.old) (M.failed meta.new) result }
@@ -44,7 +44,7 @@ pub(crate) fn turn_pages<M: Meta>(
 fn put_page<M: Meta>(
     meta: &mut M,
     slot: u32,
-    map: &mut Map,
+    map: &mut PageMap,
     may_differ: &PageSet,
     body: &[u8],
     k: u32,

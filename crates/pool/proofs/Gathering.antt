@@ -3,18 +3,18 @@
 use Rattle.std.proofs.Common.{◌≡◌, ℕ, ◌+◌, List, [], ◌∷◌, ◌++◌, ap, ◌∙◌, arith}
 use Rattle.geometry.specs.Weights.{weigh}
 use Rattle.geometry.proofs.Weighing.{weigh-append}
-use Rattle.pool.specs.declared.law.Tally.{Tally}
+use Rattle.pool.specs.declared.law.SlipTally.{SlipTally}
 use Rattle.pool.specs.declared.law.Account.{Account}
 use Rattle.pool.specs.Law.{both, HasAll}
 use Rattle.pool.specs.Pools.{joined_account}
 
 -- `all` and the rest list what `first` and the others do
-pub record Collects (pick : Account → Tally) (first : Account) (others : List Account) (all : Account) (rest : List Account) : Type 0 where
+pub record Collects (pick : Account → SlipTally) (first : Account) (others : List Account) (all : Account) (rest : List Account) : Type 0 where
   pub parts : (pick all).parts + weigh (λ a. (pick a).parts) rest ≡ (pick first).parts + weigh (λ a. (pick a).parts) others
   pub put : (h : ℕ → ℕ) → weigh h (pick all).put + weigh (λ a. weigh h (pick a).put) rest ≡ weigh h (pick first).put + weigh (λ a. weigh h (pick a).put) others
   pub taken : (h : ℕ → ℕ) → weigh h (pick all).taken + weigh (λ a. weigh h (pick a).taken) rest ≡ weigh h (pick first).taken + weigh (λ a. weigh h (pick a).taken) others
 
-module _ (pick : Account → Tally) (first : Account) (others : List Account) where
+module _ (pick : Account → SlipTally) (first : Account) (others : List Account) where
   pub collects_none : Collects pick first others first others
   collects_none = record { parts = omega arith; put = λ h. omega arith; taken = λ h. omega arith }
 

@@ -3,7 +3,7 @@ use Rattle.std.specs.Prelude.{◌≡◌, ◌-◌, []}
 use Rattle.crossbeam_queue.specs.Passes.{Pass, view}
 use Rattle.atomic_table.specs.Seated.{TableId}
 use Rattle.crossbeam_queue.specs.declared.array_queue.Slotted.{Slotted}
-use Rattle.pool.specs.declared.law.Tally.{Tally}
+use Rattle.pool.specs.declared.law.SlipTally.{SlipTally}
 use Rattle.pool.specs.declared.law.Account.{Account}
 use Rattle.pool.specs.Law.{all_parts, tally, account, both}
 
@@ -19,7 +19,7 @@ queue_id q = q.table.shared.table_id
 abbrev pub first_account : Account
 first_account = account (tally all_parts [] []) (tally all_parts [] [])
 
-abbrev pub less_a_part : Tally → Tally
+abbrev pub less_a_part : SlipTally → SlipTally
 less_a_part v = tally (v.parts - 1) v.put v.taken
 
 -- what is left of a pass that gave a part away
@@ -35,8 +35,8 @@ abbrev pub joined_account : Account → Account → Account
 joined_account a b = account (both a.ordinary b.ordinary) (both a.reserve b.reserve)
 
 -- a pass of the queue that is named, with no slot out
-abbrev pub IsPassAt : {T : Type 0} → TableId → Pass T Tally → Type 0
+abbrev pub IsPassAt : {T : Type 0} → TableId → Pass T SlipTally → Type 0
 IsPassAt queue p = (p.table_id ≡ queue) × (p.me.1 ≡ [])
 
-abbrev pub tally_of : {T : Type 0} → Pass T Tally → Tally
+abbrev pub tally_of : {T : Type 0} → Pass T SlipTally → SlipTally
 tally_of p = view p

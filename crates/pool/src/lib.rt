@@ -12,7 +12,7 @@ mod pass;
 mod pool;
 mod slip;
 
-pub use law::{Account, Tally};
-pub use opened::Opened;
+pub use law::{Account, SlipTally};
+pub use opened::OpenedPool;
 pub use pass::PoolPass;
 pub use pool::{Pool, SlipCounts};

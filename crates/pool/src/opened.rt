@@ -15,14 +15,14 @@ const RESERVE: usize = 4;
 
 /// Two empty queues with no name yet, `{ ordinary; reserve }` to contracts, the tables of the two.
 #[derive(Drop)]
-pub struct Opened<W: WordsName> {
+pub struct OpenedPool<W: WordsName> {
     ordinary: Queue<W>,
     reserve: Queue<W>,
     ordinary_pass: QueuePass<W>,
     reserve_pass: QueuePass<W>,
 }
 
-impl<W: WordsName> Model for Opened<W> {
+impl<W: WordsName> Model for OpenedPool<W> {
     ghost use Rattle.std.specs.Prelude.{◌≡◌, []};
     ghost use Rattle.crossbeam_queue.specs.Passes.{IsPassOf, ruled_capacity};
     ghost use Rattle.pool.specs.Law.{all_parts, tally};
@@ -37,11 +37,11 @@ impl<W: WordsName> Model for Opened<W> {
         × (tally_of o.reserve_pass ≡ tally all_parts [] []) × (ruled_capacity o.reserve ≡ 4) };
 }
 
-impl<W: WordsName> Opened<W> {
+impl<W: WordsName> OpenedPool<W> {
     /// Two empty queues, an ordinary one for so many slips and a reserve for four. It fails only where memory is out, and
     /// then nothing is left.
     #[tactic(auto, using(crate::proofs::Steps::begins))]
-    pub fn new(alloc: Global, segments: u32) -> Result<Opened<W>, Error>
+    pub fn new(alloc: Global, segments: u32) -> Result<OpenedPool<W>, Error>
         requires some { 0 < segments }
         ensures ordinary { IfOk result (λ o. o.ordinary.slots ≡ segments) }
         ensures reserve { IfOk result (λ o. o.reserve.slots ≡ 4) }
@@ -49,7 +49,7 @@ impl<W: WordsName> Opened<W> {
     {
         let (ordinary, ordinary_pass) = Queue::ruled(alloc, segments as usize)?;
         let (reserve, reserve_pass) = Queue::ruled(alloc, RESERVE)?;
-        Ok(Opened {
+        Ok(OpenedPool {
             ordinary,
             reserve,
             ordinary_pass,
@@ -63,7 +63,7 @@ impl<W: WordsName> Opened<W> {
         requires reserve { self.reserve ≡ J.reserve }
         ensures pass { result.1 ≡ first_account }
     {
-        let Opened {
+        let OpenedPool {
             ordinary,
             reserve,
             ordinary_pass,

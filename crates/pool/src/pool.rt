@@ -4,9 +4,9 @@ ghost use Rattle.crossbeam_queue.specs.Passes.{ruled_capacity};
 ghost use Rattle.pool.specs.Law.{all_parts, put_ordinary, put_reserve, took_ordinary, took_reserve, WasEmpty, WasFull, Settled, HasAll};
 ghost use Rattle.pool.specs.Pools.{queue_id, split_account, shared_account, joined_account};
 
-use crate::law::{Part, Put, Queue, Taken, Whole};
+use crate::law::{AllParts, PassPart, Pop, Push, Queue};
 use crate::pass::PoolPass;
-use crate::slip::StoredSlip;
+use crate::slip::QueuedSlip;
 use rights_permits::{PoolName, WordsName};
 use std::marker::PhantomData;
 use std::sync::Wait;
@@ -57,7 +57,7 @@ impl<W: WordsName, J: PoolName> Pool<W, J> {
         ensures unchanged { IfNone result (pass.new ≡ pass.old) }
         ensures empty { IfNone result (WasEmpty pass.old.ordinary) }
     {
-        let slip = self.ordinary.pop_as::<Taken, R>(rt, &mut pass.ordinary)?;
+        let slip = self.ordinary.pop_as::<Pop, R>(rt, &mut pass.ordinary)?;
         self.in_ordinary.fetch_sub(1, Ordering::Relaxed);
         Some(slip.restore())
     }
@@ -68,7 +68,7 @@ impl<W: WordsName, J: PoolName> Pool<W, J> {
         ensures unchanged { IfNone result (pass.new ≡ pass.old) }
         ensures empty { IfNone result (WasEmpty pass.old.reserve) }
     {
-        let slip = self.reserve.pop_as::<Taken, R>(rt, &mut pass.reserve)?;
+        let slip = self.reserve.pop_as::<Pop, R>(rt, &mut pass.reserve)?;
         self.in_reserve.fetch_sub(1, Ordering::Relaxed);
         Some(slip.restore())
     }
@@ -104,16 +104,16 @@ impl<W: WordsName, J: PoolName> Pool<W, J> {
         ensures full { IfErr result (λ _. WasFull 4 pass.old.reserve
             × WasFull J.ordinary.slots pass.old.ordinary) }
     {
-        let slip = StoredSlip::store(slip);
+        let slip = QueuedSlip::store(slip);
         self.in_reserve.fetch_add(1, Ordering::Relaxed);
-        let Err(slip) = self.reserve.push_as::<Put, R>(rt, &mut pass.reserve, slip) else {
+        let Err(slip) = self.reserve.push_as::<Push, R>(rt, &mut pass.reserve, slip) else {
             return Ok(());
         };
         self.in_reserve.fetch_sub(1, Ordering::Relaxed);
         self.in_ordinary.fetch_add(1, Ordering::Relaxed);
         match self
             .ordinary
-            .push_as::<Put, R>(rt, &mut pass.ordinary, slip)
+            .push_as::<Push, R>(rt, &mut pass.ordinary, slip)
         {
             Ok(()) => Ok(()),
             Err(back) => {
@@ -128,7 +128,7 @@ impl<W: WordsName, J: PoolName> Pool<W, J> {
         ensures unchanged { pass.new ≡ pass.old }
         ensures full { result ≡ true → WasFull 4 pass.old.reserve }
     {
-        self.reserve.is_full_as::<Put>(&mut pass.reserve)
+        self.reserve.is_full_as::<Push>(&mut pass.reserve)
     }
 
     /// How many slips the ordinary queue and the reserve have, about: one that is on its way is counted too. No promise rests on
@@ -147,8 +147,8 @@ impl<W: WordsName, J: PoolName> Pool<W, J> {
         ensures new { result ≡ shared_account }
     {
         PoolPass {
-            ordinary: self.ordinary.another::<Part>(&mut pass.ordinary),
-            reserve: self.reserve.another::<Part>(&mut pass.reserve),
+            ordinary: self.ordinary.another::<PassPart>(&mut pass.ordinary),
+            reserve: self.reserve.another::<PassPart>(&mut pass.reserve),
             pool: PhantomData,
         }
     }
@@ -162,8 +162,9 @@ impl<W: WordsName, J: PoolName> Pool<W, J> {
             reserve,
             pool: _,
         } = other;
-        self.ordinary.absorb::<Part>(&mut pass.ordinary, ordinary);
-        self.reserve.absorb::<Part>(&mut pass.reserve, reserve);
+        self.ordinary
+            .absorb::<PassPart>(&mut pass.ordinary, ordinary);
+        self.reserve.absorb::<PassPart>(&mut pass.reserve, reserve);
     }
 
     /// Tells, to the pass with all parts, that what was put into each queue is what was taken from it and what it holds,
@@ -174,8 +175,8 @@ impl<W: WordsName, J: PoolName> Pool<W, J> {
         ensures ordinary { (items : List ℕ) × Settled pass.old.ordinary items }
         ensures reserve { (items : List ℕ) × Settled pass.old.reserve items }
     {
-        self.ordinary.learn_as::<Whole>(&mut pass.ordinary);
-        self.reserve.learn_as::<Whole>(&mut pass.reserve);
+        self.ordinary.learn_as::<AllParts>(&mut pass.ordinary);
+        self.reserve.learn_as::<AllParts>(&mut pass.reserve);
     }
 
     /// Puts as many passes together as there are parts, so that they have them all, and settles: what was put through all

@@ -8,12 +8,12 @@ use words::FreeSlip;
 
 /// A slip of the named words, to contracts the number of its segment. It may be dropped with its queue.
 #[derive(Drop)]
-pub struct StoredSlip<W: WordsName> {
+pub struct QueuedSlip<W: WordsName> {
     slip: words::StoredSlip,
     words: PhantomData<W>,
 }
 
-impl<W: WordsName> Model for StoredSlip<W> {
+impl<W: WordsName> Model for QueuedSlip<W> {
     ghost use Rattle.std.specs.Prelude.{◌≡◌, ℕ};
 
     ghost Value = { ℕ };
@@ -23,12 +23,12 @@ impl<W: WordsName> Model for StoredSlip<W> {
     ghost invariant = { λ s. s.slip.table ≡ W.words };
 }
 
-impl<W: WordsName> StoredSlip<W> {
-    pub(crate) fn store(slip: FreeSlip) -> StoredSlip<W>
+impl<W: WordsName> QueuedSlip<W> {
+    pub(crate) fn store(slip: FreeSlip) -> QueuedSlip<W>
         requires words { slip.table ≡ W.words }
         ensures { result ≡ slip.segment }
     {
-        StoredSlip {
+        QueuedSlip {
             slip: slip.store(),
             words: PhantomData,
         }

@@ -3,41 +3,41 @@ use Rattle.std.proofs.Common.{◌≡◌, ◌∙◌, ℕ, List, [], ◌∷◌, �
 use Rattle.std.specs.Prelude.{option_to_list}
 use Rattle.std.proofs.lemmas.List.{length-take-le, map-append, take_more}
 use Rattle.std.proofs.lemmas.List.Elements.{All-pop, All-weaker}
-use Rattle.flash_volume.specs.Turns.{Held, Lot}
+use Rattle.flash_volume.specs.Rounds.{Held, Lot}
 use Rattle.geometry.specs.declared.geometry.Geometry.{Geometry}
-use Rattle.program_script.specs.declared.script.Task.{Task}
+use Rattle.program_script.specs.declared.script.WorkerTask.{WorkerTask}
 use Rattle.program_script.specs.declared.script.Worker.{Worker}
 use Rattle.program_run.specs.Files.{AreInOrder, Files}
 use Rattle.program_run.specs.Share.{IsPutBack}
-use Rattle.program_run.specs.Duties.{AreBack, AreGiven, Hand, IsGiven}
+use Rattle.program_run.specs.PartJobs.{AreBack, AreGiven, Hand, IsGiven}
 
 module _ (geometry : Geometry) where
   -- one worker more
-  pub given_more : (number : ℕ) (workers : List Worker) (worker : Worker) (old middle rest : Files) (duties : List (Lot Hand)) (duty : Lot Hand)
-      → AreGiven geometry number workers old duties middle → IsGiven geometry (number + length workers) worker middle duty rest
-      → AreGiven geometry number (workers ++ worker ∷ []) old (duties ++ duty ∷ []) rest
-  given_more number [] worker old middle rest [] duty given one =
+  pub given_more : (number : ℕ) (workers : List Worker) (worker : Worker) (old middle rest : Files) (part_jobs : List (Lot Hand)) (part_job : Lot Hand)
+      → AreGiven geometry number workers old part_jobs middle → IsGiven geometry (number + length workers) worker middle part_job rest
+      → AreGiven geometry number (workers ++ worker ∷ []) old (part_jobs ++ part_job ∷ []) rest
+  given_more number [] worker old middle rest [] part_job given one =
       let first : number + 0 ≡ number = omega arith in
-      (rest, subst (λ files. IsGiven geometry number worker files duty rest) given (subst (λ n. IsGiven geometry n worker middle duty rest) first one), refl)
-  given_more number [] worker old middle rest (other ∷ duties) duty given one = absurd given
-  given_more number (first ∷ workers) worker old middle rest [] duty given one = absurd given
-  given_more number (first ∷ workers) worker old middle rest (other ∷ duties) duty (after, begun, given) one =
+      (rest, subst (λ files. IsGiven geometry number worker files part_job rest) given (subst (λ n. IsGiven geometry n worker middle part_job rest) first one), refl)
+  given_more number [] worker old middle rest (other ∷ part_jobs) part_job given one = absurd given
+  given_more number (first ∷ workers) worker old middle rest [] part_job given one = absurd given
+  given_more number (first ∷ workers) worker old middle rest (other ∷ part_jobs) part_job (after, begun, given) one =
       let next : number + length (first ∷ workers) ≡ number + 1 + length workers = omega arith in
-      (after, begun, given_more (number + 1) workers worker after middle rest duties duty given (subst (λ n. IsGiven geometry n worker middle duty rest) next one))
+      (after, begun, given_more (number + 1) workers worker after middle rest part_jobs part_job given (subst (λ n. IsGiven geometry n worker middle part_job rest) next one))
 
   -- the next worker of all
-  pub given_next : (workers : List Worker) (place : ℕ) (worker : Worker) (old middle rest : Files) (duties : List (Lot Hand)) (duty : Lot Hand)
+  pub given_next : (workers : List Worker) (place : ℕ) (worker : Worker) (old middle rest : Files) (part_jobs : List (Lot Hand)) (part_job : Lot Hand)
       → place < length workers → worker ≡ get_or workers place worker
-      → AreGiven geometry 0 (take place workers) old duties middle → IsGiven geometry place worker middle duty rest
-      → AreGiven geometry 0 (take (place + 1) workers) old (duties ++ duty ∷ []) rest
-  given_next workers place worker old middle rest duties duty low is given one =
+      → AreGiven geometry 0 (take place workers) old part_jobs middle → IsGiven geometry place worker middle part_job rest
+      → AreGiven geometry 0 (take (place + 1) workers) old (part_jobs ++ part_job ∷ []) rest
+  given_next workers place worker old middle rest part_jobs part_job low is given one =
       let more : take (place + 1) workers ≡ take place workers ++ worker ∷ [] = take_more workers place worker low ∙ ap (λ w. take place workers ++ w ∷ []) (sym is) in
       let count : 0 + length (take place workers) ≡ place = omega (arith, length-take-le place workers (omega arith)) in
-      subst (λ ws. AreGiven geometry 0 ws old (duties ++ duty ∷ []) rest) (sym more)
-      (given_more 0 (take place workers) worker old middle rest duties duty given (subst (λ n. IsGiven geometry n worker middle duty rest) (sym count) one))
+      subst (λ ws. AreGiven geometry 0 ws old (part_jobs ++ part_job ∷ []) rest) (sym more)
+      (given_more 0 (take place workers) worker old middle rest part_jobs part_job given (subst (λ n. IsGiven geometry n worker middle part_job rest) (sym count) one))
 
   -- a worker with its tasks, told by equal ones
-  pub hand_is : (number : ℕ) (tasks others : List Task) (time later : ℕ) (hand : Hand) → hand ≡ record { number = number; tasks = tasks; time = time } → tasks ≡ others → time ≡ later
+  pub hand_is : (number : ℕ) (tasks others : List WorkerTask) (time later : ℕ) (hand : Hand) → hand ≡ record { number = number; tasks = tasks; time = time } → tasks ≡ others → time ≡ later
       → hand ≡ record { number = number; tasks = others; time = later }
   hand_is number tasks others time later hand is same now =
       subst (λ t. hand ≡ record { number = number; tasks = others; time = t }) now (subst (λ ts. hand ≡ record { number = number; tasks = ts; time = time }) same is)

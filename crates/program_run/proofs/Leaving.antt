@@ -1,9 +1,9 @@
--- The door leaves a volume as the script's crew asked, so what it says of the parts is what a script says of a volume that was left.
+-- The door leaves a volume as the script's scheduler asked, so what it says of the parts is what a script says of a volume that was left.
 use Rattle.std.proofs.Common.{◌≡◌, ◌⊎◌, ◌<◌, ◌-◌, ℕ, List, [], drop, take, length, inl, inr, subst, sym, arith, Option, None, false}
 use Rattle.std.specs.Io.KnownBytes.{Appends}
 use Rattle.device.specs.declared.parts.Parts.{Parts}
 use Rattle.file_cells.specs.Pass.{Pass}
-use Rattle.flash_volume.specs.Turns.{Lot, at_first}
+use Rattle.flash_volume.specs.Rounds.{Lot, at_first}
 use Rattle.flash_volume.specs.Visited.{ArePassesOf, base_of}
 use Rattle.flash_volume.specs.Worked.{AreClosed, AreGivenUp, AreLeft as DoorLeft}
 use Rattle.flash_volume.specs.declared.leave.Leave.{Leave}
@@ -12,10 +12,10 @@ use Rattle.geometry.specs.File.{Block}
 use Rattle.geometry.specs.declared.geometry.Geometry.{Geometry}
 use Rattle.image.specs.Image.{Image}
 use Rattle.program_script.specs.declared.script.Step.{Step}
-use Rattle.program_run.specs.Crew.{IsLeave, RanScript}
+use Rattle.program_run.specs.Scheduler.{IsLeave, RanScript}
 use Rattle.program_run.specs.Ending.{AreLeft, HoldsFiles, WasLeft, WentOnWith}
 use Rattle.program_run.specs.Run.{IsHalted, WroteSteps, mounted_of, opening_line}
-use Rattle.program_run.specs.declared.crew.Halt.{Halt}
+use Rattle.program_run.specs.declared.scheduler.Halt.{Halt}
 use Rattle.program_run.specs.declared.remounting.Left.{Left}
 use Rattle.program_run.specs.declared.steps.Carried.{Carried}
 use Rattle.std.specs.Prelude.{Result}
@@ -47,7 +47,7 @@ module _ {M B : Type 0} (seen : M → List ℕ) (may_leave : M → List ℕ → 
   left_so steps run Close passes parts old new (inr (some, is, same)) closed = absurd (let no = is in cc)
   left_so steps run Discard passes parts old new (inr (some, is, same)) up = inr (some, given_up_left parts up, same)
 
-  -- a script's crew was run, and its volume was left
+  -- a script's scheduler was run, and its volume was left
   pub went_with_script : {L W E : Type 0} (text_of : W → List ℕ) (image : Image) (blocks : ℕ → Block) (steps : List Step) (carried : Carried) (before after : List Pass) (halt : Halt) (leave : Leave)
       (left : Left M B L) (old new : Option (List ℕ)) → ArePassesOf geometry image blocks before
       → RanScript {W = W} {E = E} text_of steps None carried geometry (base_of image) (at_first before) [] halt leave after old new

@@ -2,7 +2,7 @@
 -- lent.
 use Rattle.std.proofs.Common.{◌≡◌, ◌∙◌, ◌<◌, ℕ, suc, ◌+◌, List, [], ◌∷◌, ap, sym, subst, refl, arith, length, get_or, drop, Option, Some, None, slice_index_or}
 use Rattle.file_cells.specs.Pass.{Pass}
-use Rattle.flash_volume.specs.Turns.{Held}
+use Rattle.flash_volume.specs.Rounds.{Held}
 use Rattle.geometry.specs.declared.geometry.Geometry.{Geometry}
 use Rattle.program_run.specs.Files.{Files, Lends, StandInPlace, passes_among}
 

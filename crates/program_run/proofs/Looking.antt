@@ -1,6 +1,6 @@
 -- A reader that is open is told as outside of a part.
 use Rattle.std.proofs.Common.{ℕ, inl, inr, List}
-use Rattle.program_script.specs.declared.command.Work.TheVariants.{Look}
+use Rattle.program_script.specs.declared.command.WorkerDeed.TheVariants.{Look}
 use Rattle.program_run.specs.Files.{Files, HasReader}
 use Rattle.program_run.specs.Work.{IsLooked as IsLookedAt, WorkWrites}
 use Rattle.program_run.specs.Tasks.{IsLooked, TaskWrites}

@@ -1,4 +1,4 @@
--- A turn runs commands up to a part, or up to where the steps halt. Both are told of the steps behind the first one, and so of all.
+-- A round runs commands up to a part, or up to where the steps halt. Both are told of the steps behind the first one, and so of all.
 use Rattle.std.proofs.Common.{◌≡◌, ◌∙◌, ℕ, List, ap, sym, subst, refl, arith, inl, inr, drop, length, map, Option, Some, Result, Ok, Vec, IfOk, ◌+◌, ◌-◌, ◌<◌, ◌≤◌}
 use Rattle.std.specs.Prelude.{false, get_or, slice_get}
 use Rattle.std.specs.declared.alloc.Global.{Global}
@@ -6,15 +6,15 @@ use Rattle.std.proofs.lemmas.Bool.{false≢true}
 use Rattle.std.proofs.lemmas.List.{get_or-drop, length-drop}
 use Rattle.std.proofs.lemmas.Option.{get_or_from_slice_get, slice_get-get_or, slice_get_read}
 use Rattle.file_cells.specs.Reader.{SnapshotOf}
-use Rattle.flash_volume.specs.Turns.{Held, Lot}
+use Rattle.flash_volume.specs.Rounds.{Held, Lot}
 use Rattle.flash_volume.specs.declared.leave.Leave.{Leave}
 use Rattle.geometry.specs.declared.geometry.Geometry.{Geometry}
 use Rattle.program_script.specs.declared.script.Step.{Step}
 use Rattle.program_run.specs.Files.{Files}
-use Rattle.program_run.specs.Duties.{Hand}
-use Rattle.program_run.specs.Crew.{Begins, HasNoPart, IsLeave, IsLeft, Pauses}
+use Rattle.program_run.specs.PartJobs.{Hand}
+use Rattle.program_run.specs.Scheduler.{Begins, HasNoPart, IsLeave, IsLeft, Pauses}
 use Rattle.program_run.specs.Run.{IsHalted, IsPaused, is_part}
-use Rattle.program_run.specs.declared.crew.Pause.{Pause}
+use Rattle.program_run.specs.declared.scheduler.Pause.{Pause}
 use Rattle.program_run.specs.declared.steps.Carried.{Carried}
 use Rattle.program_run.proofs.Going.{get_low}
 use Rattle.volume.specs.declared.volume.Base.{Base}
@@ -57,7 +57,7 @@ pub leaves : (steps : List Step) (run : ℕ) (readers : List (Option SnapshotOf)
 leaves steps run readers leave old new (inl all) past left = inl (all, left)
 leaves steps run readers leave old new (inr (step, at, again, closed)) past left = absurd (let low = get_low steps run step at in omega (arith, low, past))
 
--- a turn begins with what it has taken of what it was lent
+-- a round begins with what it has taken of what it was lent
 pub begins_as : {W E A : Type 0} (text_of : W → List ℕ) (lot_of : A → Lot (Result W E)) (carried : Carried) (geometry : Geometry) (base : Base) (taken held : Held) (back ended : Vec A Global) (asked begun : Option ℕ)
     (start : Files) (old new : Option (List ℕ)) → taken ≡ held → back ≡ ended → asked ≡ begun → Begins text_of carried geometry base taken (map lot_of back.items) asked start old new
     → Begins text_of carried geometry base held (map lot_of ended.items) begun start old new
@@ -66,7 +66,7 @@ begins_as text_of lot_of carried geometry base taken held back ended asked begun
     (subst (λ (vec : Vec _ Global). Begins text_of carried geometry base held (map lot_of vec.items) asked start old new) own
     (subst (λ (has : Held). Begins text_of carried geometry base has (map lot_of back.items) asked start old new) mine begins))
 
--- how a turn paused, of what it has put back
+-- how a round paused, of what it has put back
 pub paused_so : {D E O : Type 0} (lot_of : D → Lot Hand) (contents : O → Option (List ℕ)) (steps : List Step) (geometry : Geometry) (first : ℕ) (start : Files) (old : Option (List ℕ))
     (turned result : Result (Pause D × Held) E) (pause form : Pause D) (kept held : Held) (out now : O) → turned ≡ result → turned ≡ Ok (pause, kept) → pause ≡ form → held ≡ kept → now ≡ out
     → IfOk result (λ end. Pauses steps geometry first start old (contents out) lot_of end.0 end.1) → Pauses steps geometry first start old (contents now) lot_of form held

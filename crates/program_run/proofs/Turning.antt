@@ -1,4 +1,4 @@
--- A part is one step: so the steps that a turn ran before it, the part, and the steps that the next turns ran are one run of steps.
+-- A part is one step: so the steps that a round ran before it, the part, and the steps that the next rounds ran are one run of steps.
 use Rattle.std.proofs.Common.{◌≡◌, ◌∙◌, ℕ, suc, zero, List, [], ◌∷◌, ◌++◌, ap, sym, subst, refl, arith, append_assoc, take, drop, length, map, Option, None, Some, Result, ◌+◌, ◌-◌, ◌<◌, ◌≤◌}
 use Rattle.std.specs.Prelude.{All, IfOk, is_some, slice_get, true}
 use Rattle.std.proofs.lemmas.Bool.{false≢true}
@@ -7,20 +7,20 @@ use Rattle.std.proofs.KnownBytes.{Appends-trans}
 use Rattle.std.proofs.lemmas.List.{drop-drop, length-drop}
 use Rattle.std.proofs.lemmas.List.Elements.{All-cons, All-nil}
 use Rattle.file_cells.specs.Pass.{Pass}
-use Rattle.flash_volume.specs.Turns.{Held, Lot}
+use Rattle.flash_volume.specs.Rounds.{Held, Lot}
 use Rattle.geometry.specs.declared.geometry.Geometry.{Geometry}
 use Rattle.program_script.specs.declared.script.Step.{Step}
 use Rattle.program_script.specs.declared.script.Step.TheVariants.{Part}
 use Rattle.program_script.specs.declared.script.Worker.{Worker}
 use Rattle.program_run.specs.Files.{AreInOrder, Files, Lends, StandInPlace}
-use Rattle.program_run.specs.Duties.{AreFit, AreGiven, Hand, TookBack, told_text}
+use Rattle.program_run.specs.PartJobs.{AreFit, AreGiven, Hand, TookBack, told_text}
 use Rattle.program_run.specs.Part.{PartWrites}
 use Rattle.program_run.proofs.Keeping.{DidTasks, all_fit}
 use Rattle.program_run.proofs.Lending.{same_files}
 use Rattle.program_run.proofs.Whole.{whole}
-use Rattle.program_run.specs.Crew.{Begins, HasHalted, IsAtPart, MayGoOn, RanOn, first_of}
+use Rattle.program_run.specs.Scheduler.{Begins, HasHalted, IsAtPart, MayGoOn, RanOn, first_of}
 use Rattle.program_run.specs.Run.{StepsWrite, WroteSteps}
-use Rattle.program_run.specs.declared.crew.Halt.{Halt}
+use Rattle.program_run.specs.declared.scheduler.Halt.{Halt}
 use Rattle.program_run.specs.declared.steps.Carried.{Carried}
 use Rattle.program_run.specs.declared.stop.Stop.{Stop}
 use Rattle.volume.specs.declared.volume.Base.{Base}
@@ -51,17 +51,17 @@ lent_in_order geometry time files held lends = record {
 }
 
 -- each worker may begin with its share
-pub may_begin : (geometry : Geometry) (number : ℕ) (workers : List Worker) (old : Files) (duties : List (Lot Hand)) (rest : Files) → AreGiven geometry number workers old duties rest
-    → All (λ (duty : Lot Hand). AreInOrder geometry.files duty.held.passes) duties
-may_begin geometry number [] old [] rest given = All-nil (λ (duty : Lot Hand). AreInOrder geometry.files duty.held.passes)
-may_begin geometry number [] old (duty ∷ duties) rest given = absurd given
+pub may_begin : (geometry : Geometry) (number : ℕ) (workers : List Worker) (old : Files) (part_jobs : List (Lot Hand)) (rest : Files) → AreGiven geometry number workers old part_jobs rest
+    → All (λ (part_job : Lot Hand). AreInOrder geometry.files part_job.held.passes) part_jobs
+may_begin geometry number [] old [] rest given = All-nil (λ (part_job : Lot Hand). AreInOrder geometry.files part_job.held.passes)
+may_begin geometry number [] old (part_job ∷ part_jobs) rest given = absurd given
 may_begin geometry number (worker ∷ workers) old [] rest given = absurd given
-may_begin geometry number (worker ∷ workers) old (duty ∷ duties) rest (middle, one, given) =
-    All-cons (λ (d : Lot Hand). AreInOrder geometry.files d.held.passes) duty duties (lent_in_order geometry one.share.time one.share duty.held one.lent_is)
-    (may_begin geometry (number + 1) workers middle duties rest given)
+may_begin geometry number (worker ∷ workers) old (part_job ∷ part_jobs) rest (middle, one, given) =
+    All-cons (λ (d : Lot Hand). AreInOrder geometry.files d.held.passes) part_job part_jobs (lent_in_order geometry one.share.time one.share part_job.held one.lent_is)
+    (may_begin geometry (number + 1) workers middle part_jobs rest given)
 
-module _ {W E : Type 0} (text_of : W → List ℕ) (steps : List Step) (geometry : Geometry) (first : ℕ) (start : Files) (told paused : Option (List ℕ)) (part time : ℕ) (duties : List (Lot Hand)) (held : Held)
-    (at : IsAtPart steps geometry first start told paused part time duties held) (ended : List (Lot (Result W E))) (did : DidTasks text_of geometry duties ended) where
+module _ {W E : Type 0} (text_of : W → List ℕ) (steps : List Step) (geometry : Geometry) (first : ℕ) (start : Files) (told paused : Option (List ℕ)) (part time : ℕ) (part_jobs : List (Lot Hand)) (held : Held)
+    (at : IsAtPart steps geometry first start told paused part time part_jobs held) (ended : List (Lot (Result W E))) (did : DidTasks text_of geometry part_jobs ended) where
   abbrev behind_first : List Step
   behind_first = drop first steps
 
@@ -73,7 +73,7 @@ module _ {W E : Type 0} (text_of : W → List ℕ) (steps : List Step) (geometry
   goes_on = (
     lent_in_order geometry time at.rest held at.lends,
     (let is = at.part_is in let within = low in let whole = length-drop first steps in omega (arith, is, within, whole)),
-    subst (λ n. AreFit text_of geometry n ended) (ap length at.lends.readers_are) (all_fit text_of geometry 0 at.workers.items at.now duties at.rest ended at.given did),
+    subst (λ n. AreFit text_of geometry n ended) (ap length at.lends.readers_are) (all_fit text_of geometry 0 at.workers.items at.now part_jobs at.rest ended at.given did),
   )
 
   module _ (now middle : Option (List ℕ)) (rest next : Files) (halt : Halt) (after : List Pass) (lends : Lends geometry time rest held) (took : TookBack text_of geometry rest ended next paused now)
@@ -85,7 +85,7 @@ module _ {W E : Type 0} (text_of : W → List ℕ) (steps : List Step) (geometry
     line = told_text 0 took.all
 
     part_wrote : PartWrites 0 at.workers.items at.now next line
-    part_wrote = whole text_of geometry 0 at.workers.items at.now duties rest ended took.all next (subst (λ files. AreGiven geometry 0 at.workers.items at.now duties files) (sym same_rest) at.given) did took.made took.back
+    part_wrote = whole text_of geometry 0 at.workers.items at.now part_jobs rest ended took.all next (subst (λ files. AreGiven geometry 0 at.workers.items at.now part_jobs files) (sym same_rest) at.given) did took.made took.back
 
     abbrev before : List Step
     before = take at.more behind_first
@@ -127,7 +127,7 @@ module _ {W E : Type 0} (text_of : W → List ℕ) (steps : List Step) (geometry
       halted = ran.halted;
     }
 
-  -- what the next turns come to is what the turn that asked for the part comes to
+  -- what the next rounds come to is what the round that asked for the part comes to
   pub halted_behind : (begun : Option ℕ) (carried next : Carried) (base : Base) (had : Held) (parts : List (Lot (Result W E))) (old new : Option (List ℕ)) (halt : Result Halt Stop) (leave : Leave) (after : List Pass)
       → first_of begun ≡ first → next.time ≡ time → Begins text_of carried geometry base had parts begun start old told
       → HasHalted text_of steps (Some part) next geometry base held ended halt leave after paused new
@@ -147,7 +147,7 @@ module _ {W E : Type 0} (text_of : W → List ℕ) (steps : List Step) (geometry
     halted.1,
   )
 
--- a turn behind a part begins with what its workers handed back
+-- a round behind a part begins with what its workers handed back
 pub begins_behind : {W E : Type 0} (text_of : W → List ℕ) (carried : Carried) (geometry : Geometry) (base : Base) (held : Held) (ended : List (Lot (Result W E))) (begun : Option ℕ) (start rest : Files)
     (old new : Option (List ℕ)) → is_some begun ≡ true → Lends geometry carried.time rest held → TookBack text_of geometry rest ended start old new → Begins text_of carried geometry base held ended begun start old new
 begins_behind text_of carried geometry base held ended None start rest old new some lends took = absurd (false≢true some)

@@ -1,8 +1,8 @@
 -- The lines of one worker more stand behind those of the others.
 use Rattle.std.proofs.Common.{◌≡◌, ◌∙◌, ◌+◌, ◌<◌, ℕ, List, [], ◌∷◌, ◌++◌, ap, append-nil, append_assoc, arith, get_or, length, map, sym, take}
 use Rattle.std.proofs.lemmas.List.{length-map, length-take-le, map-append, take_more}
-use Rattle.flash_volume.specs.Turns.{Lot}
-use Rattle.program_run.specs.Duties.{told_text}
+use Rattle.flash_volume.specs.Rounds.{Lot}
+use Rattle.program_run.specs.PartJobs.{told_text}
 use Rattle.program_run.specs.WorkerLines.{end_line}
 
 told_more : (number : ℕ) (all : List (Lot (List ℕ))) (made : Lot (List ℕ)) → told_text number (all ++ made ∷ []) ≡ told_text number all ++ (made.what ++ end_line (number + length all))

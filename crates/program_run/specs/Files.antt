@@ -5,7 +5,7 @@ use Rattle.geometry.specs.File.{File, new_file}
 use Rattle.geometry.specs.declared.geometry.Geometry.{Geometry}
 use Rattle.geometry.specs.declared.kind.Kind.TheVariants.{File as OrdinaryFile}
 use Rattle.file_cells.specs.Pass.{Pass}
-use Rattle.flash_volume.specs.Turns.{Held}
+use Rattle.flash_volume.specs.Rounds.{Held}
 use Rattle.file_cells.specs.Reader.{SnapshotOf}
 
 -- its numbers, the time that was set, for each inode number from 1 on, in order, the pass of the file of that number, if there

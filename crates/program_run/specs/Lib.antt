@@ -5,10 +5,10 @@ pub mod Work
 pub mod Share
 pub mod WorkerLines
 pub mod Tasks
-pub mod Duties
+pub mod PartJobs
 pub mod Part
 pub mod Checking
 pub mod Run
 pub mod Ending
 pub mod Reading
-pub mod Crew
+pub mod Scheduler

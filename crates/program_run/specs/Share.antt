@@ -2,15 +2,15 @@
 use Rattle.std.specs.Prelude.{◌≡◌, ℕ, ◌+◌, ◌<◌, List, length, Option, Some, None, slice_index_or}
 use Rattle.std.specs.List.{Contains, filter_map}
 use Rattle.std.specs.Option.{option_or}
-use Rattle.program_script.specs.declared.command.Work.{Work}
-use Rattle.program_script.specs.declared.command.Work.TheVariants.{Write, Fill, Read, Cut, Clean, Sync, Look}
-use Rattle.program_script.specs.declared.script.Task.{Task}
-use Rattle.flash_volume.specs.Turns.{Held}
+use Rattle.program_script.specs.declared.command.WorkerDeed.{WorkerDeed}
+use Rattle.program_script.specs.declared.command.WorkerDeed.TheVariants.{Write, Fill, Read, Cut, Clean, Sync, Look}
+use Rattle.program_script.specs.declared.script.WorkerTask.{WorkerTask}
+use Rattle.flash_volume.specs.Rounds.{Held}
 use Rattle.geometry.specs.declared.geometry.Geometry.{Geometry}
 use Rattle.program_run.specs.Files.{Files, Lends}
 
 -- the file that work names
-abbrev pub file_named : Work → Option ℕ
+abbrev pub file_named : WorkerDeed → Option ℕ
 file_named (Write file index byte) = Some file
 file_named (Fill file first last byte) = Some file
 file_named (Read file index) = Some file
@@ -20,7 +20,7 @@ file_named Sync = None
 file_named (Look reader) = None
 
 -- the reader that work names
-abbrev pub reader_named : Work → Option ℕ
+abbrev pub reader_named : WorkerDeed → Option ℕ
 reader_named (Write file index byte) = None
 reader_named (Fill file first last byte) = None
 reader_named (Read file index) = None
@@ -30,19 +30,19 @@ reader_named Sync = None
 reader_named (Look reader) = Some reader
 
 -- the files that tasks name, in their order
-abbrev pub files_named : List Task → List ℕ
+abbrev pub files_named : List WorkerTask → List ℕ
 files_named tasks = filter_map (λ task. file_named task.work) tasks
 
 -- the readers that tasks name, in their order
-abbrev pub readers_named : List Task → List ℕ
+abbrev pub readers_named : List WorkerTask → List ℕ
 readers_named tasks = filter_map (λ task. reader_named task.work) tasks
 
 -- some task names the file of this number
-abbrev pub NamesFile : List Task → ℕ → Type 0
+abbrev pub NamesFile : List WorkerTask → ℕ → Type 0
 NamesFile tasks number = Contains (files_named tasks) number
 
 -- some task names the reader of this number
-abbrev pub NamesReader : List Task → ℕ → Type 0
+abbrev pub NamesReader : List WorkerTask → ℕ → Type 0
 NamesReader tasks number = Contains (readers_named tasks) number
 
 -- what stood at the places of the numbers that are named stands in the share, and all else in the rest
@@ -53,7 +53,7 @@ pub record AreMoved {T : Type 0} (IsNamed : ℕ → Type 0) (old share rest : Li
   pub stayed : (k : ℕ) → k < length old → ¬ (IsNamed (k + 1)) → (slice_index_or share k None ≡ None) × (slice_index_or rest k None ≡ slice_index_or old k None)
 
 -- the passes of the files and the readers that the tasks name are the share's, the others are left, and numbers and time are the same
-pub record IsShare (tasks : List Task) (old share rest : Files) : Type 0 where
+pub record IsShare (tasks : List WorkerTask) (old share rest : Files) : Type 0 where
   pub passes : AreMoved (NamesFile tasks) old.passes share.passes rest.passes
   pub readers : AreMoved (NamesReader tasks) old.readers share.readers rest.readers
   pub share_numbers : share.geometry ≡ old.geometry

@@ -3,9 +3,9 @@ use Rattle.std.specs.Prelude.{◌≡◌, ◌⊎◌, ℕ, List, [], ◌∷◌, �
 use Rattle.geometry.specs.declared.error.Error.{Error}
 use Rattle.geometry.specs.declared.error.Error.TheVariants.{NoFile}
 use Rattle.cleaning.specs.declared.section.Cleaned.{Cleaned}
-use Rattle.program_script.specs.declared.command.Work.{Work}
-use Rattle.program_script.specs.declared.command.Work.TheVariants.{Write, Fill, Read, Cut, Clean, Sync, Look}
-use Rattle.program_script.specs.declared.script.Task.{Task}
+use Rattle.program_script.specs.declared.command.WorkerDeed.{WorkerDeed}
+use Rattle.program_script.specs.declared.command.WorkerDeed.TheVariants.{Write, Fill, Read, Cut, Clean, Sync, Look}
+use Rattle.program_script.specs.declared.script.WorkerTask.{WorkerTask}
 use Rattle.program_run.specs.declared.content.Content.{Content}
 use Rattle.program_run.specs.declared.synced.Synced.{Synced}
 use Rattle.program_run.specs.Files.{Files, HasReader, reader_at, shown_by}
@@ -20,7 +20,7 @@ IsLooked number files reader line =
     ⊎ ((¬ (HasReader files reader)) × (line ≡ refused_line number NoFile))
 
 -- work was done or refused, and this was written of it
-abbrev pub TaskWrites : ℕ → Work → Files → Files → List ℕ → Type 0
+abbrev pub TaskWrites : ℕ → WorkerDeed → Files → Files → List ℕ → Type 0
 TaskWrites number (Write file index byte) old new line =
     (done : Result (Unit {0}) Error) × IsWritten old file index byte done new × (line ≡ done_text number done)
 TaskWrites number (Fill file first last byte) old new line =
@@ -36,7 +36,7 @@ TaskWrites number Sync old new line =
     (synced : Result Synced Error) × IsSynced old synced × (new ≡ old) × (line ≡ done_text number synced)
 
 -- the tasks in order, each on what the one before it left
-abbrev pub TasksWrite : ℕ → List Task → Files → Files → List ℕ → Type 0
+abbrev pub TasksWrite : ℕ → List WorkerTask → Files → Files → List ℕ → Type 0
 TasksWrite number [] old new text = (new ≡ old) × (text ≡ [])
 TasksWrite number (task ∷ tasks) old new text =
     (middle : Files) × (line : List ℕ) × (lines : List ℕ)

@@ -7,8 +7,8 @@ use Rattle.geometry.specs.File.{Block, File, bytes_at, cut_to, new_file, written
 use Rattle.geometry.specs.declared.error.Error.{Error}
 use Rattle.geometry.specs.declared.error.Error.TheVariants.{NoFile, NoMemory, Wounded}
 use Rattle.geometry.specs.declared.kind.Kind.{Kind}
-use Rattle.program_script.specs.declared.command.Work.{Work}
-use Rattle.program_script.specs.declared.command.Work.TheVariants.{Write, Fill, Read, Cut, Clean, Sync, Look}
+use Rattle.program_script.specs.declared.command.WorkerDeed.{WorkerDeed}
+use Rattle.program_script.specs.declared.command.WorkerDeed.TheVariants.{Write, Fill, Read, Cut, Clean, Sync, Look}
 use Rattle.program_script.specs.declared.command.Cleaning.{Cleaning}
 use Rattle.program_script.specs.declared.command.Cleaning.TheVariants.{Foreground as CleanForeground, Background as CleanBackground}
 use Rattle.image.specs.Free.{free_count}
@@ -125,7 +125,7 @@ IsLooked files number line =
     ⊎ ((¬ (HasReader files number)) × (line ≡ refusal_line NoFile))
 
 -- work was done or refused, and wrote its line
-abbrev pub WorkWrites : Work → Files → Files → List ℕ → Type 0
+abbrev pub WorkWrites : WorkerDeed → Files → Files → List ℕ → Type 0
 WorkWrites (Write file index byte) old new line =
     (done : Result (Unit {0}) Error) × IsWritten old file index byte done new × (line ≡ done_line done)
 WorkWrites (Fill file first last byte) old new line =

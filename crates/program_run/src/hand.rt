@@ -1,16 +1,16 @@
 //! What a worker of a part is given, and what it does.
 ghost use Rattle.std.specs.Prelude.{◌≡◌, Ok, IfOk};
 ghost use Rattle.program_run.specs.Files.{AreInOrder};
-ghost use Rattle.program_run.specs.Duties.{IsDone};
+ghost use Rattle.program_run.specs.PartJobs.{IsDone};
 
 use crate::Session;
 use crate::calls::Calls;
 use crate::gate::Gate;
 use crate::tasks::run_tasks;
 use device::{Block, Meta};
-use flash_volume::{Lent, Part};
+use flash_volume::{Lent, ScheduledPart};
 use geometry::Error;
-use program_script::Task;
+use program_script::WorkerTask;
 use rights_permits::VolumeName;
 use std::alloc::Global;
 use std::io;
@@ -23,14 +23,14 @@ use volume::Volume;
 #[derive(Drop)]
 pub struct Hand<'t, G: Gate> {
     number: usize,
-    tasks: &'t [Task],
+    tasks: &'t [WorkerTask],
     time: u64,
     gate: &'t G,
 }
 
 impl<'t, G: Gate> Model for Hand<'t, G> {
     ghost use Rattle.std.specs.Coded.{codes};
-    ghost use Rattle.program_run.specs.Duties.{Hand};
+    ghost use Rattle.program_run.specs.PartJobs.{Hand};
 
     ghost Value = { Hand };
 
@@ -41,7 +41,7 @@ impl<'t, G: Gate> Model for Hand<'t, G> {
 
 impl<'t, G: Gate> Hand<'t, G> {
     /// A worker with its number and its tasks, at a time.
-    pub(crate) fn new(number: usize, tasks: &'t [Task], time: u64, gate: &'t G) -> Hand<'t, G>
+    pub(crate) fn new(number: usize, tasks: &'t [WorkerTask], time: u64, gate: &'t G) -> Hand<'t, G>
         ensures { result ≡ record { number = number; tasks = tasks.now; time = time } }
     {
         Hand {
@@ -79,10 +79,10 @@ pub(crate) fn memory<T>(made: Result<T, Error>) -> io::Result<T>
     made.map_err(|_| io::Error::from(ErrorKind::OutOfMemory))
 }
 
-impl<'t, M: Meta, B: Block + Drop, G: Gate> Part<M, B> for Hand<'t, G> {
+impl<'t, M: Meta, B: Block + Drop, G: Gate> ScheduledPart<M, B> for Hand<'t, G> {
     ghost use Rattle.std.specs.Prelude.{IfOk};
     ghost use Rattle.program_run.specs.Files.{AreInOrder};
-    ghost use Rattle.program_run.specs.Duties.{IsDone};
+    ghost use Rattle.program_run.specs.PartJobs.{IsDone};
 
     type Done = io::Result<Vec<u8>>;
 

@@ -8,7 +8,6 @@
 mod calls;
 mod check;
 pub mod content;
-mod crew;
 mod disk;
 mod files;
 pub mod gate;
@@ -20,6 +19,7 @@ mod places;
 mod reading;
 mod remounting;
 mod run;
+mod scheduler;
 pub mod session;
 mod setting;
 pub mod status;

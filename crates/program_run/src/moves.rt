@@ -6,11 +6,11 @@ ghost use Rattle.geometry.specs.declared.error.Error.TheVariants.{NoMemory};
 ghost use Rattle.program_run.specs.Share.{AreJoined, AreMoved, file_named, files_named, reader_named, readers_named};
 
 use geometry::Error;
-use program_script::{Task, Work};
+use program_script::{WorkerDeed, WorkerTask};
 use std::alloc::Global;
 
 /// The files that tasks name, in their order. The only error is NoMemory.
-pub(crate) fn files_named(alloc: Global, tasks: &[Task]) -> Result<Vec<u32>, Error>
+pub(crate) fn files_named(alloc: Global, tasks: &[WorkerTask]) -> Result<Vec<u32>, Error>
     ensures files { IfOk result (λ files. files.items ≡ files_named tasks.now) }
     ensures error { IfErr result (λ error. error ≡ NoMemory) }
 {
@@ -19,7 +19,7 @@ pub(crate) fn files_named(alloc: Global, tasks: &[Task]) -> Result<Vec<u32>, Err
 }
 
 /// The readers that tasks name, in their order. The only error is NoMemory.
-pub(crate) fn readers_named(alloc: Global, tasks: &[Task]) -> Result<Vec<u32>, Error>
+pub(crate) fn readers_named(alloc: Global, tasks: &[WorkerTask]) -> Result<Vec<u32>, Error>
     ensures readers { IfOk result (λ readers. readers.items ≡ readers_named tasks.now) }
     ensures error { IfErr result (λ error. error ≡ NoMemory) }
 {
@@ -28,24 +28,24 @@ pub(crate) fn readers_named(alloc: Global, tasks: &[Task]) -> Result<Vec<u32>, E
 }
 
 // The file that work names.
-fn file_named(work: Work) -> Option<u32>
+fn file_named(work: WorkerDeed) -> Option<u32>
     ensures { result ≡ file_named work }
 {
     match work {
-        Work::Write { file, .. }
-        | Work::Fill { file, .. }
-        | Work::Read { file, .. }
-        | Work::Cut { file, .. } => Some(file),
-        Work::Clean(_) | Work::Sync | Work::Look { .. } => None,
+        WorkerDeed::Write { file, .. }
+        | WorkerDeed::Fill { file, .. }
+        | WorkerDeed::Read { file, .. }
+        | WorkerDeed::Cut { file, .. } => Some(file),
+        WorkerDeed::Clean(_) | WorkerDeed::Sync | WorkerDeed::Look { .. } => None,
     }
 }
 
 // The reader that work names.
-fn reader_named(work: Work) -> Option<u32>
+fn reader_named(work: WorkerDeed) -> Option<u32>
     ensures { result ≡ reader_named work }
 {
     match work {
-        Work::Look { reader } => Some(reader),
+        WorkerDeed::Look { reader } => Some(reader),
         _ => None,
     }
 }

@@ -3,14 +3,14 @@ ghost use Rattle.std.specs.Prelude.{◌≡◌, length, map, All, IfOk, OnOk};
 ghost use Rattle.std.specs.Io.KnownBytes.{Appends};
 ghost use Rattle.std.specs.List.{AllZip};
 ghost use Rattle.program_run.specs.Files.{AreInOrder};
-ghost use Rattle.program_run.specs.Duties.{AreBack, AreFit, AreGiven, IsMade, TookBack, told_text};
+ghost use Rattle.program_run.specs.PartJobs.{AreBack, AreFit, AreGiven, IsMade, TookBack, told_text};
 
 use crate::Session;
 use crate::gate::Gate;
 use crate::hand::{Hand, memory};
 use crate::worker_lines::tell_end;
 use device::{Block, Meta};
-use flash_volume::{Duty, Ended, Lent};
+use flash_volume::{Ended, Lent, PartJob};
 use program_script::Worker;
 use rights_permits::VolumeName;
 use std::alloc::Global;
@@ -33,18 +33,18 @@ pub fn give_shares<'t, 'a, V: VolumeName, M: Meta, B: Block + Drop, G: Gate>(
     session: &mut Session<'a, V, M, B>,
     workers: &'t [Worker],
     gate: &'t G,
-) -> io::Result<Vec<Duty<'a, V, B, Hand<'t, G>>>>
-    ensures { IfOk result (λ duties. AreGiven V.Numbers.geometry 0 workers.now session.old (map (λ duty. record { what = duty.part; held = duty.lent }) duties.items) session.new) }
+) -> io::Result<Vec<PartJob<'a, V, B, Hand<'t, G>>>>
+    ensures { IfOk result (λ part_jobs. AreGiven V.Numbers.geometry 0 workers.now session.old (map (λ part_job. record { what = part_job.part; held = part_job.lent }) part_jobs.items) session.new) }
 {
-    let mut duties = Vec::new(alloc);
+    let mut part_jobs = Vec::new(alloc);
     for (number, worker) in workers.iter().enumerate() {
         let tasks = worker.tasks.as_slice();
         let share = memory(session.take_share(tasks))?;
         let lent = memory(share.end())?;
         let part = Hand::new(number, tasks, session.time(), gate);
-        duties.push(Duty { part, lent })?;
+        part_jobs.push(PartJob { part, lent })?;
     }
-    Ok(duties)
+    Ok(part_jobs)
 }
 
 /// Ends a parallel part, once all workers have ended: each of them tells its lines, in their order: what it has read and looked at,

@@ -4,14 +4,11 @@ ghost use Rattle.std.specs.Io.KnownBytes.{Consumes, IsAtEnd, Keeps};
 ghost use Rattle.pack_tables.specs.Grammar.{HasSuper};
 ghost use Rattle.program_run.specs.Reading.{IsEnoughOf};
 
-use geometry::Geometry;
+use geometry::{Geometry, SUPER_BYTES};
 use pack_tables::{file_bytes, read_super};
 use std::alloc::Global;
 use std::io;
 use std::io::{ErrorKind, Read};
-
-// The bytes of a superblock.
-const SUPER_BYTES: usize = 64;
 
 // So many bytes are asked for at one time.
 const PIECE_BYTES: usize = 4096;

@@ -4,13 +4,13 @@ ghost use Rattle.device.specs.Parts.{IsBlockRun};
 ghost use Rattle.program_run.specs.Ending.{WentOn};
 ghost use Rattle.program_run.specs.Run.{names_line};
 
-use crate::crew::{Halt, Ran, Script};
 use crate::gate::Gate;
+use crate::scheduler::{Halt, Ran, RunningScript};
 use crate::setting::Setting;
 use crate::steps::Carried;
 use crate::stop::Stop;
 use device::{Block, Meta, Parts};
-use flash_volume::{Done, SharedBlock, visit_by_turns};
+use flash_volume::{Done, SharedBlock, visit_by_rounds};
 use program_script::Step;
 use std::alloc::Global;
 use std::io::Write;
@@ -45,7 +45,7 @@ pub fn run_mounted<
     ensures done { IfOk result (λ left. WentOn M.seen B.address_of B.content_of parts steps.now carried left (O.contents out.old) (O.contents out.new)) }
     ensures err { IfErr result (λ stop. names_line stop ≡ false) }
 {
-    let script = Script {
+    let script = RunningScript {
         steps,
         begun: None,
         carried,
@@ -53,7 +53,7 @@ pub fn run_mounted<
         out: &mut *out,
     };
     seen_law::<M>();
-    match visit_by_turns(rt, alloc, parts, setting.threading, script) {
+    match visit_by_rounds(rt, alloc, parts, setting.hole_reuse, script) {
         Ok(left) => match left {
             Ok(done) => {
                 let Done { parts, output } = done;

@@ -113,7 +113,7 @@ fn run_whole<T: Threads + Wait + Sync, G: Gate + Sync, W: Write>(
     .with_packing(rules.packing);
     let setting = Setting {
         faults: Faults::new(alloc)?,
-        threading: rules.threading,
+        hole_reuse: rules.hole_reuse,
         gate,
     };
     let parts = new_parts(alloc, &geometry, &setting.faults)?;

@@ -27,9 +27,7 @@ use std::alloc::Global;
 use std::marker::Model;
 use std::sync::Wait;
 use volume::Volume;
-
-// How many seats a volume has.
-const SEATS: u32 = 64;
+use words::SEATS;
 
 /// A volume with the passes of its files, the readers that were taken, and the time that a script has set. A caller
 /// sees the volume's numbers, the time, the files and the readers.

@@ -1,7 +1,7 @@
 //! What a script runs in.
 use crate::disk::Faults;
 use crate::gate::Gate;
-use flash_volume::{Packing, Threading};
+use flash_volume::{HoleReuse, Packing};
 
 /// By which rules a script's volume is made and written.
 #[derive(Clone, Copy)]
@@ -9,7 +9,7 @@ pub struct Rules {
     /// How its checkpoint packs lie.
     pub packing: Packing,
     /// When it threads used segments.
-    pub threading: Threading,
+    pub hole_reuse: HoleReuse,
 }
 
 /// What a script runs in beside its volume: what lets calls of its device fail, when the volume threads used segments, and the gate that
@@ -17,6 +17,6 @@ pub struct Rules {
 #[derive(Drop)]
 pub struct Setting<'g, G: Gate> {
     pub faults: Faults,
-    pub threading: Threading,
+    pub hole_reuse: HoleReuse,
     pub gate: &'g G,
 }

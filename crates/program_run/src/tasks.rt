@@ -8,7 +8,7 @@ use crate::gate::Gate;
 use crate::worker_lines::{tell_done, tell_read, tell_refusal};
 use crate::{Session, run_work};
 use device::{Block, Meta};
-use program_script::{Task, Work};
+use program_script::{WorkerDeed, WorkerTask};
 use rights_permits::VolumeName;
 use std::io;
 use std::io::Write;
@@ -19,7 +19,7 @@ pub(crate) fn run_tasks<V: VolumeName, M: Meta, B: Block + Drop, R: Wait, G: Gat
     rt: &R,
     calls: &mut Calls<'_, G>,
     share: &mut Session<'_, V, M, B>,
-    tasks: &[Task],
+    tasks: &[WorkerTask],
     out: &mut W,
 ) -> io::Result<()>
     ensures { OnOk result (Wrote (TasksWrite calls.old.worker tasks.now share.old share.new) (W.contents out.old) (W.contents out.new)) }
@@ -35,7 +35,7 @@ fn run_task<V: VolumeName, M: Meta, B: Block + Drop, R: Wait, G: Gate, W: Write>
     rt: &R,
     calls: &mut Calls<'_, G>,
     share: &mut Session<'_, V, M, B>,
-    work: Work,
+    work: WorkerDeed,
     out: &mut W,
 ) -> io::Result<()>
     ensures worker { calls.new.worker ≡ calls.old.worker }
@@ -43,22 +43,24 @@ fn run_task<V: VolumeName, M: Meta, B: Block + Drop, R: Wait, G: Gate, W: Write>
 {
     let worker = calls.worker;
     match work {
-        Work::Write { file, index, byte } => {
+        WorkerDeed::Write { file, index, byte } => {
             tell_done(worker, calls.write(rt, share, file, index, byte), out)
         }
-        Work::Fill {
+        WorkerDeed::Fill {
             file,
             first,
             last,
             byte,
         } => tell_done(worker, calls.fill(rt, share, file, first, last, byte), out),
-        Work::Read { file, index } => {
+        WorkerDeed::Read { file, index } => {
             tell_read(worker, file, index, calls.read(rt, share, file, index), out)
         }
-        Work::Cut { file, length } => { tell_done(worker, calls.cut(rt, share, file, length), out) }
-        Work::Clean(cleaning) => tell_done(worker, calls.clean(rt, share, cleaning), out),
-        Work::Sync => tell_done(worker, calls.sync(rt, share), out),
-        Work::Look { reader } => look(rt, calls, share, reader, out),
+        WorkerDeed::Cut { file, length } => {
+            tell_done(worker, calls.cut(rt, share, file, length), out)
+        }
+        WorkerDeed::Clean(cleaning) => tell_done(worker, calls.clean(rt, share, cleaning), out),
+        WorkerDeed::Sync => tell_done(worker, calls.sync(rt, share), out),
+        WorkerDeed::Look { reader } => look(rt, calls, share, reader, out),
     }
 }
 
@@ -71,11 +73,11 @@ fn look<V: VolumeName, M: Meta, B: Block + Drop, R: Wait, G: Gate, W: Write>(
     out: &mut W,
 ) -> io::Result<()>
     ensures worker { calls.new.worker ≡ calls.old.worker }
-    ensures told { OnOk result (Wrote (TaskWrites calls.old.worker (Work.Look reader) share.old share.new) (W.contents out.old) (W.contents out.new)) }
+    ensures told { OnOk result (Wrote (TaskWrites calls.old.worker (WorkerDeed.Look reader) share.old share.new) (W.contents out.old) (W.contents out.new)) }
 {
     calls.begin();
     let told = match share.shown_length(reader) {
-        Ok(_) => run_work(rt, share, Work::Look { reader }, out),
+        Ok(_) => run_work(rt, share, WorkerDeed::Look { reader }, out),
         Err(error) => tell_refusal(calls.worker, error, out),
     };
     calls.end();

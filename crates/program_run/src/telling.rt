@@ -12,7 +12,7 @@ use crate::lines::tell_total;
 use crate::stop::Stop;
 use device::{Block, Meta, Parts};
 use file_cells::FilePass;
-use flash_volume::{Done, Leave, Rights, Threading, Visit, visit_volume};
+use flash_volume::{Done, HoleReuse, Leave, Rights, Visit, visit_volume};
 use geometry::Error;
 use rights_permits::VolumeName;
 use std::alloc::Global;
@@ -32,7 +32,7 @@ pub fn tell_parts<M: Meta + Drop, B: Block + Drop, R: Wait, O: Write>(
     ensures err { IfErr result (λ stop. names_line stop ≡ false) }
 {
     let visit = TellFiles { out: &mut *out };
-    match visit_volume(rt, alloc, parts, Threading::Whenever, Leave::Discard, visit) {
+    match visit_volume(rt, alloc, parts, HoleReuse::Always, Leave::Discard, visit) {
         Ok(left) => match left {
             Ok(done) => {
                 let Done {

@@ -9,7 +9,7 @@ use crate::lines::{tell_cleaned, tell_done, tell_read, tell_refusal, tell_synced
 use crate::session::Session;
 use cleaning::Policy;
 use device::{Block, Meta};
-use program_script::{Cleaning, Work};
+use program_script::{Cleaning, WorkerDeed};
 use rights_permits::VolumeName;
 use std::io;
 use std::io::Write;
@@ -19,24 +19,32 @@ use std::sync::Wait;
 pub fn run_work<V: VolumeName, M: Meta, B: Block + Drop, T: Wait, W: Write>(
     rt: &T,
     session: &mut Session<'_, V, M, B>,
-    work: Work,
+    work: WorkerDeed,
     out: &mut W,
 ) -> io::Result<()>
     ensures { OnOk result (Wrote (WorkWrites work session.old session.new) (W.contents out.old) (W.contents out.new)) }
 {
     match work {
-        Work::Write { file, index, byte } => tell_done(session.write(rt, file, index, byte), out),
-        Work::Fill {
+        WorkerDeed::Write { file, index, byte } => tell_done(
+            session.write(rt, file, index, byte),
+            out,
+        ),
+        WorkerDeed::Fill {
             file,
             first,
             last,
             byte,
         } => tell_done(session.fill(rt, file, first, last, byte), out),
-        Work::Read { file, index } => tell_read(file, index, session.read(rt, file, index), out),
-        Work::Cut { file, length } => tell_done(session.cut(rt, file, length), out),
-        Work::Clean(cleaning) => tell_cleaned(session.clean(rt, policy_of(cleaning)), out),
-        Work::Look { reader } => tell_look(session, reader, out),
-        Work::Sync => tell_synced(session.sync(rt), out),
+        WorkerDeed::Read { file, index } => tell_read(
+            file,
+            index,
+            session.read(rt, file, index),
+            out,
+        ),
+        WorkerDeed::Cut { file, length } => tell_done(session.cut(rt, file, length), out),
+        WorkerDeed::Clean(cleaning) => tell_cleaned(session.clean(rt, policy_of(cleaning)), out),
+        WorkerDeed::Look { reader } => tell_look(session, reader, out),
+        WorkerDeed::Sync => tell_synced(session.sync(rt), out),
     }
 }
 

@@ -1,5 +1,5 @@
 //! A script that is run, and what it told.
-use flash_volume::{Packing, Threading};
+use flash_volume::{HoleReuse, Packing};
 use program_run::{Gate, OpenGate, Rules, run_script};
 use program_trials::{Fault, Told, Trouble, Verdict, judge_lines};
 use std::alloc::Global;
@@ -27,7 +27,7 @@ pub fn play<R: Threads + Wait + Sync, G: Gate + Sync>(
         saved,
         Rules {
             packing,
-            threading: Threading::Whenever,
+            hole_reuse: HoleReuse::Always,
         },
         gate,
     );

@@ -4,7 +4,7 @@ use crate::acts::Acts;
 use crate::mounting::Nothing;
 use device::MemDevice;
 use file_device::read_device;
-use flash_volume::{Leave, Packing, Stage, Threading, visit_volume, work_on_new};
+use flash_volume::{HoleReuse, Leave, Packing, Stage, visit_volume, work_on_new};
 use geometry::{Error, Geometry, Shape};
 use program_trials::{Around, Chance, Counts, Fault, Machine, bytes_of, inside, tear};
 use std::alloc::{AllocError, Global};
@@ -164,8 +164,8 @@ fn work<R: Wait>(
         near: kind.near,
         crowded,
     };
-    let threading = threading_of(crowded);
-    let visited = match visit_volume(rt, alloc, parts, threading, leave, acts) {
+    let hole_reuse = hole_reuse_of(crowded);
+    let visited = match visit_volume(rt, alloc, parts, hole_reuse, leave, acts) {
         Ok(visited) => visited,
         Err(_refused) => return Err(Fault::Wrong(String::from_str(alloc, "a mount is refused")?)),
     };
@@ -194,10 +194,10 @@ fn pick_leave(chance: &mut Chance) -> Leave {
 }
 
 // A crowded volume threads whenever it can, so that many holes are filled.
-fn threading_of(crowded: bool) -> Threading {
+fn hole_reuse_of(crowded: bool) -> HoleReuse {
     if crowded {
-        Threading::Whenever
+        HoleReuse::Always
     } else {
-        Threading::WhileReserveIsFull
+        HoleReuse::WhileReserveIsFull
     }
 }

@@ -21,7 +21,7 @@ pub enum Failure {
 
 /// What a worker of a parallel part may do, and a script outside of one.
 #[derive(Clone, Copy, Debug, PartialEq, Eq)]
-pub enum Work {
+pub enum WorkerDeed {
     /// Writes a block of equal bytes at an index.
     Write {
         file: u32,
@@ -59,7 +59,7 @@ pub enum Work {
 #[derive(Clone, Copy, Debug, PartialEq, Eq)]
 pub enum Command {
     /// What a worker may do too.
-    Work(Work),
+    Work(WorkerDeed),
     /// Sets the time.
     Now(u64),
     /// Makes a file.

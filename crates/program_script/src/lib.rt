@@ -10,7 +10,7 @@ mod part;
 pub mod script;
 pub mod words;
 
-pub use command::{Cleaning, Command, Failure, Work};
+pub use command::{Cleaning, Command, Failure, WorkerDeed};
 pub use error::ScriptError;
-pub use script::{Numbers, Script, Step, Task, Worker};
-pub use words::{Words, WordsError};
+pub use script::{Numbers, Script, Step, Worker, WorkerTask};
+pub use words::{CommandLine, WordsError};

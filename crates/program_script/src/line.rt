@@ -8,7 +8,7 @@ ghost use Rattle.program_script.specs.Numeral.{IsNumeral, decimal};
 
 use crate::number::{byte, number, small};
 use crate::script::Numbers;
-use crate::{Cleaning, Command, Failure, Work};
+use crate::{Cleaning, Command, Failure, WorkerDeed};
 use geometry::{Kind, Shape};
 
 /// What a line says, wherever it stands.
@@ -59,30 +59,30 @@ fn command(words: &[&[u8]]) -> Option<Command> {
     }
 }
 
-fn work(words: &[&[u8]]) -> Option<Work> {
+fn work(words: &[&[u8]]) -> Option<WorkerDeed> {
     match words {
-        [b"write", file, index, value] => Some(Work::Write {
+        [b"write", file, index, value] => Some(WorkerDeed::Write {
             file: small(file)?,
             index: small(index)?,
             byte: byte(value)?,
         }),
-        [b"fill", file, first, last, value] => Some(Work::Fill {
+        [b"fill", file, first, last, value] => Some(WorkerDeed::Fill {
             file: small(file)?,
             first: small(first)?,
             last: small(last)?,
             byte: byte(value)?,
         }),
-        [b"read", file, index] => Some(Work::Read {
+        [b"read", file, index] => Some(WorkerDeed::Read {
             file: small(file)?,
             index: small(index)?,
         }),
-        [b"cut", file, length] => Some(Work::Cut {
+        [b"cut", file, length] => Some(WorkerDeed::Cut {
             file: small(file)?,
             length: small(length)?,
         }),
-        [b"clean", cleaning] => Some(Work::Clean(cleaning_of(cleaning)?)),
-        [b"sync"] => Some(Work::Sync),
-        [b"look", reader] => Some(Work::Look {
+        [b"clean", cleaning] => Some(WorkerDeed::Clean(cleaning_of(cleaning)?)),
+        [b"sync"] => Some(WorkerDeed::Sync),
+        [b"look", reader] => Some(WorkerDeed::Look {
             reader: small(reader)?,
         }),
         _ => None,

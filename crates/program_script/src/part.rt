@@ -1,5 +1,5 @@
 //! A parallel part that is being read.
-use crate::{ScriptError, Step, Task, Work, Worker};
+use crate::{ScriptError, Step, Worker, WorkerDeed, WorkerTask};
 use std::alloc::Global;
 use std::collections::BTreeMap;
 
@@ -37,7 +37,7 @@ impl Part {
 
     /// Gives the last worker a command. Answers BadCommand where there is no worker, or another one names the file or
     /// the reader.
-    pub fn add(&mut self, line: u64, work: Work) -> Result<(), ScriptError> {
+    pub fn add(&mut self, line: u64, work: WorkerDeed) -> Result<(), ScriptError> {
         let count = self.workers.len();
         let Some(worker) = self.workers.last_mut() else {
             return Err(ScriptError::BadCommand { line });
@@ -51,7 +51,7 @@ impl Part {
                 }
             }
         }
-        worker.tasks.push(Task { line, work })?;
+        worker.tasks.push(WorkerTask { line, work })?;
         Ok(())
     }
 
@@ -63,13 +63,13 @@ impl Part {
     }
 }
 
-fn name_of(work: Work) -> Option<Name> {
+fn name_of(work: WorkerDeed) -> Option<Name> {
     match work {
-        Work::Write { file, .. }
-        | Work::Fill { file, .. }
-        | Work::Read { file, .. }
-        | Work::Cut { file, .. } => Some(Name::File(file)),
-        Work::Look { reader } => Some(Name::Reader(reader)),
-        Work::Clean(_) | Work::Sync => None,
+        WorkerDeed::Write { file, .. }
+        | WorkerDeed::Fill { file, .. }
+        | WorkerDeed::Read { file, .. }
+        | WorkerDeed::Cut { file, .. } => Some(Name::File(file)),
+        WorkerDeed::Look { reader } => Some(Name::Reader(reader)),
+        WorkerDeed::Clean(_) | WorkerDeed::Sync => None,
     }
 }

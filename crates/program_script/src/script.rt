@@ -2,7 +2,7 @@
 ghost use Rattle.std.specs.Prelude.{◌≡◌, None, vec_len};
 
 use crate::parser::Parser;
-use crate::{Command, ScriptError, Work};
+use crate::{Command, ScriptError, WorkerDeed};
 use geometry::Shape;
 use std::alloc::Global;
 
@@ -18,15 +18,15 @@ pub struct Numbers {
 
 /// A worker's command, and its line.
 #[derive(Clone, Copy, Debug, PartialEq, Eq)]
-pub struct Task {
+pub struct WorkerTask {
     pub line: u64,
-    pub work: Work,
+    pub work: WorkerDeed,
 }
 
 /// A worker of a parallel part.
 #[derive(Debug, Drop)]
 pub struct Worker {
-    pub tasks: Vec<Task>,
+    pub tasks: Vec<WorkerTask>,
 }
 
 /// A step of a script, and the line where it begins.

@@ -14,11 +14,11 @@ pub const USAGE: &str = "usage: f2fsim run [--save PATH] | check IMAGE";
 
 /// What the program is to do.
 #[derive(Clone, Copy, Debug, PartialEq, Eq)]
-pub enum Words<'a> {
+pub enum CommandLine<'a> {
     /// Runs a script on a volume that threads by a rule of this name, and saves the bytes of the device at a path.
     Run {
         save: Option<&'a str>,
-        threading: Option<&'a str>,
+        hole_reuse: Option<&'a str>,
     },
     /// Checks an image file.
     Check {
@@ -41,9 +41,9 @@ pub enum WordsError {
     NoMemory,
 }
 
-impl<'a> Words<'a> {
+impl<'a> CommandLine<'a> {
     /// What these words ask for. The first is the program's own name. Paths are taken as they stand.
-    pub fn parse<S: AsStr>(alloc: Global, words: &'a [S]) -> Result<Words<'a>, WordsError>
+    pub fn parse<S: AsStr>(alloc: Global, words: &'a [S]) -> Result<CommandLine<'a>, WordsError>
         ensures asked { IfOk result (λ asked. AsksFor asked (subcommand_of program (map S.text words.entry.now))) }
         ensures faultless { OnOk result (fault_of program (map S.text words.entry.now) ≡ []) }
     {
@@ -57,27 +57,27 @@ impl<'a> Words<'a> {
     }
 }
 
-fn parsed<'a, S: AsStr>(alloc: Global, words: &'a [S]) -> Result<Option<Words<'a>>, Error>
+fn parsed<'a, S: AsStr>(alloc: Global, words: &'a [S]) -> Result<Option<CommandLine<'a>>, Error>
     ensures asked { IfOk result (λ found. IfSome found (λ asked.
         AsksFor asked (subcommand_of program (map S.text words.entry.now)))) }
     ensures faultless { OnOk result (fault_of program (map S.text words.entry.now) ≡ []) }
 {
     let matches = program(alloc)?.try_get_matches_from(words)?;
     if let Some(run) = matches.subcommand_matches("run") {
-        return Ok(Some(Words::Run {
+        return Ok(Some(CommandLine::Run {
             save: run.get_str("save"),
-            threading: run.get_str("threading"),
+            hole_reuse: run.get_str("threading"),
         }));
     }
     if let Some(check) = matches.subcommand_matches("check")
         && let Some(image) = check.get_str("image")
     {
-        return Ok(Some(Words::Check { image }));
+        return Ok(Some(CommandLine::Check { image }));
     }
     if let Some(files) = matches.subcommand_matches("files")
         && let Some(image) = files.get_str("image")
     {
-        return Ok(Some(Words::Files { image }));
+        return Ok(Some(CommandLine::Files { image }));
     }
     Ok(None)
 }
@@ -94,9 +94,9 @@ fn with_run<'a>(alloc: Global) -> Result<Command<'a>, AllocError>
     ensures { IfOk result (λ command. app_of command ≡ with_subcommand bare run.top) }
 {
     let save = Arg::new(alloc, "save").long("save");
-    let threading = Arg::new(alloc, "threading").long("threading");
+    let hole_reuse = Arg::new(alloc, "threading").long("threading");
     let run = Command::new(alloc, "run").arg(save)?;
-    let run = run.arg(threading)?;
+    let run = run.arg(hole_reuse)?;
     Command::new(alloc, "f2fsim")
         .subcommand_required(true)
         .subcommand(run)

@@ -1,7 +1,7 @@
 //! Whether a run that met trouble told the same numbers as one of what was accepted.
 use crate::fault::Fault;
 use crate::trial::{Told, is_quiet, lines_of, parsed};
-use program_script::{Command, Step, Work};
+use program_script::{Command, Step, WorkerDeed};
 use std::alloc::{AllocError, Global};
 
 /// Each line that was not refused is that of the plain run, and so are the lines of the end. A segment that a refused append opened
@@ -80,7 +80,7 @@ fn agree(alloc: Global, command: Command, line: &[u8], plain: &[u8]) -> Result<b
                 && sealed == plain_sealed
         }
         (
-            Command::Work(Work::Sync),
+            Command::Work(WorkerDeed::Sync),
             [version, total, free],
             [plain_version, plain_total, plain_free],
         ) => {

@@ -6,7 +6,7 @@
 use crate::fault::Fault;
 use crate::files::{Files, tell_bytes};
 use crate::scripts::FILES;
-use program_script::{Command, Step, Work};
+use program_script::{Command, Step, WorkerDeed};
 use std::alloc::Global;
 use std::fmt::Write;
 
@@ -135,11 +135,11 @@ impl Judge {
         let mut wanted = String::new(alloc);
         match command {
             Command::Status => return self.starts(line, "free "),
-            Command::Work(Work::Clean(_)) => return self.starts(line, "clean "),
-            Command::Work(Work::Sync) => return self.hear_synced(line),
+            Command::Work(WorkerDeed::Clean(_)) => return self.starts(line, "clean "),
+            Command::Work(WorkerDeed::Sync) => return self.hear_synced(line),
             Command::Remount => return self.hear_mounted(line),
             // What is refused for want of room changes nothing.
-            Command::Work(Work::Write { .. }) if line == NO_SPACE => return Ok(()),
+            Command::Work(WorkerDeed::Write { .. }) if line == NO_SPACE => return Ok(()),
             Command::Work(work) => self.do_work(work, &mut wanted)?,
             _ => self.do_command(command, &mut wanted)?,
         }
@@ -168,21 +168,21 @@ impl Judge {
     }
 
     // Does a worker's command on the files as they ought to be, and adds its line.
-    fn do_work(&mut self, work: Work, wanted: &mut String) -> Result<(), Fault> {
+    fn do_work(&mut self, work: WorkerDeed, wanted: &mut String) -> Result<(), Fault> {
         match work {
-            Work::Write { file, index, byte } => {
+            WorkerDeed::Write { file, index, byte } => {
                 let done = self.files.write(file, index, byte)?;
                 tell(done, wanted)?;
             }
-            Work::Cut { file, length } => tell(self.files.cut(file, length), wanted)?,
-            Work::Read { file, index } => match self.files.blocks(file) {
+            WorkerDeed::Cut { file, length } => tell(self.files.cut(file, length), wanted)?,
+            WorkerDeed::Read { file, index } => match self.files.blocks(file) {
                 Some(blocks) => match blocks.get(index as usize) {
                     Some(byte) => write!(wanted, "read {file} {index} {byte:02x}")?,
                     None => write!(wanted, "read {file} {index} end")?,
                 },
                 None => tell(false, wanted)?,
             },
-            Work::Look { reader } => match self.files.shown(reader) {
+            WorkerDeed::Look { reader } => match self.files.shown(reader) {
                 Some(shown) => {
                     write!(wanted, "look {reader}")?;
                     tell_bytes(shown, wanted)?;
@@ -316,7 +316,7 @@ fn tell(done: bool, wanted: &mut String) -> Result<(), Fault> {
 }
 
 fn is_sync(command: Command) -> bool {
-    matches!(command, Command::Work(Work::Sync))
+    matches!(command, Command::Work(WorkerDeed::Sync))
 }
 
 fn is_snap(command: Command) -> bool {
@@ -327,7 +327,7 @@ fn is_snap(command: Command) -> bool {
 fn writes(command: Command) -> bool {
     matches!(
         command,
-        Command::Work(Work::Write { .. } | Work::Clean(_) | Work::Sync)
+        Command::Work(WorkerDeed::Write { .. } | WorkerDeed::Clean(_) | WorkerDeed::Sync)
     )
 }
 
@@ -337,6 +337,11 @@ fn changes(command: Command) -> bool {
         command,
         Command::Create(_)
             | Command::Delete { .. }
-            | Command::Work(Work::Write { .. } | Work::Cut { .. } | Work::Clean(_) | Work::Sync)
+            | Command::Work(
+                WorkerDeed::Write { .. }
+                    | WorkerDeed::Cut { .. }
+                    | WorkerDeed::Clean(_)
+                    | WorkerDeed::Sync
+            )
     )
 }

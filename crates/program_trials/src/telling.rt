@@ -1,5 +1,5 @@
 //! What is read of a text.
-use program_script::{Script, Words};
+use program_script::{CommandLine, Script};
 use std::alloc::Global;
 use std::io;
 use std::io::Write;
@@ -25,7 +25,7 @@ pub fn tell_call(alloc: Global, text: &str, told: &mut Vec<u8>) -> io::Result<()
     for word in text.split(',') {
         words.push(word)?;
     }
-    match Words::parse(alloc, words.as_slice()) {
+    match CommandLine::parse(alloc, words.as_slice()) {
         Ok(words) => writeln!(told, "{words:?}"),
         Err(error) => writeln!(told, "{error:?}"),
     }

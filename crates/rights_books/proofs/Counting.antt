@@ -5,8 +5,8 @@ use Rattle.geometry.specs.Weights.{weigh}
 use Rattle.geometry.proofs.Weighing.{weigh-same}
 use Rattle.rights_books.specs.ClaimRules.{together, Follows}
 use Rattle.geometry.specs.declared.owner.Mark.{Mark}
-use Rattle.rights_books.specs.declared.claim.Entry.{Entry}
-use Rattle.rights_books.specs.declared.claim.Content.{Content}
+use Rattle.rights_books.specs.declared.claim.TakenNumber.{TakenNumber}
+use Rattle.rights_books.specs.declared.claim.FileContent.{FileContent}
 use Rattle.rights_books.specs.declared.claim.Layout.{Layout}
 use Rattle.rights_books.specs.declared.claim.Claim.{Claim}
 use Rattle.rights_books.specs.declared.claim.Claim.TheVariants.{Segment, Hand, File, Shard, Pass, Census}
@@ -110,10 +110,10 @@ but_shard_le k h (Census cs) = omega arith
 record AreEmpty (l : Layout) (cs : List Claim) : Type 0 where
   marks : (h : Mark → ℕ) → weigh (marks_in h) cs ≡ 0
   tickets : (h : Mark → ℕ) → weigh (tickets_in h) cs ≡ 0
-  taken : (h : Entry → ℕ) → weigh (taken_in h) cs ≡ 0
-  tokens : (h : Entry → ℕ) → weigh (tokens_in h) cs ≡ 0
-  passes : (h : ℕ → Content → ℕ) → weigh (pass_in h) cs ≡ 0
-  shown_none : (h : ℕ → Content → ℕ) → weigh (shown_in h) cs ≡ 0
+  taken : (h : TakenNumber → ℕ) → weigh (taken_in h) cs ≡ 0
+  tokens : (h : TakenNumber → ℕ) → weigh (tokens_in h) cs ≡ 0
+  passes : (h : ℕ → FileContent → ℕ) → weigh (pass_in h) cs ≡ 0
+  shown_none : (h : ℕ → FileContent → ℕ) → weigh (shown_in h) cs ≡ 0
   segments : (h : ℕ → ℕ) → weigh (segment_in h) cs ≡ 0
   files : (h : ℕ → ℕ) → weigh (file_in h) cs ≡ 0
   shards : (h : ℕ → ℕ) → weigh (shard_in h) cs ≡ 0
@@ -190,7 +190,7 @@ module _ (l : Layout) where
     tt,
   )
 
-  pub counts_file : (i : ℕ) (ts : List Mark) (ks : List Entry) (f : Option Content) (cs : List Copied) → weigh (file_copy (past i)) cs ≡ 0
+  pub counts_file : (i : ℕ) (ts : List Mark) (ks : List TakenNumber) (f : Option FileContent) (cs : List Copied) → weigh (file_copy (past i)) cs ≡ 0
       → Follows (Lawful l) (Census cs ∷ File i ts ks f ∷ []) (Census (FileCopy i ts ks ∷ cs) ∷ File i ts ks f ∷ []) (Unit {0})
   counts_file i ts ks f cs fresh rest law = (
     record {
@@ -214,7 +214,7 @@ module _ (l : Layout) where
     tt,
   )
 
-  pub counts_shard : (k : ℕ) (es : List Entry) (cs : List Copied) → weigh (shard_copy (past k)) cs ≡ 0
+  pub counts_shard : (k : ℕ) (es : List TakenNumber) (cs : List Copied) → weigh (shard_copy (past k)) cs ≡ 0
       → Follows (Lawful l) (Census cs ∷ Shard k es ∷ []) (Census (ShardCopy k es ∷ cs) ∷ Shard k es ∷ []) (Unit {0})
   counts_shard k es cs fresh rest law = (
     record {

@@ -1,4 +1,4 @@
--- The data field of a `Shown`. Assumes `Logic`.
+-- The data field of a `RestingSeat`. Assumes `Logic`.
 use Rattle.std.proofs.Common.{[], ◌∷◌, refl}
 use seplogic.Ra.Ura.{Ura}
 use mir.Val.{Val, vstruct, vcons, vnil}
@@ -8,7 +8,7 @@ use denote.RattleType.{RattleType}
 use denote.Shadow.{makes_shadow}
 use denote.Struct.Struct.{Struct}
 use denote.Struct.Owning.{shape}
-use Rattle.rights_books.specs.contracts.shown.Shown as shown
+use Rattle.rights_books.specs.contracts.shown.RestingSeat as shown
 
 abbrev pub token_val : Val
 token_val = vstruct (vcons (vstruct vnil) vnil)

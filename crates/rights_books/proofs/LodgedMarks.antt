@@ -5,8 +5,8 @@ use Rattle.std.proofs.lemmas.Bool.{cases_lt}
 use Rattle.rights_books.specs.ClaimRules.{Follows}
 use Rattle.geometry.specs.declared.owner.Mark.{Mark}
 use Rattle.geometry.specs.Mark.{same_mark}
-use Rattle.rights_books.specs.declared.claim.Entry.{Entry}
-use Rattle.rights_books.specs.declared.claim.Content.{Content}
+use Rattle.rights_books.specs.declared.claim.TakenNumber.{TakenNumber}
+use Rattle.rights_books.specs.declared.claim.FileContent.{FileContent}
 use Rattle.rights_books.specs.declared.claim.Layout.{Layout}
 use Rattle.rights_books.specs.declared.claim.Claim.{Claim}
 use Rattle.rights_books.specs.declared.claim.Claim.TheVariants.{Segment, File}
@@ -17,7 +17,7 @@ use Rattle.rights_books.proofs.Lists.{is, none_past}
 use Rattle.rights_books.proofs.Rests.{at, no_mark_at_none, no_mark_elsewhere}
 use Rattle.rights_books.proofs.Steps.{at_self, segment_alone, home_alone}
 
-module _ (l : Layout) (i : ℕ) (ts : List Mark) (ks : List Entry) (f : Option Content) where
+module _ (l : Layout) (i : ℕ) (ts : List Mark) (ks : List TakenNumber) (f : Option FileContent) where
   pub shows_marked : (s : ℕ) (ms : List Mark)
       → Follows (Lawful l) (Segment s ms ∷ File i ts ks f ∷ []) (Segment s ms ∷ File i ts ks f ∷ []) (AreMarked l.blocks s ts ms)
   shows_marked s ms rest law = (

@@ -5,8 +5,8 @@ use Rattle.std.proofs.lemmas.Bool.{and_parts, and_from}
 use Rattle.geometry.specs.Weights.{weigh}
 use Rattle.geometry.proofs.Weighing.{weigh-append, weigh-same}
 use Rattle.geometry.specs.declared.owner.Mark.{Mark}
-use Rattle.rights_books.specs.declared.claim.Entry.{Entry}
-use Rattle.rights_books.specs.declared.claim.Content.{Content}
+use Rattle.rights_books.specs.declared.claim.TakenNumber.{TakenNumber}
+use Rattle.rights_books.specs.declared.claim.FileContent.{FileContent}
 use Rattle.rights_books.specs.declared.claim.Claim.{Claim}
 use Rattle.rights_books.specs.declared.claim.Claim.TheVariants.{Segment, Hand, File, Shard, Pass, Census}
 use Rattle.rights_books.specs.declared.claim.Copied.{Copied}
@@ -90,14 +90,14 @@ no_mark_elsewhere blocks s m here = weigh_none_two (segment_in (at s)) (stray_in
     each (Pass i f) z home = refl
     each (Census cs) z home = refl
 
-pub no_entry_elsewhere : (blocks k : ℕ) (e : Entry) → e.number % 16 ≡ k → (rest : List Claim) → weigh (shard_in (at k)) rest ≡ 0 → weigh (stray_in blocks) rest ≡ 0 → weigh (taken_in (is same_entry e)) rest ≡ 0
+pub no_entry_elsewhere : (blocks k : ℕ) (e : TakenNumber) → e.number % 16 ≡ k → (rest : List Claim) → weigh (shard_in (at k)) rest ≡ 0 → weigh (stray_in blocks) rest ≡ 0 → weigh (taken_in (is same_entry e)) rest ≡ 0
 no_entry_elsewhere blocks k e here = weigh_none_two (shard_in (at k)) (stray_in blocks) (taken_in (is same_entry e)) each
   where
-    apart : (j : ℕ) → at k j ≡ 0 → (d : Entry) → stray_entry j d ≡ 0 → is same_entry e d ≡ 0
+    apart : (j : ℕ) → at k j ≡ 0 → (d : TakenNumber) → stray_entry j d ≡ 0 → is same_entry e d ≡ 0
     apart j z d home = is_other same_entry entry_eq entry_self e d
         (λ q.
         let p : d.number % 16 ≡ j = home_of (d.number % 16) j home in
-        let r : e.number % 16 ≡ d.number % 16 = ap (λ (x : Entry). x.number % 16) q in
+        let r : e.number % 16 ≡ d.number % 16 = ap (λ (x : TakenNumber). x.number % 16) q in
         not_at k j z (eq-eqb j k (sym p ∙ (sym r ∙ here))))
 
     each : (c : Claim) → shard_in (at k) c ≡ 0 → stray_in blocks c ≡ 0 → taken_in (is same_entry e) c ≡ 0
@@ -109,7 +109,7 @@ no_entry_elsewhere blocks k e here = weigh_none_two (shard_in (at k)) (stray_in 
     each (Census cs) z home = refl
 
 -- a weight that only files have
-pub no_file_elsewhere : (i : ℕ) (h : ℕ → Content → ℕ) → ((j : ℕ) (f : Content) → (j ≡ i → ⊥) → h j f ≡ 0) → (rest : List Claim) → weigh (file_in (at i)) rest ≡ 0 → weigh (shown_in h) rest ≡ 0
+pub no_file_elsewhere : (i : ℕ) (h : ℕ → FileContent → ℕ) → ((j : ℕ) (f : FileContent) → (j ≡ i → ⊥) → h j f ≡ 0) → (rest : List Claim) → weigh (file_in (at i)) rest ≡ 0 → weigh (shown_in h) rest ≡ 0
 no_file_elsewhere i h other = weigh_none (file_in (at i)) (shown_in h) each
   where
     each : (c : Claim) → file_in (at i) c ≡ 0 → shown_in h c ≡ 0
@@ -185,7 +185,7 @@ marks_of_copied h (Shard k es) = refl
 marks_of_copied h (Pass i f) = refl
 marks_of_copied h (Census cs) = refl
 
-pub taken_of_copied : (h : Entry → ℕ) (c : Claim) → taken_in h c ≡ copied_in (taken_copied h) c
+pub taken_of_copied : (h : TakenNumber → ℕ) (c : Claim) → taken_in h c ≡ copied_in (taken_copied h) c
 taken_of_copied h (Segment s ms) = refl
 taken_of_copied h (Hand ts ks) = refl
 taken_of_copied h (File i ts ks f) = refl
@@ -194,7 +194,7 @@ taken_of_copied h (Pass i f) = refl
 taken_of_copied h (Census cs) = refl
 
 -- what a hand has, by a weight of its tickets and its tokens
-abbrev in_hand : (List Mark → List Entry → ℕ) → Claim → ℕ
+abbrev in_hand : (List Mark → List TakenNumber → ℕ) → Claim → ℕ
 in_hand h (Segment s ms) = 0
 in_hand h (Hand ts ks) = h ts ks
 in_hand h (File i ts ks f) = 0
@@ -203,7 +203,7 @@ in_hand h (Pass i f) = 0
 in_hand h (Census cs) = 0
 
 -- with no hand out, a weight that the accounts and the hands have is the accounts' alone
-of_copied : (f : Claim → ℕ) (g : Copied → ℕ) (h : List Mark → List Entry → ℕ) → ((c : Claim) → f c ≡ copied_in g c + in_hand h c)
+of_copied : (f : Claim → ℕ) (g : Copied → ℕ) (h : List Mark → List TakenNumber → ℕ) → ((c : Claim) → f c ≡ copied_in g c + in_hand h c)
     → (rest : List Claim) → weigh hand_in rest ≡ 0 → weigh f rest ≡ weigh (copied_in g) rest
 of_copied f g h each rest none =
     let a = weigh-same f (λ c. copied_in g c + in_hand h c) rest each in
@@ -229,7 +229,7 @@ tickets_of_copied h = of_copied (tickets_in h) (tickets_copied h) (λ ts ks. wei
     each (Pass i f) = refl
     each (Census cs) = refl
 
-pub tokens_of_copied : (h : Entry → ℕ) (rest : List Claim) → weigh hand_in rest ≡ 0 → weigh (tokens_in h) rest ≡ weigh (copied_in (tokens_copied h)) rest
+pub tokens_of_copied : (h : TakenNumber → ℕ) (rest : List Claim) → weigh hand_in rest ≡ 0 → weigh (tokens_in h) rest ≡ weigh (copied_in (tokens_copied h)) rest
 tokens_of_copied h = of_copied (tokens_in h) (tokens_copied h) (λ ts ks. weigh h ks) each
   where
     each : (c : Claim) → tokens_in h c ≡ copied_in (tokens_copied h) c + in_hand (λ ts ks. weigh h ks) c

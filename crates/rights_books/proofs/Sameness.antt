@@ -2,10 +2,10 @@
 -- entries and contents, and of lists of them.
 use Rattle.std.proofs.Common.{◌≡◌, ℕ, ◌==◌, ◌&&◌, Bool, true, false, List, [], ◌∷◌, refl, sym, eq-eqb, eqb-true, true≢false}
 use Rattle.std.proofs.lemmas.Bool.{and_parts, and_from}
-use Rattle.rights_books.specs.declared.claim.Entry.{Entry}
+use Rattle.rights_books.specs.declared.claim.TakenNumber.{TakenNumber}
 use Rattle.geometry.specs.declared.kind.Kind.{Kind}
 use Rattle.geometry.specs.declared.kind.Kind.TheVariants.{File, Dir, Media}
-use Rattle.rights_books.specs.declared.claim.Content.{Content}
+use Rattle.rights_books.specs.declared.claim.FileContent.{FileContent}
 use Rattle.rights_books.specs.Sameness.{same_entry, kind_number, same_list, same_block, same_content}
 
 no : {A : Type 0} → false ≡ true → A
@@ -23,7 +23,7 @@ list_self : {A : Type 0} (same : A → A → Bool) → ((x : A) → same x x ≡
 list_self same whole [] = refl
 list_self same whole (x ∷ xs) = and_from (same x x) (same_list same xs xs) (whole x) (list_self same whole xs)
 
-pub entry_eq : (d e : Entry) → same_entry d e ≡ true → d ≡ e
+pub entry_eq : (d e : TakenNumber) → same_entry d e ≡ true → d ≡ e
 entry_eq d e t =
     let bytes = same_list (λ x y. x == y) d.bytes e.bytes in
     let b = and_parts (d.number == e.number) ((d.inode == e.inode) && ((d.address == e.address) && bytes)) t in
@@ -36,7 +36,7 @@ entry_eq d e t =
       bytes = list_eq (λ x y. x == y) eqb-true d.bytes e.bytes f.1 i;
     }
 
-pub entry_self : (e : Entry) → same_entry e e ≡ true
+pub entry_self : (e : TakenNumber) → same_entry e e ≡ true
 entry_self e =
     let bytes = same_list (λ x y. x == y) e.bytes e.bytes in
     and_from (e.number == e.number) ((e.inode == e.inode) && ((e.address == e.address) && bytes)) (eq-eqb e.number e.number refl)
@@ -63,13 +63,13 @@ block_eq a b e =
 block_self : (a : ℕ × List ℕ) → same_block a a ≡ true
 block_self a = and_from (a.0 == a.0) (same_list (λ x y. x == y) a.1 a.1) (eq-eqb a.0 a.0 refl) (list_self (λ x y. x == y) (λ x. eq-eqb x x refl) a.1)
 
-pub content_eq : (f g : Content) → same_content f g ≡ true → f ≡ g
+pub content_eq : (f g : FileContent) → same_content f g ≡ true → f ≡ g
 content_eq f g e =
     let b = and_parts (kind_number f.kind == kind_number g.kind) ((f.length == g.length) && same_list same_block f.blocks g.blocks) e in
     let c = and_parts (f.length == g.length) (same_list same_block f.blocks g.blocks) b.1 in
     λ i. record { kind = kind_eq f.kind g.kind b.0 i; length = eqb-true f.length g.length c.0 i; blocks = list_eq same_block block_eq f.blocks g.blocks c.1 i }
 
-pub content_self : (f : Content) → same_content f f ≡ true
+pub content_self : (f : FileContent) → same_content f f ≡ true
 content_self f =
     and_from (kind_number f.kind == kind_number f.kind) ((f.length == f.length) && same_list same_block f.blocks f.blocks) (eq-eqb (kind_number f.kind) (kind_number f.kind) refl)
     (and_from (f.length == f.length) (same_list same_block f.blocks f.blocks) (eq-eqb f.length f.length refl) (list_self same_block block_self f.blocks))

@@ -4,8 +4,8 @@ use Rattle.std.proofs.Common.{◌≡◌, ◌≢◌, ℕ, zero, suc, ◌+◌, ◌
 use Rattle.geometry.specs.Weights.{weigh}
 use Rattle.rights_books.specs.ClaimRules.{together, Follows, Tells}
 use Rattle.geometry.specs.declared.owner.Mark.{Mark}
-use Rattle.rights_books.specs.declared.claim.Entry.{Entry}
-use Rattle.rights_books.specs.declared.claim.Content.{Content}
+use Rattle.rights_books.specs.declared.claim.TakenNumber.{TakenNumber}
+use Rattle.rights_books.specs.declared.claim.FileContent.{FileContent}
 use Rattle.rights_books.specs.declared.claim.Layout.{Layout}
 use Rattle.rights_books.specs.declared.claim.Claim.{Claim}
 use Rattle.rights_books.specs.declared.claim.Copied.{Copied}
@@ -29,17 +29,17 @@ at_home t s e = rw (eq-eqb t s e) refl
 pub without_mark : (h : Mark → ℕ) (m : Mark) (ms : List Mark) → 0 < times same_mark m ms → h m + weigh h (without same_mark m ms) ≡ weigh h ms
 without_mark = weigh-without same_mark mark_eq mark_self
 
-pub without_entry : (h : Entry → ℕ) (e : Entry) (es : List Entry) → 0 < times same_entry e es → h e + weigh h (without same_entry e es) ≡ weigh h es
+pub without_entry : (h : TakenNumber → ℕ) (e : TakenNumber) (es : List TakenNumber) → 0 < times same_entry e es → h e + weigh h (without same_entry e es) ≡ weigh h es
 without_entry = weigh-without same_entry entry_eq entry_self
 
 -- the list without what was put in front is the list as it was
 pub without_mark_first : (m : Mark) (ms : List Mark) → without same_mark m (m ∷ ms) ≡ ms
 without_mark_first = without_head same_mark mark_eq mark_self
 
-pub without_entry_first : (e : Entry) (es : List Entry) → without same_entry e (e ∷ es) ≡ es
+pub without_entry_first : (e : TakenNumber) (es : List TakenNumber) → without same_entry e (e ∷ es) ≡ es
 without_entry_first = without_head same_entry entry_eq entry_self
 
-weigh-with_lodged : (h : Mark → ℕ) (e : Entry) (ts : List Mark) → weigh h (with_lodged e ts) ≡ of_entry h e + weigh h ts
+weigh-with_lodged : (h : Mark → ℕ) (e : TakenNumber) (ts : List Mark) → weigh h (with_lodged e ts) ≡ of_entry h e + weigh h ts
 weigh-with_lodged h e ts = go (e.address == 0)
   where
     go : (b : Bool) → weigh h (if b then ts else mark_of e ∷ ts) ≡ (if b then 0 else h (mark_of e)) + weigh h ts
@@ -47,7 +47,7 @@ weigh-with_lodged h e ts = go (e.address == 0)
     go false = omega arith
 
 -- the account of a file is no pass
-pub file_is_no_pass : (i j : ℕ) (ts : List Mark) (ks : List Entry) (o : Option Content) (f : Content) → File i ts ks o ∷ [] ≢ Pass j f ∷ []
+pub file_is_no_pass : (i j : ℕ) (ts : List Mark) (ks : List TakenNumber) (o : Option FileContent) (f : FileContent) → File i ts ks o ∷ [] ≢ Pass j f ∷ []
 file_is_no_pass i j ts ks o f e = let counts = ap (weigh (file_in (λ k. 1))) e in absurd (omega arith)
 
 -- Claims come in the place of others that have a hand: the holders are the same, and the passes, and nothing is counted.
@@ -56,20 +56,20 @@ record AreSameHolders (old new : List Claim) : Type 0 where
   files : (h : ℕ → ℕ) → weigh (file_in h) new ≡ weigh (file_in h) old
   shards : (h : ℕ → ℕ) → weigh (shard_in h) new ≡ weigh (shard_in h) old
   hands : weigh hand_in new ≡ weigh hand_in old
-  passes : (h : ℕ → Content → ℕ) → weigh (pass_in h) new ≡ weigh (pass_in h) old
-  shown_same : (h : ℕ → Content → ℕ) → weigh (shown_in h) new ≡ weigh (shown_in h) old
+  passes : (h : ℕ → FileContent → ℕ) → weigh (pass_in h) new ≡ weigh (pass_in h) old
+  shown_same : (h : ℕ → FileContent → ℕ) → weigh (shown_in h) new ≡ weigh (shown_in h) old
   hand : 0 < weigh hand_in old
   uncounted : (h : Copied → ℕ) → weigh (copies_in h) new ≡ 0
 
-segment_and_hand : (s : ℕ) (ms ms' ts ts' : List Mark) (ks ks' : List Entry) → AreSameHolders (Segment s ms ∷ Hand ts ks ∷ []) (Segment s ms' ∷ Hand ts' ks' ∷ [])
+segment_and_hand : (s : ℕ) (ms ms' ts ts' : List Mark) (ks ks' : List TakenNumber) → AreSameHolders (Segment s ms ∷ Hand ts ks ∷ []) (Segment s ms' ∷ Hand ts' ks' ∷ [])
 segment_and_hand s ms ms' ts ts' ks ks' =
     record { segments = λ h. refl; files = λ h. refl; shards = λ h. refl; hands = refl; passes = λ h. refl; shown_same = λ h. refl; hand = omega arith; uncounted = λ h. refl }
 
-shard_and_hand : (k : ℕ) (es es' ks ks' : List Entry) (ts ts' : List Mark) → AreSameHolders (Shard k es ∷ Hand ts ks ∷ []) (Shard k es' ∷ Hand ts' ks' ∷ [])
+shard_and_hand : (k : ℕ) (es es' ks ks' : List TakenNumber) (ts ts' : List Mark) → AreSameHolders (Shard k es ∷ Hand ts ks ∷ []) (Shard k es' ∷ Hand ts' ks' ∷ [])
 shard_and_hand k es es' ks ks' ts ts' =
     record { segments = λ h. refl; files = λ h. refl; shards = λ h. refl; hands = refl; passes = λ h. refl; shown_same = λ h. refl; hand = omega arith; uncounted = λ h. refl }
 
-file_and_hand : (i : ℕ) (f : Option Content) (fts fts' ts ts' : List Mark) (fks fks' ks ks' : List Entry) → AreSameHolders (File i fts fks f ∷ Hand ts ks ∷ []) (File i fts' fks' f ∷ Hand ts' ks' ∷ [])
+file_and_hand : (i : ℕ) (f : Option FileContent) (fts fts' ts ts' : List Mark) (fks fks' ks ks' : List TakenNumber) → AreSameHolders (File i fts fks f ∷ Hand ts ks ∷ []) (File i fts' fks' f ∷ Hand ts' ks' ∷ [])
 file_and_hand i f fts fts' ts ts' fks fks' ks ks' =
     record { segments = λ h. refl; files = λ h. refl; shards = λ h. refl; hands = refl; passes = λ h. refl; shown_same = λ h. refl; hand = omega arith; uncounted = λ h. refl }
 
@@ -77,8 +77,8 @@ file_and_hand i f fts fts' ts ts' fks fks' ks ks' =
 record AreSameButPasses (l : Layout) (old new : List Claim) : Type 0 where
   marked : (h : Mark → ℕ) → weigh (marks_in h) new ≡ weigh (marks_in h) old
   tickets : (h : Mark → ℕ) → weigh (tickets_in h) new ≡ weigh (tickets_in h) old
-  taken : (h : Entry → ℕ) → weigh (taken_in h) new ≡ weigh (taken_in h) old
-  tokens : (h : Entry → ℕ) → weigh (tokens_in h) new ≡ weigh (tokens_in h) old
+  taken : (h : TakenNumber → ℕ) → weigh (taken_in h) new ≡ weigh (taken_in h) old
+  tokens : (h : TakenNumber → ℕ) → weigh (tokens_in h) new ≡ weigh (tokens_in h) old
   segments : (h : ℕ → ℕ) → weigh (segment_in h) new ≡ weigh (segment_in h) old
   files : (h : ℕ → ℕ) → weigh (file_in h) new ≡ weigh (file_in h) old
   shards : (h : ℕ → ℕ) → weigh (shard_in h) new ≡ weigh (shard_in h) old
@@ -90,7 +90,7 @@ record AreSameButPasses (l : Layout) (old new : List Claim) : Type 0 where
 module _ (l : Layout) where
   -- the rule stays if it does for the tickets, the tokens and the places
   keeps : {old new : List Claim} (rest : List Claim) → AreSameHolders old new → Lawful l (together old rest)
-      → ((h : Mark → ℕ) → together new rest (marks_in h) ≡ together new rest (tickets_in h)) → ((h : Entry → ℕ) → together new rest (taken_in h) ≡ together new rest (tokens_in h))
+      → ((h : Mark → ℕ) → together new rest (marks_in h) ≡ together new rest (tickets_in h)) → ((h : TakenNumber → ℕ) → together new rest (taken_in h) ≡ together new rest (tokens_in h))
       → together new rest (stray_in l.blocks) ≡ 0 → Lawful l (together new rest)
   keeps rest same law tickets tokens home = record {
     tickets = tickets;
@@ -121,7 +121,7 @@ module _ (l : Layout) where
   pub same_place : (s : ℕ) (m t : Mark) → m ≡ t → (t.address - 1) / l.blocks ≡ s → (m.address - 1) / l.blocks ≡ s
   same_place s m t e here = ap (λ (k : Mark). (k.address - 1) / l.blocks) e ∙ here
 
-  pub marks : (s : ℕ) (ms ts : List Mark) (ks : List Entry) (m : Mark) → 0 < m.address → (m.address - 1) / l.blocks ≡ s
+  pub marks : (s : ℕ) (ms ts : List Mark) (ks : List TakenNumber) (m : Mark) → 0 < m.address → (m.address - 1) / l.blocks ≡ s
       → Follows (Lawful l) (Segment s ms ∷ Hand ts ks ∷ []) (Segment s (m ∷ ms) ∷ Hand (m ∷ ts) ks ∷ []) (Unit {0})
   marks s ms ts ks m some here rest law = (
     keeps rest (segment_and_hand s ms (m ∷ ms) ts (m ∷ ts) ks ks) law
@@ -131,7 +131,7 @@ module _ (l : Layout) where
     tt,
   )
 
-  pub clears : (s : ℕ) (ms ts : List Mark) (ks : List Entry) (m : Mark) → (m.address - 1) / l.blocks ≡ s → 0 < times same_mark m ts
+  pub clears : (s : ℕ) (ms ts : List Mark) (ks : List TakenNumber) (m : Mark) → (m.address - 1) / l.blocks ≡ s → 0 < times same_mark m ts
       → Follows (Lawful l) (Segment s ms ∷ Hand ts ks ∷ []) (Segment s (without same_mark m ms) ∷ Hand (without same_mark m ts) ks ∷ []) (0 < times same_mark m ms)
   clears s ms ts ks m here held rest law =
       let mine : List Claim = Segment s ms ∷ Hand ts ks ∷ [] in
@@ -148,7 +148,7 @@ module _ (l : Layout) where
       )
 
   -- a ticket that is out is of a block of one of the segments
-  located_at : (ts : List Mark) (ks : List Entry) (m : Mark) → 0 < times same_mark m ts → (rest : List Claim) → Lawful l (together (Hand ts ks ∷ []) rest)
+  located_at : (ts : List Mark) (ks : List TakenNumber) (m : Mark) → 0 < times same_mark m ts → (rest : List Claim) → Lawful l (together (Hand ts ks ∷ []) rest)
       → (0 < m.address) × ((m.address - 1) / l.blocks < l.segments)
   located_at ts ks m held rest law = (some m.address refl, within (l.segments - s) refl)
     where
@@ -174,11 +174,11 @@ module _ (l : Layout) where
           let none = no_mark_elsewhere l.blocks s m refl rest (alone high) home in let o = out in absurd (omega arith)
       within (suc d) e = omega arith
 
-  pub located : (ts : List Mark) (ks : List Entry) (m : Mark) → 0 < times same_mark m ts
+  pub located : (ts : List Mark) (ks : List TakenNumber) (m : Mark) → 0 < times same_mark m ts
       → Follows (Lawful l) (Hand ts ks ∷ []) (Hand ts ks ∷ []) ((0 < m.address) × ((m.address - 1) / l.blocks < l.segments))
   located ts ks m held rest law = (law, located_at ts ks m held rest law)
 
-  pub takes : (k : ℕ) (es ks : List Entry) (ts : List Mark) (e : Entry) → e.number % 16 ≡ k → e.address ≡ 0
+  pub takes : (k : ℕ) (es ks : List TakenNumber) (ts : List Mark) (e : TakenNumber) → e.number % 16 ≡ k → e.address ≡ 0
       → Follows (Lawful l) (Shard k es ∷ Hand ts ks ∷ []) (Shard k (e ∷ es) ∷ Hand ts (e ∷ ks) ∷ []) (Unit {0})
   takes k es ks ts e here bare rest law = (
     keeps rest (shard_and_hand k es (e ∷ es) ks (e ∷ ks) ts ts) law
@@ -188,7 +188,7 @@ module _ (l : Layout) where
     tt,
   )
 
-  taken_here : (k : ℕ) (es ks : List Entry) (ts : List Mark) (e : Entry) → e.number % 16 ≡ k → 0 < times same_entry e ks
+  taken_here : (k : ℕ) (es ks : List TakenNumber) (ts : List Mark) (e : TakenNumber) → e.number % 16 ≡ k → 0 < times same_entry e ks
       → (rest : List Claim) → Lawful l (together (Shard k es ∷ Hand ts ks ∷ []) rest) → 0 < times same_entry e es
   taken_here k es ks ts e here held rest law =
       let mine : List Claim = Shard k es ∷ Hand ts ks ∷ [] in
@@ -198,11 +198,11 @@ module _ (l : Layout) where
       let count = law.tokens (is same_entry e) in omega arith
 
   -- a number whose token is in hand is taken
-  pub finds : (k : ℕ) (es ks : List Entry) (ts : List Mark) (e : Entry) → e.number % 16 ≡ k → 0 < times same_entry e ks
+  pub finds : (k : ℕ) (es ks : List TakenNumber) (ts : List Mark) (e : TakenNumber) → e.number % 16 ≡ k → 0 < times same_entry e ks
       → Follows (Lawful l) (Shard k es ∷ Hand ts ks ∷ []) (Shard k es ∷ Hand ts ks ∷ []) (0 < times same_entry e es)
   finds k es ks ts e here held rest law = (law, taken_here k es ks ts e here held rest law)
 
-  pub gives : (k : ℕ) (es ks : List Entry) (ts : List Mark) (e : Entry) → e.number % 16 ≡ k → 0 < times same_entry e ks
+  pub gives : (k : ℕ) (es ks : List TakenNumber) (ts : List Mark) (e : TakenNumber) → e.number % 16 ≡ k → 0 < times same_entry e ks
       → Follows (Lawful l) (Shard k es ∷ Hand ts ks ∷ []) (Shard k (without same_entry e es) ∷ Hand (with_lodged e ts) (without same_entry e ks) ∷ []) (0 < times same_entry e es)
   gives k es ks ts e here held rest law =
       let taken = taken_here k es ks ts e here held rest law in (
@@ -213,7 +213,7 @@ module _ (l : Layout) where
         taken,
       )
 
-  pub swaps : (k : ℕ) (es ks : List Entry) (ts : List Mark) (e : Entry) (a : ℕ) (bytes : List ℕ) → e.number % 16 ≡ k → 0 < times same_entry e ks → 0 < times same_mark (mark_of (moved_to a bytes e)) ts
+  pub swaps : (k : ℕ) (es ks : List TakenNumber) (ts : List Mark) (e : TakenNumber) (a : ℕ) (bytes : List ℕ) → e.number % 16 ≡ k → 0 < times same_entry e ks → 0 < times same_mark (mark_of (moved_to a bytes e)) ts
       → Follows (Lawful l) (Shard k es ∷ Hand ts ks ∷ [])
       (Shard k (moved_to a bytes e ∷ without same_entry e es) ∷ Hand (with_lodged e (without same_mark (mark_of (moved_to a bytes e)) ts)) (moved_to a bytes e ∷ without same_entry e ks) ∷ [])
       ((0 < times same_entry e es) × (0 < a))
@@ -230,7 +230,7 @@ module _ (l : Layout) where
         (taken, omega arith),
       )
 
-  pub lodges : (i : ℕ) (fts ts : List Mark) (fks ks : List Entry) (f : Option Content) (m : Mark) → 0 < times same_mark m ts
+  pub lodges : (i : ℕ) (fts ts : List Mark) (fks ks : List TakenNumber) (f : Option FileContent) (m : Mark) → 0 < times same_mark m ts
       → Follows (Lawful l) (File i fts fks f ∷ Hand ts ks ∷ []) (File i (m ∷ fts) fks f ∷ Hand (without same_mark m ts) ks ∷ []) (Unit {0})
   lodges i fts ts fks ks f m held rest law = (
     keeps rest (file_and_hand i f fts (m ∷ fts) ts (without same_mark m ts) fks fks ks ks) law
@@ -240,7 +240,7 @@ module _ (l : Layout) where
     tt,
   )
 
-  pub unlodges : (i : ℕ) (fts ts : List Mark) (fks ks : List Entry) (f : Option Content) (m : Mark) → 0 < times same_mark m fts
+  pub unlodges : (i : ℕ) (fts ts : List Mark) (fks ks : List TakenNumber) (f : Option FileContent) (m : Mark) → 0 < times same_mark m fts
       → Follows (Lawful l) (File i fts fks f ∷ Hand ts ks ∷ []) (File i (without same_mark m fts) fks f ∷ Hand (m ∷ ts) ks ∷ []) (Unit {0})
   unlodges i fts ts fks ks f m lodged rest law = (
     keeps rest (file_and_hand i f fts (without same_mark m fts) ts (m ∷ ts) fks fks ks ks) law
@@ -250,7 +250,7 @@ module _ (l : Layout) where
     tt,
   )
 
-  pub lodges_token : (i : ℕ) (fts ts : List Mark) (fks ks : List Entry) (f : Option Content) (e : Entry) → 0 < times same_entry e ks
+  pub lodges_token : (i : ℕ) (fts ts : List Mark) (fks ks : List TakenNumber) (f : Option FileContent) (e : TakenNumber) → 0 < times same_entry e ks
       → Follows (Lawful l) (File i fts fks f ∷ Hand ts ks ∷ []) (File i fts (e ∷ fks) f ∷ Hand ts (without same_entry e ks) ∷ []) (Unit {0})
   lodges_token i fts ts fks ks f e held rest law = (
     keeps rest (file_and_hand i f fts fts ts ts fks (e ∷ fks) ks (without same_entry e ks)) law
@@ -260,7 +260,7 @@ module _ (l : Layout) where
     tt,
   )
 
-  pub unlodges_token : (i : ℕ) (fts ts : List Mark) (fks ks : List Entry) (f : Option Content) (e : Entry) → 0 < times same_entry e fks
+  pub unlodges_token : (i : ℕ) (fts ts : List Mark) (fks ks : List TakenNumber) (f : Option FileContent) (e : TakenNumber) → 0 < times same_entry e fks
       → Follows (Lawful l) (File i fts fks f ∷ Hand ts ks ∷ []) (File i fts (without same_entry e fks) f ∷ Hand ts (e ∷ ks) ∷ []) (Unit {0})
   unlodges_token i fts ts fks ks f e lodged rest law = (
     keeps rest (file_and_hand i f fts fts ts ts fks (without same_entry e fks) ks (e ∷ ks)) law
@@ -271,8 +271,8 @@ module _ (l : Layout) where
   )
 
   -- tickets and tokens go from a file to a hand or back
-  pub lodges_all : (i : ℕ) (fts ts fts' ts' : List Mark) (fks ks fks' ks' : List Entry) (f : Option Content)
-      → ((h : Mark → ℕ) → weigh h fts' + weigh h ts' ≡ weigh h fts + weigh h ts) → ((h : Entry → ℕ) → weigh h fks' + weigh h ks' ≡ weigh h fks + weigh h ks)
+  pub lodges_all : (i : ℕ) (fts ts fts' ts' : List Mark) (fks ks fks' ks' : List TakenNumber) (f : Option FileContent)
+      → ((h : Mark → ℕ) → weigh h fts' + weigh h ts' ≡ weigh h fts + weigh h ts) → ((h : TakenNumber → ℕ) → weigh h fks' + weigh h ks' ≡ weigh h fks + weigh h ks)
       → Follows (Lawful l) (File i fts fks f ∷ Hand ts ks ∷ []) (File i fts' fks' f ∷ Hand ts' ks' ∷ []) (Unit {0})
   lodges_all i fts ts fts' ts' fks ks fks' ks' f marks entries rest law = (
     keeps rest (file_and_hand i f fts fts' ts ts' fks fks' ks ks') law
@@ -283,24 +283,24 @@ module _ (l : Layout) where
   )
 
   -- 1 for this content of this file
-  abbrev hit : ℕ → Content → ℕ → Content → ℕ
+  abbrev hit : ℕ → FileContent → ℕ → FileContent → ℕ
   hit i f j g = if j == i then is same_content f g else 0
 
-  hit_self : (i : ℕ) (f : Content) → hit i f i f ≡ 1
+  hit_self : (i : ℕ) (f : FileContent) → hit i f i f ≡ 1
   hit_self i f = rw (eq-eqb i i refl) (is_self same_content content_eq content_self f)
 
-  hit_other : (i : ℕ) (f : Content) (j : ℕ) (g : Content) → (j ≡ i → ⊥) → hit i f j g ≡ 0
+  hit_other : (i : ℕ) (f : FileContent) (j : ℕ) (g : FileContent) → (j ≡ i → ⊥) → hit i f j g ≡ 0
   hit_other i f j g apart = rw (ne_eqb j i apart) refl
 
-  hit_only : (i : ℕ) (f : Content) (o : Option Content) → 0 < shown (hit i f) i o → o ≡ Some f
+  hit_only : (i : ℕ) (f : FileContent) (o : Option FileContent) → 0 < shown (hit i f) i o → o ≡ Some f
   hit_only i f None some = absurd (omega arith)
   hit_only i f (Some g) some = go (same_content f g) refl (subst (λ (b : Bool). 0 < (if b then is same_content f g else 0)) (eq-eqb i i refl) some)
     where
       go : (b : Bool) → same_content f g ≡ b → 0 < (if b then 1 else 0) → Some g ≡ Some f
-      go true e some' = ap (λ (x : Content). Some x) (sym (content_eq f g e))
+      go true e some' = ap (λ (x : FileContent). Some x) (sym (content_eq f g e))
       go false e some' = absurd (omega arith)
 
-  passed : (i : ℕ) (ts : List Mark) (ks : List Entry) (o : Option Content) (f : Content)
+  passed : (i : ℕ) (ts : List Mark) (ks : List TakenNumber) (o : Option FileContent) (f : FileContent)
       → (rest : List Claim) → Lawful l (together (File i ts ks o ∷ Pass i f ∷ []) rest) → o ≡ Some f
   passed i ts ks o f rest law =
       let mine : List Claim = File i ts ks o ∷ Pass i f ∷ [] in
@@ -312,7 +312,7 @@ module _ (l : Layout) where
 
   -- the rule stays if it does for the passes
   repasses : {old new : List Claim} (rest : List Claim) → AreSameButPasses l old new → Lawful l (together old rest)
-      → ((h : ℕ → Content → ℕ) → together new rest (pass_in h) ≡ together new rest (shown_in h)) → Lawful l (together new rest)
+      → ((h : ℕ → FileContent → ℕ) → together new rest (pass_in h) ≡ together new rest (shown_in h)) → Lawful l (together new rest)
   repasses rest same law passes = record {
     tickets = λ h. let p = law.tickets h in let a = same.marked h in let b = same.tickets h in omega arith;
     tokens = λ h. let p = law.tokens h in let a = same.taken h in let b = same.tokens h in omega arith;
@@ -325,56 +325,56 @@ module _ (l : Layout) where
     home = let p = law.home in let a = same.strays in omega arith;
   }
 
-  same_rest : {i : ℕ} {ts : List Mark} {ks : List Entry} {o o' : Option Content} {f f' : Content} → AreSameButPasses l (File i ts ks o ∷ Pass i f ∷ []) (File i ts ks o' ∷ Pass i f' ∷ [])
+  same_rest : {i : ℕ} {ts : List Mark} {ks : List TakenNumber} {o o' : Option FileContent} {f f' : FileContent} → AreSameButPasses l (File i ts ks o ∷ Pass i f ∷ []) (File i ts ks o' ∷ Pass i f' ∷ [])
   same_rest = record { marked = λ h. refl; tickets = λ h. refl; taken = λ h. refl; tokens = λ h. refl; segments = λ h. refl; files = λ h. refl; shards = λ h. refl; hands = refl; copies = λ h. refl; copied = λ h. refl; strays = refl }
 
-  pass_comes : {i : ℕ} {ts : List Mark} {ks : List Entry} {o o' : Option Content} {f : Content} → AreSameButPasses l (File i ts ks o ∷ []) (File i ts ks o' ∷ Pass i f ∷ [])
+  pass_comes : {i : ℕ} {ts : List Mark} {ks : List TakenNumber} {o o' : Option FileContent} {f : FileContent} → AreSameButPasses l (File i ts ks o ∷ []) (File i ts ks o' ∷ Pass i f ∷ [])
   pass_comes = record { marked = λ h. refl; tickets = λ h. refl; taken = λ h. refl; tokens = λ h. refl; segments = λ h. refl; files = λ h. refl; shards = λ h. refl; hands = refl; copies = λ h. refl; copied = λ h. refl; strays = refl }
 
-  pass_goes : {i : ℕ} {ts : List Mark} {ks : List Entry} {o o' : Option Content} {f : Content} → AreSameButPasses l (File i ts ks o ∷ Pass i f ∷ []) (File i ts ks o' ∷ [])
+  pass_goes : {i : ℕ} {ts : List Mark} {ks : List TakenNumber} {o o' : Option FileContent} {f : FileContent} → AreSameButPasses l (File i ts ks o ∷ Pass i f ∷ []) (File i ts ks o' ∷ [])
   pass_goes = record { marked = λ h. refl; tickets = λ h. refl; taken = λ h. refl; tokens = λ h. refl; segments = λ h. refl; files = λ h. refl; shards = λ h. refl; hands = refl; copies = λ h. refl; copied = λ h. refl; strays = refl }
 
-  pub notes : (i : ℕ) (ts : List Mark) (ks : List Entry) (o : Option Content) (f g : Content)
+  pub notes : (i : ℕ) (ts : List Mark) (ks : List TakenNumber) (o : Option FileContent) (f g : FileContent)
       → Follows (Lawful l) (File i ts ks o ∷ Pass i f ∷ []) (File i ts ks (Some g) ∷ Pass i g ∷ []) (o ≡ Some f)
   notes i ts ks o f g rest law =
       let same = passed i ts ks o f rest law in (
-        repasses rest same_rest law (λ h. let p = law.passes h in let q : shown h i o ≡ h i f = ap (λ (x : Option Content). shown h i x) same in omega arith),
+        repasses rest same_rest law (λ h. let p = law.passes h in let q : shown h i o ≡ h i f = ap (λ (x : Option FileContent). shown h i x) same in omega arith),
         same,
       )
 
-  pub compares : (i j : ℕ) (ts : List Mark) (ks : List Entry) (o : Option Content) (f : Content) → i ≡ j → Tells (Lawful l) (File i ts ks o ∷ Pass j f ∷ []) (o ≡ Some f)
+  pub compares : (i j : ℕ) (ts : List Mark) (ks : List TakenNumber) (o : Option FileContent) (f : FileContent) → i ≡ j → Tells (Lawful l) (File i ts ks o ∷ Pass j f ∷ []) (o ≡ Some f)
   compares i j ts ks o f e = subst (λ (j' : ℕ). Tells (Lawful l) (File i ts ks o ∷ Pass j' f ∷ []) (o ≡ Some f)) e (passed i ts ks o f)
 
-  pub issues : (i : ℕ) (ts : List Mark) (ks : List Entry) (f : Content)
+  pub issues : (i : ℕ) (ts : List Mark) (ks : List TakenNumber) (f : FileContent)
       → Follows (Lawful l) (File i ts ks None ∷ []) (File i ts ks (Some f) ∷ Pass i f ∷ []) (Unit {0})
   issues i ts ks f rest law = (
     repasses rest pass_comes law (λ h. let p = law.passes h in omega arith),
     tt,
   )
 
-  pub spends : (i : ℕ) (ts : List Mark) (ks : List Entry) (o : Option Content) (f : Content)
+  pub spends : (i : ℕ) (ts : List Mark) (ks : List TakenNumber) (o : Option FileContent) (f : FileContent)
       → Follows (Lawful l) (File i ts ks o ∷ Pass i f ∷ []) (File i ts ks None ∷ []) (o ≡ Some f)
   spends i ts ks o f rest law =
       let same = passed i ts ks o f rest law in (
-        repasses rest pass_goes law (λ h. let p = law.passes h in let q : shown h i o ≡ h i f = ap (λ (x : Option Content). shown h i x) same in omega arith),
+        repasses rest pass_goes law (λ h. let p = law.passes h in let q : shown h i o ≡ h i f = ap (λ (x : Option FileContent). shown h i x) same in omega arith),
         same,
       )
 
   -- the same, where the pass has its own name for the file
-  pub notes_at : (i j : ℕ) (ts : List Mark) (ks : List Entry) (o : Option Content) (f g : Content) → i ≡ j
+  pub notes_at : (i j : ℕ) (ts : List Mark) (ks : List TakenNumber) (o : Option FileContent) (f g : FileContent) → i ≡ j
       → Follows (Lawful l) (File i ts ks o ∷ Pass j f ∷ []) (File i ts ks (Some g) ∷ Pass j g ∷ []) (o ≡ Some f)
   notes_at i j ts ks o f g e = subst (λ (j' : ℕ). Follows (Lawful l) (File i ts ks o ∷ Pass j' f ∷ []) (File i ts ks (Some g) ∷ Pass j' g ∷ []) (o ≡ Some f)) e (notes i ts ks o f g)
 
-  pub spends_at : (i j : ℕ) (ts : List Mark) (ks : List Entry) (o : Option Content) (f : Content) → i ≡ j
+  pub spends_at : (i j : ℕ) (ts : List Mark) (ks : List TakenNumber) (o : Option FileContent) (f : FileContent) → i ≡ j
       → Follows (Lawful l) (File i ts ks o ∷ Pass j f ∷ []) (File i ts ks None ∷ []) (o ≡ Some f)
   spends_at i j ts ks o f e = subst (λ (j' : ℕ). Follows (Lawful l) (File i ts ks o ∷ Pass j' f ∷ []) (File i ts ks None ∷ []) (o ≡ Some f)) e (spends i ts ks o f)
 
-  pub issues_at : (i : ℕ) (ts : List Mark) (ks : List Entry) (o : Option Content) (f : Content) → o ≡ None
+  pub issues_at : (i : ℕ) (ts : List Mark) (ks : List TakenNumber) (o : Option FileContent) (f : FileContent) → o ≡ None
       → Follows (Lawful l) (File i ts ks o ∷ []) (File i ts ks (Some f) ∷ Pass i f ∷ []) (Unit {0})
-  issues_at i ts ks o f e = subst (λ (o' : Option Content). Follows (Lawful l) (File i ts ks o' ∷ []) (File i ts ks (Some f) ∷ Pass i f ∷ []) (Unit {0})) (sym e) (issues i ts ks f)
+  issues_at i ts ks o f e = subst (λ (o' : Option FileContent). Follows (Lawful l) (File i ts ks o' ∷ []) (File i ts ks (Some f) ∷ Pass i f ∷ []) (Unit {0})) (sym e) (issues i ts ks f)
 
   -- no file has two passes
-  pub differs : (i j : ℕ) (f g : Content) → Follows (Lawful l) (Pass i f ∷ Pass j g ∷ []) (Pass i f ∷ Pass j g ∷ []) (i ≢ j)
+  pub differs : (i j : ℕ) (f g : FileContent) → Follows (Lawful l) (Pass i f ∷ Pass j g ∷ []) (Pass i f ∷ Pass j g ∷ []) (i ≢ j)
   differs i j f g rest law = (
     law,
     (λ e.
@@ -435,7 +435,7 @@ module _ (l : Layout) where
   no_tickets h (Pass i f) e = refl
   no_tickets h (Census cs) e = refl
 
-  no_taken : (h : Entry → ℕ) (c : Claim) → counted c ≡ 0 → taken_in h c ≡ 0
+  no_taken : (h : TakenNumber → ℕ) (c : Claim) → counted c ≡ 0 → taken_in h c ≡ 0
   no_taken h (Segment s ms) e = refl
   no_taken h (Hand ts ks) e = refl
   no_taken h (File i ts ks f) e = refl
@@ -443,7 +443,7 @@ module _ (l : Layout) where
   no_taken h (Pass i f) e = refl
   no_taken h (Census cs) e = refl
 
-  no_tokens : (h : Entry → ℕ) (c : Claim) → counted c ≡ 0 → tokens_in h c ≡ 0
+  no_tokens : (h : TakenNumber → ℕ) (c : Claim) → counted c ≡ 0 → tokens_in h c ≡ 0
   no_tokens h (Segment s ms) e = refl
   no_tokens h (Hand ts ks) e = one_not_none e
   no_tokens h (File i ts ks f) e = one_not_none e
@@ -451,7 +451,7 @@ module _ (l : Layout) where
   no_tokens h (Pass i f) e = refl
   no_tokens h (Census cs) e = refl
 
-  no_shown : (h : ℕ → Content → ℕ) (c : Claim) → counted c ≡ 0 → shown_in h c ≡ 0
+  no_shown : (h : ℕ → FileContent → ℕ) (c : Claim) → counted c ≡ 0 → shown_in h c ≡ 0
   no_shown h (Segment s ms) e = refl
   no_shown h (Hand ts ks) e = refl
   no_shown h (File i ts ks f) e = one_not_none e

@@ -4,9 +4,9 @@ use Rattle.atomic_table.specs.Seated.{TableId}
 use Rattle.rights_books.specs.ClaimRules.{Held}
 use Rattle.rights_books.specs.Rules.{each_below}
 use Rattle.geometry.specs.declared.owner.Mark.{Mark}
-use Rattle.rights_books.specs.declared.claim.Entry.{Entry}
+use Rattle.rights_books.specs.declared.claim.TakenNumber.{TakenNumber}
 use Rattle.geometry.specs.declared.kind.Kind.TheVariants as kind
-use Rattle.rights_books.specs.declared.claim.Content.{Content}
+use Rattle.rights_books.specs.declared.claim.FileContent.{FileContent}
 use Rattle.rights_books.specs.declared.claim.Copied.{Copied}
 use Rattle.rights_books.specs.declared.claim.Claim.{Claim}
 use Rattle.rights_books.specs.declared.claim.Claim.TheVariants.{Segment, Hand, File, Shard, Pass, Census}
@@ -21,27 +21,27 @@ pub record SegmentView : Type 0 where
 pub record HandView : Type 0 where
   pub book : TableId
   pub tickets : List Mark
-  pub tokens : List Entry
+  pub tokens : List TakenNumber
 
 -- a file, the tickets and tokens that are lodged in it, and what its pass shows, where one is out
 pub record FileView : Type 0 where
   pub book : TableId
   pub inode : ℕ
   pub tickets : List Mark
-  pub tokens : List Entry
-  pub content : Option Content
+  pub tokens : List TakenNumber
+  pub content : Option FileContent
 
 -- a shard, and its taken numbers
 pub record ShardView : Type 0 where
   pub book : TableId
   pub shard : ℕ
-  pub taken : List Entry
+  pub taken : List TakenNumber
 
 -- the right to change a file
 pub record PassView : Type 0 where
   pub book : TableId
   pub inode : ℕ
-  pub content : Content
+  pub content : FileContent
 
 -- all hands, and what some accounts have
 pub record CensusView : Type 0 where
@@ -97,7 +97,7 @@ marks_of (Shard k es) = []
 marks_of (Pass i f) = []
 marks_of (Census cs) = []
 
-abbrev pub entries_of : Claim → List Entry
+abbrev pub entries_of : Claim → List TakenNumber
 entries_of (Segment s ms) = []
 entries_of (Hand ts ks) = ks
 entries_of (File i ts ks f) = ks
@@ -106,11 +106,11 @@ entries_of (Pass i f) = []
 entries_of (Census cs) = []
 
 -- the bytes of the entry that stands in front of what a holder has
-abbrev pub bytes_of : List Entry → List ℕ
+abbrev pub bytes_of : List TakenNumber → List ℕ
 bytes_of [] = []
 bytes_of (e ∷ es) = e.bytes
 
-abbrev pub content_of : Claim → Option Content
+abbrev pub content_of : Claim → Option FileContent
 content_of (Segment s ms) = None
 content_of (Hand ts ks) = None
 content_of (File i ts ks f) = f
@@ -133,7 +133,7 @@ first_of (c ∷ cs) = c
 abbrev pub bytes_in_front : Held Claim → List ℕ
 bytes_in_front h = bytes_of (entries_of (first_of h.claims))
 
-abbrev pub shown_content : Option Content → Content
+abbrev pub shown_content : Option FileContent → FileContent
 shown_content (Some f) = f
 shown_content None = record { kind = kind.File; length = 0; blocks = [] }
 

@@ -1,8 +1,8 @@
 -- The rule of the books. It adds up what all claims have together: t h is the weight h of each, added up.
 use Rattle.std.specs.Prelude.{◌≡◌, ℕ, zero, suc, ◌≤◌, ◌==◌, List, [], ◌∷◌, ◌++◌, Option, Some, None, if◌then◌else◌}
 use Rattle.geometry.specs.declared.owner.Mark.{Mark}
-use Rattle.rights_books.specs.declared.claim.Entry.{Entry}
-use Rattle.rights_books.specs.declared.claim.Content.{Content}
+use Rattle.rights_books.specs.declared.claim.TakenNumber.{TakenNumber}
+use Rattle.rights_books.specs.declared.claim.FileContent.{FileContent}
 use Rattle.rights_books.specs.declared.claim.Layout.{Layout}
 use Rattle.rights_books.specs.declared.claim.Claim.{Claim}
 use Rattle.rights_books.specs.declared.claim.Claim.TheVariants.{Segment, Hand, File, Shard}
@@ -15,9 +15,9 @@ pub record Lawful (l : Layout) (t : (Claim → ℕ) → ℕ) : Type 0 where
   -- each marked block has one ticket, and each ticket's block is marked
   pub tickets : (h : Mark → ℕ) → t (marks_in h) ≡ t (tickets_in h)
   -- each taken number has one token
-  pub tokens : (h : Entry → ℕ) → t (taken_in h) ≡ t (tokens_in h)
+  pub tokens : (h : TakenNumber → ℕ) → t (taken_in h) ≡ t (tokens_in h)
   -- a pass shows what its file has, and no file has two
-  pub passes : (h : ℕ → Content → ℕ) → t (pass_in h) ≡ t (shown_in h)
+  pub passes : (h : ℕ → FileContent → ℕ) → t (pass_in h) ≡ t (shown_in h)
   -- there is one holder for each segment, file and shard, and there are 64 hands
   pub segments : (h : ℕ → ℕ) → t (segment_in h) ≡ sum_below l.segments h
   pub files : (h : ℕ → ℕ) → t (file_in h) ≡ sum_below l.files (λ i. h (suc i))
@@ -47,15 +47,15 @@ opening l =
     ++ each_from 0 16 (λ k. Shard k [])))
 
 -- the entry of a number whose node has no block yet
-abbrev pub bare_entry : ℕ → ℕ → Entry
+abbrev pub bare_entry : ℕ → ℕ → TakenNumber
 bare_entry number inode = record { number = number; inode = inode; address = 0; bytes = [] }
 
 -- the entry with another block
-abbrev pub moved_to : ℕ → List ℕ → Entry → Entry
+abbrev pub moved_to : ℕ → List ℕ → TakenNumber → TakenNumber
 moved_to a bytes e = record { number = e.number; inode = e.inode; address = a; bytes = bytes }
 
 -- the tickets with that of the number's node, where it has a block
-abbrev pub with_lodged : Entry → List Mark → List Mark
+abbrev pub with_lodged : TakenNumber → List Mark → List Mark
 with_lodged e ts = if e.address == 0 then ts else mark_of e ∷ ts
 
 -- these are all hands, segments, files and shards
@@ -68,8 +68,8 @@ pub record IsWhole (l : Layout) (cs : List Claim) : Type 0 where
 -- nothing is outside these claims: their marks are their tickets, their taken numbers their tokens, and each of their passes shows what its file has
 pub record Settled (cs : List Claim) : Type 0 where
   pub tickets : (h : Mark → ℕ) → weigh (marks_in h) cs ≡ weigh (tickets_in h) cs
-  pub tokens : (h : Entry → ℕ) → weigh (taken_in h) cs ≡ weigh (tokens_in h) cs
-  pub passes : (h : ℕ → Content → ℕ) → weigh (pass_in h) cs ≤ weigh (shown_in h) cs
+  pub tokens : (h : TakenNumber → ℕ) → weigh (taken_in h) cs ≡ weigh (tokens_in h) cs
+  pub passes : (h : ℕ → FileContent → ℕ) → weigh (pass_in h) cs ≤ weigh (shown_in h) cs
 
 -- each segment, file and shard was copied
 pub record IsComplete (l : Layout) (cs : List Copied) : Type 0 where
@@ -80,8 +80,8 @@ pub record IsComplete (l : Layout) (cs : List Copied) : Type 0 where
 -- nothing is in flight: the marks are the tickets that are lodged, and the taken numbers the tokens that are lodged
 pub record Balanced (cs : List Copied) : Type 0 where
   pub tickets : (h : Mark → ℕ) → weigh (marks_copied h) cs ≡ weigh (tickets_copied h) cs
-  pub tokens : (h : Entry → ℕ) → weigh (taken_copied h) cs ≡ weigh (tokens_copied h) cs
+  pub tokens : (h : TakenNumber → ℕ) → weigh (taken_copied h) cs ≡ weigh (tokens_copied h) cs
 
 -- the ticket that is lodged in an entry
-abbrev pub lodged_of : Entry → Option Mark
+abbrev pub lodged_of : TakenNumber → Option Mark
 lodged_of e = if e.address == 0 then None else Some (mark_of e)

@@ -3,19 +3,19 @@ use Rattle.std.specs.Prelude.{ℕ, nat_lt, ◌==◌, ◌&&◌, ◌-◌, ◌/◌,
 use Rattle.geometry.specs.Weights.{weigh}
 use Rattle.geometry.specs.declared.owner.Owner.TheVariants.{Node}
 use Rattle.geometry.specs.declared.owner.Mark.{Mark}
-use Rattle.rights_books.specs.declared.claim.Entry.{Entry}
-use Rattle.rights_books.specs.declared.claim.Content.{Content}
+use Rattle.rights_books.specs.declared.claim.TakenNumber.{TakenNumber}
+use Rattle.rights_books.specs.declared.claim.FileContent.{FileContent}
 use Rattle.rights_books.specs.declared.claim.Claim.{Claim}
 use Rattle.rights_books.specs.declared.claim.Claim.TheVariants.{Segment, Hand, File, Shard, Pass, Census}
 use Rattle.rights_books.specs.declared.claim.Copied.{Copied}
 use Rattle.rights_books.specs.declared.claim.Copied.TheVariants.{SegmentCopy, FileCopy, ShardCopy}
 
 -- the ticket of a number's node
-abbrev pub mark_of : Entry → Mark
+abbrev pub mark_of : TakenNumber → Mark
 mark_of e = record { address = e.address; owner = Node e.number }
 
 -- its weight, where the node has a block
-abbrev pub of_entry : (Mark → ℕ) → Entry → ℕ
+abbrev pub of_entry : (Mark → ℕ) → TakenNumber → ℕ
 of_entry h e = if e.address == 0 then 0 else h (mark_of e)
 
 -- the mark is of this segment: block o of segment s has the address 1 + s * blocks + o, and 0 is no address
@@ -27,7 +27,7 @@ abbrev pub stray_mark : ℕ → ℕ → Mark → ℕ
 stray_mark blocks s m = if is_of_segment blocks s m then 0 else 1
 
 -- 1 where the number is not of this shard
-abbrev pub stray_entry : ℕ → Entry → ℕ
+abbrev pub stray_entry : ℕ → TakenNumber → ℕ
 stray_entry k e = if (e.number % 16) == k then 0 else 1
 
 -- the marks of a segment
@@ -49,7 +49,7 @@ tickets_in h (Pass i f) = 0
 tickets_in h (Census cs) = 0
 
 -- the taken numbers of a shard
-abbrev pub taken_in : (Entry → ℕ) → Claim → ℕ
+abbrev pub taken_in : (TakenNumber → ℕ) → Claim → ℕ
 taken_in h (Segment s ms) = 0
 taken_in h (Hand ts ks) = 0
 taken_in h (File i ts ks f) = 0
@@ -58,7 +58,7 @@ taken_in h (Pass i f) = 0
 taken_in h (Census cs) = 0
 
 -- the tokens that a holder has
-abbrev pub tokens_in : (Entry → ℕ) → Claim → ℕ
+abbrev pub tokens_in : (TakenNumber → ℕ) → Claim → ℕ
 tokens_in h (Segment s ms) = 0
 tokens_in h (Hand ts ks) = weigh h ks
 tokens_in h (File i ts ks f) = weigh h ks
@@ -66,12 +66,12 @@ tokens_in h (Shard k es) = 0
 tokens_in h (Pass i f) = 0
 tokens_in h (Census cs) = 0
 
-abbrev pub shown : (ℕ → Content → ℕ) → ℕ → Option Content → ℕ
+abbrev pub shown : (ℕ → FileContent → ℕ) → ℕ → Option FileContent → ℕ
 shown h i (Some f) = h i f
 shown h i None = 0
 
 -- the file whose pass is out
-abbrev pub shown_in : (ℕ → Content → ℕ) → Claim → ℕ
+abbrev pub shown_in : (ℕ → FileContent → ℕ) → Claim → ℕ
 shown_in h (Segment s ms) = 0
 shown_in h (Hand ts ks) = 0
 shown_in h (File i ts ks f) = shown h i f
@@ -80,7 +80,7 @@ shown_in h (Pass i f) = 0
 shown_in h (Census cs) = 0
 
 -- the file that a pass shows
-abbrev pub pass_in : (ℕ → Content → ℕ) → Claim → ℕ
+abbrev pub pass_in : (ℕ → FileContent → ℕ) → Claim → ℕ
 pass_in h (Segment s ms) = 0
 pass_in h (Hand ts ks) = 0
 pass_in h (File i ts ks f) = 0
@@ -177,12 +177,12 @@ tickets_copied h (SegmentCopy s ms) = 0
 tickets_copied h (FileCopy i ts ks) = weigh h ts
 tickets_copied h (ShardCopy k es) = weigh (of_entry h) es
 
-abbrev pub taken_copied : (Entry → ℕ) → Copied → ℕ
+abbrev pub taken_copied : (TakenNumber → ℕ) → Copied → ℕ
 taken_copied h (SegmentCopy s ms) = 0
 taken_copied h (FileCopy i ts ks) = 0
 taken_copied h (ShardCopy k es) = weigh h es
 
-abbrev pub tokens_copied : (Entry → ℕ) → Copied → ℕ
+abbrev pub tokens_copied : (TakenNumber → ℕ) → Copied → ℕ
 tokens_copied h (SegmentCopy s ms) = 0
 tokens_copied h (FileCopy i ts ks) = weigh h ks
 tokens_copied h (ShardCopy k es) = 0

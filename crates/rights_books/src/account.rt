@@ -27,11 +27,11 @@ impl Model for SegmentAccount {
 
 /// One of the 64 permits, `{ book; tickets; tokens }` to contracts, with what its call has in hand. It takes eight bytes.
 #[derive(Drop)]
-pub struct Permit {
+pub struct CallAccount {
     pub(crate) holder: Holder<Claim>,
 }
 
-impl Model for Permit {
+impl Model for CallAccount {
     ghost use Rattle.std.specs.Prelude.{◌≡◌};
     ghost use Rattle.rights_books.specs.Accounts.{HandView, hand_view, hand_claims};
 
@@ -114,11 +114,11 @@ impl Model for Audit {
 }
 
 /// The one ticket of a marked block, which must be spent. To contracts it is its block's mark.
-pub struct Ticket {
+pub struct MarkClaim {
     pub(crate) mark: Mark,
 }
 
-impl Model for Ticket {
+impl Model for MarkClaim {
     ghost use Rattle.geometry.specs.declared.owner.Mark.{Mark};
 
     ghost Value = { Mark };
@@ -126,7 +126,7 @@ impl Model for Ticket {
     ghost view = { λ t. t.mark };
 }
 
-impl Ticket {
+impl MarkClaim {
     /// The address of its block, and who names the block.
     pub fn mark(&self) -> Mark
         ensures { result ≡ self.now }
@@ -137,7 +137,7 @@ impl Ticket {
 
 /// The one right to a taken node number, `{ number; inode; address; bytes }` to contracts, which must be spent. The bytes
 /// of its node's block are for the proofs alone, and take no memory.
-pub struct Token {
+pub struct NumberClaim {
     pub(crate) number: u32,
     pub(crate) inode: u32,
     pub(crate) address: u32,
@@ -145,16 +145,16 @@ pub struct Token {
     pub(crate) hand: Remembered<Holder<Claim>>,
 }
 
-impl Model for Token {
-    ghost use Rattle.rights_books.specs.declared.claim.Entry.{Entry};
+impl Model for NumberClaim {
+    ghost use Rattle.rights_books.specs.declared.claim.TakenNumber.{TakenNumber};
     ghost use Rattle.rights_books.specs.Accounts.{bytes_in_front};
 
-    ghost Value = { Entry };
+    ghost Value = { TakenNumber };
 
     ghost view = { λ t. record { number = t.number; inode = t.inode; address = t.address; bytes = bytes_in_front t.hand.value } };
 }
 
-impl Token {
+impl NumberClaim {
     /// The node's number.
     pub fn number(&self) -> u32
         ensures { result ≡ self.now.number }

@@ -2,42 +2,42 @@
 ghost use Rattle.std.specs.Prelude.{◌≡◌, ℕ, ◌+◌, ◌<◌, [], ◌∷◌, length};
 ghost use Rattle.geometry.specs.declared.owner.Mark.{Mark};
 ghost use Rattle.geometry.specs.Weights.{weigh};
-ghost use Rattle.rights_books.specs.declared.claim.Entry.{Entry};
+ghost use Rattle.rights_books.specs.declared.claim.TakenNumber.{TakenNumber};
 ghost use Rattle.rights_books.specs.declared.claim.Copied.{Copied};
 ghost use Rattle.rights_books.specs.declared.claim.Copied.TheVariants.{SegmentCopy, FileCopy, ShardCopy};
 ghost use Rattle.rights_books.specs.Accounts.{AreSegments, AreFiles, AreShards};
 ghost use Rattle.rights_books.specs.Weights.{segment_copy, file_copy, shard_copy, past, of_entry};
 ghost use Rattle.rights_books.specs.Rules.{IsComplete, Balanced};
 
-use crate::account::{Audit, FileAccount, Permit, Permits, SegmentAccount, ShardAccount};
+use crate::account::{Audit, CallAccount, FileAccount, Permits, SegmentAccount, ShardAccount};
 use crate::books::Books;
 use std::marker::Brand;
 
 impl Books {
     /// A permit with nothing in hand, as a bundle of one.
-    pub fn pool(&self, permit: Permit) -> Permits
-        requires book { permit.book ≡ self.now.book }
-        requires tickets { permit.tickets ≡ [] }
-        requires tokens { permit.tokens ≡ [] }
+    pub fn pool(&self, hand: CallAccount) -> Permits
+        requires book { hand.book ≡ self.now.book }
+        requires tickets { hand.tickets ≡ [] }
+        requires tokens { hand.tokens ≡ [] }
         ensures { result ≡ record { book = self.now.book; count = 1 } }
     {
-        let Permit { holder } = permit;
+        let CallAccount { holder } = hand;
         Permits { holder, count: 1 }
     }
 
     /// One more permit with nothing in hand goes into the bundle.
-    pub fn add(&self, permits: Permits, permit: Permit) -> Permits
-        requires books { (permits.book ≡ self.now.book) × (permit.book ≡ self.now.book) }
+    pub fn add(&self, permits: Permits, hand: CallAccount) -> Permits
+        requires books { (permits.book ≡ self.now.book) × (hand.book ≡ self.now.book) }
         requires room { permits.count < 64 }
-        requires tickets { permit.tickets ≡ [] }
-        requires tokens { permit.tokens ≡ [] }
+        requires tickets { hand.tickets ≡ [] }
+        requires tokens { hand.tokens ≡ [] }
         ensures { result ≡ record { book = self.now.book; count = permits.count + 1 } }
     {
         let Permits {
             holder: others,
             count,
         } = permits;
-        let Permit { mut holder } = permit;
+        let CallAccount { mut holder } = hand;
         self.book.join(&mut holder, others);
         Permits {
             holder,
@@ -46,12 +46,12 @@ impl Books {
     }
 
     /// A permit with nothing in hand goes out of the bundle.
-    pub fn take_permit(&self, permits: Permits) -> (Permits, Permit)
+    pub fn take_permit(&self, permits: Permits) -> (Permits, CallAccount)
         requires book { permits.book ≡ self.now.book }
         requires some { 0 < permits.count }
         ensures book { result.0.book ≡ self.now.book }
         ensures permits { result.0.count + 1 ≡ permits.count }
-        ensures permit { result.1 ≡ record { book = self.now.book; tickets = []; tokens = [] } }
+        ensures hand { result.1 ≡ record { book = self.now.book; tickets = []; tokens = [] } }
     {
         let Permits { mut holder, count } = permits;
         let rest = self.book.part(&mut holder, 1);
@@ -60,7 +60,7 @@ impl Books {
                 holder: rest,
                 count: count - 1,
             },
-            Permit { holder },
+            CallAccount { holder },
         )
     }
 
@@ -204,7 +204,7 @@ impl Books {
         requires every_shard { length shards.old.items ≡ 16 }
         ensures tickets { (h : Mark → ℕ) → weigh (λ v. weigh h v.marks) segments.old.items
             ≡ weigh (λ v. weigh h v.tickets) files.old.items + weigh (λ v. weigh (of_entry h) v.taken) shards.old.items }
-        ensures tokens { (h : Entry → ℕ) → weigh (λ v. weigh h v.taken) shards.old.items
+        ensures tokens { (h : TakenNumber → ℕ) → weigh (λ v. weigh h v.taken) shards.old.items
             ≡ weigh (λ v. weigh h v.tokens) files.old.items }
         ensures same_segments { segments.new.items ≡ segments.old.items }
         ensures same_files { files.new.items ≡ files.old.items }

@@ -5,8 +5,8 @@ ghost use Rattle.rights_books.specs.ClaimRules.{Follows, Tells};
 
 use crate::holder::Holder;
 use crate::law::{Change, Law, Lesson};
-use crate::plays::{Both, Changes, Count, Cut, Learned, Obeys};
-use crate::{Shown, agree};
+use crate::plays::{Both, Changes, ClaimsThatStay, Cut, Learned, Obeys};
+use crate::{RestingSeat, agree};
 use atomic_table::Table;
 use std::alloc::{AllocError, Global};
 use std::collections::LinkedList;
@@ -55,7 +55,7 @@ impl<C, K, L: Law<C, K>> Book<C, K, L> {
         ensures holder { IfOk result (λ r. (r.1.book ≡ r.0.book) × (r.1.claims ≡ L.first key.now)) }
     {
         let (table, seat) = Table::of_words(alloc, &[0; WORDS], key)?;
-        let seat = Shown::of_seat(seat);
+        let seat = RestingSeat::of_seat(seat);
         Ok((Book { table }, Holder { seat, word: LINE }))
     }
 
@@ -71,7 +71,7 @@ impl<C, K, L: Law<C, K>> Book<C, K, L> {
         self.table
             .shared
             .fetch_add::<Changes<M>>(&mut seat, holder.word, 1);
-        holder.seat = Shown::of_seat(seat);
+        holder.seat = RestingSeat::of_seat(seat);
     }
 
     /// Tells what the law says of two holders' claims, whatever the others have. Nothing runs and nothing changes, so both
@@ -89,21 +89,21 @@ impl<C, K, L: Law<C, K>> Book<C, K, L> {
         );
     }
 
-    fn cut<N: Count>(&self, from: &mut Holder<C>) -> Holder<C>
+    fn cut<N: ClaimsThatStay>(&self, from: &mut Holder<C>) -> Holder<C>
         requires book { from.old.book ≡ self.now.book }
         ensures books { (from.new.book ≡ from.old.book) × (result.book ≡ from.old.book) }
         ensures claims { (from.new.claims ≡ take N.kept from.old.claims) × (result.claims ≡ drop N.kept from.old.claims) }
     {
         let mut seat = from.seat.take_seat::<()>();
         let cut = self.table.shared.split_seat::<Cut<N>>(&mut seat);
-        from.seat = Shown::of_seat(seat);
+        from.seat = RestingSeat::of_seat(seat);
         Holder {
-            seat: Shown::of_seat(cut),
+            seat: RestingSeat::of_seat(cut),
             word: word_after(from.word),
         }
     }
 
-    fn part_by<N: Count>(&self, from: &mut Holder<C>, keep: usize) -> Holder<C>
+    fn part_by<N: ClaimsThatStay>(&self, from: &mut Holder<C>, keep: usize) -> Holder<C>
         requires keep { keep ≡ N.kept }
         requires book { from.old.book ≡ self.now.book }
         ensures books { (from.new.book ≡ from.old.book) × (result.book ≡ from.old.book) }
@@ -136,7 +136,7 @@ impl<C, K, L: Law<C, K>> Book<C, K, L> {
         self.table
             .shared
             .join_seat::<Both>(&mut seat, others.take_seat::<()>());
-        holder.seat = Shown::of_seat(seat);
+        holder.seat = RestingSeat::of_seat(seat);
     }
 
     /// Puts all claims past the first `keep` behind those of `to`.

@@ -11,9 +11,9 @@ use crate::{Book, Change, Holder, Law};
 use std::marker::{Brand, Model, PhantomData};
 
 /// The law of the books.
-pub struct Kept;
+pub struct BooksLaw;
 
-impl Law<Claim, Layout> for Kept {
+impl Law<Claim, Layout> for BooksLaw {
     ghost lawful = { Lawful };
 
     ghost first = { opening };
@@ -23,7 +23,7 @@ impl Law<Claim, Layout> for Kept {
 /// `&`. A step is one atomic addition, waits for nothing and takes no memory.
 #[derive(Drop)]
 pub struct Books {
-    pub(crate) book: Book<Claim, Layout, Kept>,
+    pub(crate) book: Book<Claim, Layout, BooksLaw>,
 }
 
 impl Model for Books {

@@ -5,7 +5,7 @@ use std::collections::LinkedList;
 
 /// A taken node number, the inode of the file that it is of, and its node's block (Linux `filesystems/f2fs`, node address
 /// table).
-pub struct Entry {
+pub struct TakenNumber {
     /// The node's number.
     pub number: u32,
     /// The number of the inode at the root of the node's file.
@@ -17,7 +17,7 @@ pub struct Entry {
 }
 
 /// What a file is, as its pass shows it.
-pub struct Content {
+pub struct FileContent {
     /// What the file is for.
     pub kind: Kind,
     /// Its length, in blocks.
@@ -31,15 +31,15 @@ pub enum Claim {
     /// A segment by its number, and its marked blocks.
     Segment(u32, LinkedList<Mark>),
     /// A call, with the tickets and the node numbers that it has in hand.
-    Hand(LinkedList<Mark>, LinkedList<Entry>),
+    Hand(LinkedList<Mark>, LinkedList<TakenNumber>),
     /// A file by its inode's number, with the tickets and the node numbers that are lodged in it, and, while its pass is
     /// out, what the pass shows.
-    File(u32, LinkedList<Mark>, LinkedList<Entry>, Option<Content>),
+    File(u32, LinkedList<Mark>, LinkedList<TakenNumber>, Option<FileContent>),
     /// A shard of the node numbers, with those that are taken. Where an entry has an address, its node's ticket is lodged
     /// here.
-    Shard(u32, LinkedList<Entry>),
+    Shard(u32, LinkedList<TakenNumber>),
     /// The one right to change a file, and what the file is.
-    Pass(u32, Content),
+    Pass(u32, FileContent),
     /// All hands, with nothing in them, and what some accounts have. That is so for as long as no call has a hand.
     Census(LinkedList<Copied>),
 }
@@ -49,9 +49,9 @@ pub enum Copied {
     /// A segment, and its marked blocks.
     SegmentCopy(u32, LinkedList<Mark>),
     /// A file, with the tickets and the node numbers that are lodged in it.
-    FileCopy(u32, LinkedList<Mark>, LinkedList<Entry>),
+    FileCopy(u32, LinkedList<Mark>, LinkedList<TakenNumber>),
     /// A shard, with its taken numbers.
-    ShardCopy(u32, LinkedList<Entry>),
+    ShardCopy(u32, LinkedList<TakenNumber>),
 }
 
 /// How many accounts the books of a volume have. There are 16 shards.

@@ -2,7 +2,7 @@
 ghost use Rattle.std.specs.Prelude.{◌≡◌, List};
 ghost use Rattle.rights_books.specs.Shown.{Tells, TellsApart};
 
-use crate::shown::Shown;
+use crate::shown::RestingSeat;
 use atomic_table::{Shared, TableRule};
 
 /// What the views of two seats tell. A type of the caller's names the fact, and the rule of the table has to give it.
@@ -14,8 +14,8 @@ pub trait Fact<V> {
 /// looked at while the seats are lent, so there is no load and no wait, and no error.
 pub fn agree<S, V, K, P: TableRule<S, V, K>, M: Fact<V>>(
     table: &Shared<S, V, K, P>,
-    one: &Shown<V>,
-    other: &Shown<V>,
+    one: &RestingSeat<V>,
+    other: &RestingSeat<V>,
 )
     // Both are seats of the table, and its rule tells the fact of them.
     requires { (one.now.table_id ≡ table.now.table_id) × (other.now.table_id ≡ table.now.table_id)
@@ -28,8 +28,8 @@ pub fn agree<S, V, K, P: TableRule<S, V, K>, M: Fact<V>>(
 /// for a rule that counts, as one that lets a single seat have a thing.
 pub fn agree_apart<S, V, K, P: TableRule<S, V, K>, M: Fact<V>>(
     table: &Shared<S, V, K, P>,
-    mine: &mut Shown<V>,
-    other: &Shown<V>,
+    mine: &mut RestingSeat<V>,
+    other: &RestingSeat<V>,
 )
     requires { (mine.old.table_id ≡ table.now.table_id) × (other.now.table_id ≡ table.now.table_id)
         × TellsApart (P.holds table.now.key) mine.old.id mine.old.views other.now.id other.now.views

@@ -12,7 +12,7 @@ use std::alloc::{AllocError, Global};
 
 /// The books of an empty volume, and all its accounts.
 #[derive(Drop)]
-pub struct Opened {
+pub struct DealtBooks {
     /// The books.
     pub books: Books,
     /// All 64 permits.
@@ -159,7 +159,7 @@ impl Books {
     }
 
     /// The books of an empty volume, and all its accounts. It fails only where memory is out, and then nothing is left.
-    pub fn format(alloc: Global, layout: &Layout) -> Result<Opened, AllocError>
+    pub fn format(alloc: Global, layout: &Layout) -> Result<DealtBooks, AllocError>
         ensures layout { IfOk result (λ o. o.books.key ≡ layout.now) }
         ensures permits { IfOk result (λ o. o.permits ≡ record { book = o.books.book; count = 64 }) }
         ensures every_segment { IfOk result (λ o. length o.segments.items ≡ layout.now.segments) }
@@ -174,7 +174,7 @@ impl Books {
         let (segments, dealer) = books.deal_segments(alloc, dealer, layout.segments)?;
         let (files, dealer) = books.deal_files(alloc, dealer, layout.files)?;
         let (shards, _) = books.deal_shards(alloc, dealer, 16)?;
-        Ok(Opened {
+        Ok(DealtBooks {
             books,
             permits,
             segments,

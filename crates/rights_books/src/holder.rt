@@ -1,5 +1,5 @@
 //! Who has claims.
-use crate::Shown;
+use crate::RestingSeat;
 use std::collections::LinkedList;
 use std::marker::Model;
 
@@ -7,7 +7,7 @@ use std::marker::Model;
 /// book, and nobody has them any more.
 #[derive(Drop)]
 pub struct Holder<C> {
-    pub(crate) seat: Shown<LinkedList<C>>,
+    pub(crate) seat: RestingSeat<LinkedList<C>>,
     /// Which word of the book its steps add to. It changes nothing of what they do.
     pub(crate) word: usize,
 }

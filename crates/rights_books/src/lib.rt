@@ -55,22 +55,22 @@ mod shown;
 mod value;
 
 pub use account::{
-    Audit, Dealer, FileAccount, PassAccount, Permit, Permits, SegmentAccount, ShardAccount, Ticket,
-    Token,
+    Audit, CallAccount, Dealer, FileAccount, MarkClaim, NumberClaim, PassAccount, Permits,
+    SegmentAccount, ShardAccount,
 };
 pub use book::Book;
 pub use books::Books;
-pub use claim::{Claim, Content, Copied, Entry, Layout};
+pub use claim::{Claim, Copied, FileContent, Layout, TakenNumber};
 pub use compare::{Fact, agree, agree_apart};
-pub use deal::Opened;
+pub use deal::DealtBooks;
 pub use holder::Holder;
 pub use law::{Change, Law, Lesson};
-pub use numbers::Written;
+pub use numbers::NewBytes;
 pub use part_row::PartRow;
 pub use passes::Noted;
 pub use row_account::{KeptAccount, PartAccount};
 pub use row_claim::{NodeRow, Row, RowClaim};
 pub use row_deal::OpenedRows;
 pub use rows::{Rows, Spelled};
-pub use shown::Shown;
+pub use shown::RestingSeat;
 pub use value::Remembered;

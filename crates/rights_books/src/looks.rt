@@ -8,7 +8,9 @@ ghost use Rattle.rights_books.specs.Lodged.{AreMarked, AreWithin};
 ghost use Rattle.rights_books.specs.Sameness.{same_entry};
 
 use crate::Holder;
-use crate::account::{FileAccount, PassAccount, Permit, SegmentAccount, ShardAccount, Token};
+use crate::account::{
+    CallAccount, FileAccount, NumberClaim, PassAccount, SegmentAccount, ShardAccount,
+};
 use crate::books::{Absorbed, Books, Exchange};
 use crate::claim::Claim;
 use geometry::Mark;
@@ -34,14 +36,14 @@ impl Books {
     }
 
     /// Tells where the block is whose ticket is in hand: in one of the segments. Nothing changes.
-    pub fn locate(&self, permit: &mut Permit, mark: Mark)
-        requires book { permit.old.book ≡ self.now.book }
-        requires held { 0 < times same_mark mark permit.old.tickets }
+    pub fn locate(&self, hand: &mut CallAccount, mark: Mark)
+        requires book { hand.old.book ≡ self.now.book }
+        requires held { 0 < times same_mark mark hand.old.tickets }
         ensures some { 0 < mark.address }
         ensures within { (mark.address - 1) / self.now.key.blocks < self.now.key.segments }
-        ensures same { permit.new ≡ permit.old }
+        ensures same { hand.new ≡ hand.old }
     {
-        self.look::<Brand>(&mut permit.holder, &mark);
+        self.look::<Brand>(&mut hand.holder, &mark);
     }
 
     // One step of one account. What it is about is for the proof alone.
@@ -74,13 +76,13 @@ impl Books {
     }
 
     /// Tells that a number whose token is in hand is taken in its shard, with the token's entry. Nothing changes.
-    pub fn find(&self, shard: &mut ShardAccount, permit: &mut Permit, token: &Token)
-        requires books { (shard.old.book ≡ self.now.book) × (permit.old.book ≡ self.now.book) }
+    pub fn find(&self, shard: &mut ShardAccount, hand: &mut CallAccount, token: &NumberClaim)
+        requires books { (shard.old.book ≡ self.now.book) × (hand.old.book ≡ self.now.book) }
         requires home { token.now.number % 16 ≡ shard.old.shard }
-        requires held { 0 < times same_entry token.now permit.old.tokens }
+        requires held { 0 < times same_entry token.now hand.old.tokens }
         ensures taken { 0 < times same_entry token.now shard.old.taken }
-        ensures kept { (shard.new ≡ shard.old) × (permit.new ≡ permit.old) }
+        ensures kept { (shard.new ≡ shard.old) × (hand.new ≡ hand.old) }
     {
-        self.exchange::<Token, Brand>(&mut shard.holder, &mut permit.holder, token);
+        self.exchange::<NumberClaim, Brand>(&mut shard.holder, &mut hand.holder, token);
     }
 }

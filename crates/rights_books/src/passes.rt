@@ -1,7 +1,7 @@
 //! Files and their passes: a pass is issued, notes what its file becomes, and is spent. What a pass shows, its file has.
 ghost use Rattle.std.specs.Prelude.{◌≡◌, [], Some, None};
 ghost use Rattle.geometry.specs.declared.kind.Kind.TheVariants as kind;
-ghost use Rattle.rights_books.specs.declared.claim.Content.{Content};
+ghost use Rattle.rights_books.specs.declared.claim.FileContent.{FileContent};
 
 use crate::account::{FileAccount, PassAccount};
 use crate::books::Books;
@@ -9,7 +9,7 @@ use std::marker::Brand;
 
 /// What a file becomes, for the proof alone. A type of the caller's names it, or a call at `Brand` picks it.
 pub trait Noted {
-    ghost content: { Content };
+    ghost content: { FileContent };
 }
 
 impl Noted for Brand {

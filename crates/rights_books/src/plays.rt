@@ -30,11 +30,11 @@ impl<C, M: Change<C>> Play<(), LinkedList<C>> for Changes<M> {
 }
 
 /// How many claims stay where a holder is cut, for the proof alone.
-pub trait Count {
+pub trait ClaimsThatStay {
     ghost kept: { ℕ };
 }
 
-impl Count for Brand {
+impl ClaimsThatStay for Brand {
     ghost kept = { 0 };
 }
 
@@ -43,7 +43,7 @@ pub struct Cut<N> {
     count: PhantomData<N>,
 }
 
-impl<C, N: Count> Split<LinkedList<C>> for Cut<N> {
+impl<C, N: ClaimsThatStay> Split<LinkedList<C>> for Cut<N> {
     ghost left = { take N.kept };
 
     ghost right = { drop N.kept };

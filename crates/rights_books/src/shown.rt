@@ -9,7 +9,7 @@ use std::marker::{Model, PhantomData};
 
 /// A seat of a table, at rest. It has no bytes. As a `Badge` it has one view, or none: then it stands in for a seat that
 /// was taken out of its place. Where it is dropped its view stays among those of the table.
-pub struct Shown<V> {
+pub struct RestingSeat<V> {
     marker: PhantomData<V>,
     /// The table that it is a seat of.
     pub ghost table_id: { TableId } by { table_id_coded },
@@ -19,18 +19,18 @@ pub struct Shown<V> {
     pub ghost views: { List V } by { coded_list V.code },
 }
 
-impl<V> Model for Shown<V> {
+impl<V> Model for RestingSeat<V> {
     ghost also_owns = { λ b. badge_owns V.row.coded.code b.table_id b.id b.views };
 
     ghost also_shares = { λ b _ κ. shown_shares V.row.coded.code b.table_id b.id b.views κ };
 }
 
-impl<V> Shown<V> {
+impl<V> RestingSeat<V> {
     /// No seat, to stand in the place of one.
-    pub fn blank() -> Shown<V>
+    pub fn blank() -> RestingSeat<V>
         ensures { result.views ≡ [] }
     {
-        Shown {
+        RestingSeat {
             marker: PhantomData,
         }
     }
@@ -44,13 +44,13 @@ impl<V> Shown<V> {
     {}
 }
 
-impl<V> Shown<V> {
+impl<V> RestingSeat<V> {
     /// The seat of the badge.
-    pub fn of(mut badge: Badge<V>) -> Shown<V>
+    pub fn of(mut badge: Badge<V>) -> RestingSeat<V>
         ensures seat { (result.table_id ≡ badge.table_id) × (result.id ≡ badge.id) }
         ensures views { result.views ≡ badge.views }
     {
-        let mut shown = Shown::blank();
+        let mut shown = RestingSeat::blank();
         shown.swap(&mut badge);
         shown
     }
@@ -77,21 +77,21 @@ impl<V> Shown<V> {
     }
 
     /// The seat that a step has used. It holds no slot.
-    pub fn of_seat<S>(seat: Seat<S, V>) -> Shown<V>
+    pub fn of_seat<S>(seat: Seat<S, V>) -> RestingSeat<V>
         requires { seat.me.1 ≡ [] }
         ensures seat { (result.table_id ≡ seat.table_id) × (result.id ≡ seat.id) }
         ensures view { result.views ≡ seat.me.0 ∷ [] }
     {
-        Shown::of(seat.into_badge())
+        RestingSeat::of(seat.into_badge())
     }
 }
 
-impl<V> Drop for Shown<V> {
+impl<V> Drop for RestingSeat<V> {
     fn drop(self) {
         let Self { marker: _ } = self;
     }
 }
 
-unsafe impl<V> Send for Shown<V> {}
+unsafe impl<V> Send for RestingSeat<V> {}
 
-unsafe impl<V> Sync for Shown<V> {}
+unsafe impl<V> Sync for RestingSeat<V> {}

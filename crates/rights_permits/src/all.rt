@@ -2,7 +2,7 @@
 ghost use Rattle.std.specs.Prelude.{◌≡◌, []};
 ghost use Rattle.rights_permits.specs.Turns.{all_permits, at_home};
 
-use crate::token::Token;
+use crate::token::ChannelPass;
 use crate::{BooksName, TurnName};
 use rights_books::{Audit, Books, Permits};
 
@@ -10,9 +10,9 @@ use rights_books::{Audit, Books, Permits};
 /// no memory.
 pub struct AllPermits<B: BooksName, J: TurnName> {
     /// What their one call has in hand. It is lent to the steps of the books.
-    pub hand: rights_books::Permit,
+    pub hand: rights_books::CallAccount,
     others: Permits,
-    token: Token<B, J>,
+    token: ChannelPass<B, J>,
     pub ghost home: { hand.book ≡ B.books.book },
     ghost others_home: { others.book ≡ B.books.book },
     ghost others_count: { others.count ≡ 63 },
@@ -23,13 +23,17 @@ pub struct AllPermits<B: BooksName, J: TurnName> {
 pub struct Auditing<B: BooksName, J: TurnName> {
     /// What the audit has learned. It is lent to the steps of the books.
     pub audit: Audit,
-    token: Token<B, J>,
+    token: ChannelPass<B, J>,
     pub ghost home: { audit.book ≡ B.books.book },
     ghost all: { token ≡ all_permits },
 }
 
 impl<B: BooksName, J: TurnName> AllPermits<B, J> {
-    pub(crate) fn of_parts(books: &Books, permits: Permits, token: Token<B, J>) -> AllPermits<B, J>
+    pub(crate) fn of_parts(
+        books: &Books,
+        permits: Permits,
+        token: ChannelPass<B, J>,
+    ) -> AllPermits<B, J>
         requires books { books.now ≡ B.books }
         requires permits { permits ≡ record { book = B.books.book; count = all_permits } }
         requires all { token ≡ all_permits }
@@ -43,7 +47,7 @@ impl<B: BooksName, J: TurnName> AllPermits<B, J> {
         }
     }
 
-    pub(crate) fn into_parts(self, books: &Books) -> (Permits, Token<B, J>)
+    pub(crate) fn into_parts(self, books: &Books) -> (Permits, ChannelPass<B, J>)
         requires books { books.now ≡ B.books }
         requires tickets { self.hand.tickets ≡ [] }
         requires tokens { self.hand.tokens ≡ [] }
@@ -59,7 +63,7 @@ impl<B: BooksName, J: TurnName> AllPermits<B, J> {
     }
 
     // Nobody has a permit any more.
-    pub(crate) fn into_token(self) -> Token<B, J>
+    pub(crate) fn into_token(self) -> ChannelPass<B, J>
         ensures { result ≡ all_permits }
     {
         let AllPermits {
@@ -72,7 +76,7 @@ impl<B: BooksName, J: TurnName> AllPermits<B, J> {
 }
 
 impl<B: BooksName, J: TurnName> Auditing<B, J> {
-    pub(crate) fn of_parts(audit: Audit, token: Token<B, J>) -> Auditing<B, J>
+    pub(crate) fn of_parts(audit: Audit, token: ChannelPass<B, J>) -> Auditing<B, J>
         requires home { audit.book ≡ B.books.book }
         requires all { token ≡ all_permits }
         ensures { result.audit ≡ audit }
@@ -80,7 +84,7 @@ impl<B: BooksName, J: TurnName> Auditing<B, J> {
         Auditing { audit, token }
     }
 
-    pub(crate) fn into_parts(self) -> (Audit, Token<B, J>)
+    pub(crate) fn into_parts(self) -> (Audit, ChannelPass<B, J>)
         ensures audit { result.0 ≡ self.audit }
         ensures all { result.1 ≡ all_permits }
     {

@@ -5,23 +5,23 @@ use crossbeam_channel::protocol::{Join, Lesson, Outcome, Protocol, Split};
 use crossbeam_channel::{Pass, RuledReceiver, RuledSender};
 
 /// How many permits a pass has out of the channel. No value of it is made.
-pub struct Turn {
+pub struct PermitsOut {
     pub out: u64,
 }
 
 /// The law.
-pub struct Count;
+pub struct PermitCount;
 
 /// The end that permits go into.
-pub type Sends<B> = RuledSender<Card<B>, Turn, Count>;
+pub type Sends<B> = RuledSender<Card<B>, PermitsOut, PermitCount>;
 
 /// The end that permits come out of.
-pub type Receives<B> = RuledReceiver<Card<B>, Turn, Count>;
+pub type Receives<B> = RuledReceiver<Card<B>, PermitsOut, PermitCount>;
 
 /// A pass of the channel.
-pub type TurnPass<B> = Pass<Card<B>, Turn>;
+pub type TurnPass<B> = Pass<Card<B>, PermitsOut>;
 
-impl<B: BooksName> Protocol<Card<B>, Turn> for Count {
+impl<B: BooksName> Protocol<Card<B>, PermitsOut> for PermitCount {
     ghost use Rattle.rights_permits.specs.Turns.{all_permits, turn, Counted};
 
     ghost holds = { Counted };
@@ -30,9 +30,9 @@ impl<B: BooksName> Protocol<Card<B>, Turn> for Count {
 }
 
 /// All that a pass has out, for another.
-pub struct Whole;
+pub struct AllOut;
 
-impl Split<Turn> for Whole {
+impl Split<PermitsOut> for AllOut {
     ghost use Rattle.rights_permits.specs.Turns.{turn};
 
     ghost left = { λ v. turn 0 };
@@ -40,7 +40,7 @@ impl Split<Turn> for Whole {
     ghost right = { λ v. v };
 }
 
-impl Join<Turn> for Whole {
+impl Join<PermitsOut> for AllOut {
     ghost use Rattle.std.specs.Prelude.{◌+◌};
     ghost use Rattle.rights_permits.specs.Turns.{turn};
 
@@ -52,14 +52,14 @@ impl Join<Turn> for Whole {
 /// A permit comes out.
 pub struct Comes;
 
-impl<B: BooksName> Outcome<Card<B>, Turn> for Comes {
+impl<B: BooksName> Outcome<Card<B>, PermitsOut> for Comes {
     ghost use Rattle.std.specs.Prelude.{◌≡◌, ◌+◌};
     ghost use Rattle.rights_permits.specs.Turns.{turn};
 
     ghost then = { λ v x w. w ≡ turn (v.out + 1) };
 }
 
-impl<B: BooksName> Lesson<Card<B>, Turn> for Comes {
+impl<B: BooksName> Lesson<Card<B>, PermitsOut> for Comes {
     ghost use Rattle.rights_permits.specs.Turns.{AtMost};
 
     ghost fact = { AtMost };
@@ -68,14 +68,14 @@ impl<B: BooksName> Lesson<Card<B>, Turn> for Comes {
 /// A permit goes in.
 pub struct Goes;
 
-impl<B: BooksName> Outcome<Card<B>, Turn> for Goes {
+impl<B: BooksName> Outcome<Card<B>, PermitsOut> for Goes {
     ghost use Rattle.std.specs.Prelude.{◌≡◌, ◌-◌};
     ghost use Rattle.rights_permits.specs.Turns.{turn};
 
     ghost then = { λ v x w. w ≡ turn (v.out - 1) };
 }
 
-impl<B: BooksName> Lesson<Card<B>, Turn> for Goes {
+impl<B: BooksName> Lesson<Card<B>, PermitsOut> for Goes {
     ghost use Rattle.rights_permits.specs.Turns.{AtMost};
 
     ghost fact = { AtMost };

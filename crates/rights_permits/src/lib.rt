@@ -24,8 +24,8 @@ mod token;
 mod turnstile;
 
 pub use all::{AllPermits, Auditing};
-pub use law::Turn;
-pub use names::{BooksName, GeometryName, Named, PoolName, TurnName, VolumeName, WordsName};
+pub use law::PermitsOut;
+pub use names::{BooksName, GeometryName, PickedNames, PoolName, TurnName, VolumeName, WordsName};
 pub use opened::OpenedTurnstile;
 pub use permit::Permit;
 pub use table_names::{BooksOf, NumbersOf, TablesName, WordsOf};

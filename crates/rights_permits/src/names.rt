@@ -95,12 +95,12 @@ pub trait VolumeName {
     type Numbers: GeometryName;
 }
 /// Names that were picked one after the other, put together in one.
-pub struct Named<B, W, P, T, N> {
+pub struct PickedNames<B, W, P, T, N> {
     names: PhantomData<(B, W, P, T, N)>,
 }
 
 impl<B: BooksName, W: WordsName, P: PoolName, T: TurnName, N: GeometryName> VolumeName
-    for Named<B, W, P, T, N> {
+    for PickedNames<B, W, P, T, N> {
     type Books = B;
 
     type Words = W;

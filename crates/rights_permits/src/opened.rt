@@ -5,7 +5,7 @@ ghost use Rattle.rights_permits.specs.Turns.{all_permits, at_home};
 
 use crate::all::AllPermits;
 use crate::law::{Receives, Sends, TurnPass};
-use crate::token::{IdleToken, Token};
+use crate::token::{ChannelPass, IdleToken};
 use crate::turnstile::Turnstile;
 use crate::{BooksName, TurnName};
 use crossbeam_channel::bounded_with;
@@ -69,7 +69,7 @@ impl<B: BooksName> OpenedTurnstile<B> {
             receiver,
             pass,
         } = self;
-        let mut token = Token::of_pass(pass);
+        let mut token = ChannelPass::of_pass(pass);
         let out = token.split(&sender);
         let received = token.split(&sender);
         let all = AllPermits::of_parts(&books, permits, out);

@@ -2,14 +2,14 @@
 ghost use Rattle.std.specs.Prelude.{◌≡◌, []};
 ghost use Rattle.rights_permits.specs.Turns.{at_home};
 
-use crate::token::Token;
+use crate::token::ChannelPass;
 use crate::{BooksName, TurnName};
 use std::marker::{Model, PhantomData};
 
 /// A permit as it lies in the channel, with nothing in hand. It may be dropped with the channel.
 #[derive(Drop)]
 pub struct Card<B: BooksName> {
-    hand: rights_books::Permit,
+    hand: rights_books::CallAccount,
     books: PhantomData<B>,
 }
 
@@ -26,7 +26,7 @@ impl<B: BooksName> Model for Card<B> {
 }
 
 impl<B: BooksName> Card<B> {
-    pub(crate) fn of_hand(hand: rights_books::Permit) -> Card<B>
+    pub(crate) fn of_hand(hand: rights_books::CallAccount) -> Card<B>
         requires nothing { hand ≡ at_home B.books.book }
     {
         Card {
@@ -35,7 +35,7 @@ impl<B: BooksName> Card<B> {
         }
     }
 
-    pub(crate) fn into_hand(self) -> rights_books::Permit
+    pub(crate) fn into_hand(self) -> rights_books::CallAccount
         ensures { result ≡ at_home B.books.book }
     {
         self.hand
@@ -45,14 +45,17 @@ impl<B: BooksName> Card<B> {
 /// The right to change the volume, for the length of one call. It must be given back by `Turnstile::leave`.
 pub struct Permit<B: BooksName, J: TurnName> {
     /// What the call has in hand. It is lent to the steps of the books.
-    pub hand: rights_books::Permit,
-    pub(crate) token: Token<B, J>,
+    pub hand: rights_books::CallAccount,
+    pub(crate) token: ChannelPass<B, J>,
     pub ghost home: { hand.book ≡ B.books.book },
     ghost one: { token ≡ 1 },
 }
 
 impl<B: BooksName, J: TurnName> Permit<B, J> {
-    pub(crate) fn of_parts(hand: rights_books::Permit, token: Token<B, J>) -> Permit<B, J>
+    pub(crate) fn of_parts(
+        hand: rights_books::CallAccount,
+        token: ChannelPass<B, J>,
+    ) -> Permit<B, J>
         requires home { hand.book ≡ B.books.book }
         requires one { token ≡ 1 }
         ensures { result.hand ≡ hand }
@@ -60,7 +63,7 @@ impl<B: BooksName, J: TurnName> Permit<B, J> {
         Permit { hand, token }
     }
 
-    pub(crate) fn into_parts(self) -> (Card<B>, Token<B, J>)
+    pub(crate) fn into_parts(self) -> (Card<B>, ChannelPass<B, J>)
         requires tickets { self.hand.tickets ≡ [] }
         requires tokens { self.hand.tokens ≡ [] }
         ensures { result.1 ≡ 1 }

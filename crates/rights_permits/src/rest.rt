@@ -3,7 +3,7 @@ ghost use Rattle.std.specs.Prelude.{◌≡◌, [], IfSome};
 ghost use Rattle.rights_permits.specs.Turns.{at_home};
 
 use crate::permit::{Card, Permit};
-use crate::token::Token;
+use crate::token::ChannelPass;
 use crate::{BooksName, TurnName};
 
 /// A rest, as it lies under its lock. While it is open a permit may lie there, with nothing in hand.
@@ -17,7 +17,7 @@ pub(crate) struct Rest<B: BooksName, J: TurnName> {
 /// A permit at rest, and its token.
 struct Resting<B: BooksName, J: TurnName> {
     card: Card<B>,
-    token: Token<B, J>,
+    token: ChannelPass<B, J>,
     ghost one: { token ≡ 1 },
 }
 

@@ -6,7 +6,7 @@ ghost use Rattle.rights_permits.specs.Turns.{at_home, IsRing};
 use crate::law::Sends;
 use crate::permit::Permit;
 use crate::rest::Rest;
-use crate::token::Token;
+use crate::token::ChannelPass;
 use crate::{BooksName, TurnName};
 use std::sync::{Mutex, Wait};
 
@@ -67,7 +67,7 @@ impl<B: BooksName, J: TurnName> Row<B, J> {
         }
     }
 
-    fn end(self, sender: &Sends<B>, token: &mut Token<B, J>)
+    fn end(self, sender: &Sends<B>, token: &mut ChannelPass<B, J>)
         requires channel { IsRing J.turns J.key (sends_on sender.now) }
         ensures { token.old ≤ token.new }
     {
@@ -166,7 +166,7 @@ impl<B: BooksName, J: TurnName> Rests<B, J> {
     }
 
     /// The end. What rests goes into the token.
-    pub(crate) fn end(self, sender: &Sends<B>, token: &mut Token<B, J>)
+    pub(crate) fn end(self, sender: &Sends<B>, token: &mut ChannelPass<B, J>)
         requires channel { IsRing J.turns J.key (sends_on sender.now) }
         ensures { token.old ≤ token.new }
     {
@@ -190,7 +190,7 @@ impl<B: BooksName, J: TurnName> Rests<B, J> {
 fn end_rest<B: BooksName, J: TurnName>(
     place: Mutex<Rest<B, J>>,
     sender: &Sends<B>,
-    token: &mut Token<B, J>,
+    token: &mut ChannelPass<B, J>,
 )
     requires channel { IsRing J.turns J.key (sends_on sender.now) }
     ensures { token.old ≤ token.new }

@@ -3,7 +3,7 @@ ghost use Rattle.std.specs.Prelude.{◌≡◌, ◌<◌, ◌≤◌, ◌+◌, ◌-
 ghost use Rattle.crossbeam_channel.specs.Ends.{sends_on, receives_on};
 ghost use Rattle.rights_permits.specs.Turns.{all_permits, IsRing, IsTurnAt, count_of};
 
-use crate::law::{Comes, Goes, Receives, Sends, TurnPass, Whole};
+use crate::law::{AllOut, Comes, Goes, Receives, Sends, TurnPass};
 use crate::permit::Card;
 use crate::{BooksName, TurnName};
 use std::marker::{Model, PhantomData};
@@ -11,12 +11,12 @@ use std::sync::Wait;
 
 /// A pass of the named channel, to contracts the number of permits that it has out. It has no bytes. It can't be lost: it
 /// goes into another, and the one that has all permits out ends with the channel.
-pub struct Token<B: BooksName, J: TurnName> {
+pub struct ChannelPass<B: BooksName, J: TurnName> {
     pass: TurnPass<B>,
     turns: PhantomData<J>,
 }
 
-impl<B: BooksName, J: TurnName> Model for Token<B, J> {
+impl<B: BooksName, J: TurnName> Model for ChannelPass<B, J> {
     ghost use Rattle.std.specs.Prelude.{ℕ};
     ghost use Rattle.rights_permits.specs.Turns.{IsTurnAt, count_of};
 
@@ -27,12 +27,12 @@ impl<B: BooksName, J: TurnName> Model for Token<B, J> {
     ghost invariant = { λ t. IsTurnAt J.turns J.key t.pass };
 }
 
-impl<B: BooksName, J: TurnName> Token<B, J> {
-    pub(crate) fn of_pass(pass: TurnPass<B>) -> Token<B, J>
+impl<B: BooksName, J: TurnName> ChannelPass<B, J> {
+    pub(crate) fn of_pass(pass: TurnPass<B>) -> ChannelPass<B, J>
         requires channel { IsTurnAt J.turns J.key pass }
         ensures { result ≡ count_of pass }
     {
-        Token {
+        ChannelPass {
             pass,
             turns: PhantomData,
         }
@@ -40,21 +40,21 @@ impl<B: BooksName, J: TurnName> Token<B, J> {
 
     // All that it has out, for another.
     #[tactic(auto, using(crate::proofs::Turns::forks))]
-    pub(crate) fn split(&mut self, sender: &Sends<B>) -> Token<B, J>
+    pub(crate) fn split(&mut self, sender: &Sends<B>) -> ChannelPass<B, J>
         requires channel { IsRing J.turns J.key (sends_on sender.now) }
         ensures rest { self.new ≡ 0 }
         ensures other { result ≡ self.old }
     {
-        Token::of_pass(sender.another::<Whole>(&mut self.pass))
+        ChannelPass::of_pass(sender.another::<AllOut>(&mut self.pass))
     }
 
     #[tactic(auto, using(crate::proofs::Turns::merges))]
-    pub(crate) fn join(&mut self, sender: &Sends<B>, other: Token<B, J>)
+    pub(crate) fn join(&mut self, sender: &Sends<B>, other: ChannelPass<B, J>)
         requires channel { IsRing J.turns J.key (sends_on sender.now) }
         ensures { self.new ≡ self.old + other }
     {
-        let Token { pass, turns: _ } = other;
-        sender.absorb::<Whole>(&mut self.pass, pass);
+        let ChannelPass { pass, turns: _ } = other;
+        sender.absorb::<AllOut>(&mut self.pass, pass);
     }
 
     // Receives a permit, or comes back without effect.
@@ -89,13 +89,13 @@ impl<B: BooksName, J: TurnName> Token<B, J> {
         requires channel { IsRing J.turns J.key (sends_on sender) }
         requires all { all_permits ≤ self }
     {
-        let Token { pass: _, turns: _ } = self;
+        let ChannelPass { pass: _, turns: _ } = self;
         drop(sender);
     }
 }
 
 /// A token that has no permit out, as it lies under a lock.
 pub struct IdleToken<B: BooksName, J: TurnName> {
-    pub(crate) token: Token<B, J>,
+    pub(crate) token: ChannelPass<B, J>,
     pub(crate) ghost none: { token ≡ 0 },
 }

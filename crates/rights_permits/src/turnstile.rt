@@ -8,7 +8,7 @@ use crate::all::{AllPermits, Auditing};
 use crate::law::{Receives, Sends};
 use crate::permit::{Card, Permit};
 use crate::rests::Rests;
-use crate::token::{IdleToken, Token};
+use crate::token::{ChannelPass, IdleToken};
 use crate::{BooksName, TurnName};
 use geometry::Error;
 use rights_books::{Books, Permits};
@@ -202,7 +202,7 @@ impl<B: BooksName, J: TurnName> Turnstile<B, J> {
     }
 
     // Receives a permit. A receive that comes back without one is tried again.
-    fn receive<R: Wait>(&self, rt: &R, token: &mut Token<B, J>) -> Card<B>
+    fn receive<R: Wait>(&self, rt: &R, token: &mut ChannelPass<B, J>) -> Card<B>
         ensures { token.new ≡ token.old + 1 }
     {
         for _ in rt.forever() {
@@ -214,7 +214,7 @@ impl<B: BooksName, J: TurnName> Turnstile<B, J> {
     }
 
     // Sends a permit. One that comes back is tried again.
-    fn send<R: Wait>(&self, rt: &R, token: &mut Token<B, J>, mut card: Card<B>)
+    fn send<R: Wait>(&self, rt: &R, token: &mut ChannelPass<B, J>, mut card: Card<B>)
         requires out { 0 < token.old }
         ensures { token.new ≡ token.old - 1 }
     {
@@ -246,7 +246,7 @@ impl<B: BooksName, J: TurnName> Turnstile<B, J> {
 
     // A permit for who gathers: the one that rests at a number, where nothing rests from then on, or one that comes out of the
     // channel. All that is not at the rests of higher numbers, or in a call there, is in the channel or comes to it.
-    fn collect<R: Wait>(&self, rt: &R, token: &mut Token<B, J>, number: u32) -> Card<B>
+    fn collect<R: Wait>(&self, rt: &R, token: &mut ChannelPass<B, J>, number: u32) -> Card<B>
         ensures { token.new ≡ token.old + 1 }
     {
         match self.rests.close(rt, number) {
@@ -255,7 +255,7 @@ impl<B: BooksName, J: TurnName> Turnstile<B, J> {
         }
     }
 
-    fn take_in(&self, token: &mut Token<B, J>, permit: Permit<B, J>) -> Card<B>
+    fn take_in(&self, token: &mut ChannelPass<B, J>, permit: Permit<B, J>) -> Card<B>
         requires tickets { permit.hand.tickets ≡ [] }
         requires tokens { permit.hand.tokens ≡ [] }
         ensures { token.new ≡ token.old + 1 }
@@ -265,7 +265,7 @@ impl<B: BooksName, J: TurnName> Turnstile<B, J> {
         card
     }
 
-    fn receive_all<R: Wait>(&self, rt: &R, token: &mut Token<B, J>) -> Permits
+    fn receive_all<R: Wait>(&self, rt: &R, token: &mut ChannelPass<B, J>) -> Permits
         requires none { token.old ≡ 0 }
         ensures all { token.new ≡ all_permits }
         ensures permits { result ≡ record { book = B.books.book; count = all_permits } }
@@ -280,7 +280,7 @@ impl<B: BooksName, J: TurnName> Turnstile<B, J> {
         permits
     }
 
-    fn send_all<R: Wait>(&self, rt: &R, token: &mut Token<B, J>, permits: Permits)
+    fn send_all<R: Wait>(&self, rt: &R, token: &mut ChannelPass<B, J>, permits: Permits)
         requires all { token.old ≡ all_permits }
         requires permits { permits ≡ record { book = B.books.book; count = all_permits } }
         ensures none { token.new ≡ 0 }

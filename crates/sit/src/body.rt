@@ -16,7 +16,7 @@ ghost use Rattle.sit.specs.Thread.{ended, is_threadable, keeping, IsNextHole};
 
 use crate::blocks::Blocks;
 use crate::segment::{Released, SegmentRow};
-use crate::thread::Threading;
+use crate::thread::HoleFilling;
 use crate::valid::ValidBlocks;
 use device::{Block, DeviceError};
 use geometry::{Owner, Shape, State, Summary};
@@ -35,7 +35,7 @@ pub(crate) struct Body<B: Block + Drop> {
     pub(crate) valid: ValidBlocks,
     pub(crate) mtime: u64,
     pub(crate) next: u32,
-    pub(crate) thread: Threading,
+    pub(crate) thread: HoleFilling,
 }
 
 impl<B: Block + Drop> Model for Body<B> {
@@ -332,7 +332,7 @@ fn fate_of(state: State, valid: u32) -> (State, Released)
 }
 
 // Ends the thread of a segment that is retired.
-fn end_retired(thread: &mut Threading, released: Released)
+fn end_retired(thread: &mut HoleFilling, released: Released)
     ensures { thread.new ≡ thread_left released thread.old }
 {
     match released {

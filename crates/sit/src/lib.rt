@@ -16,5 +16,5 @@ mod thread;
 mod valid;
 
 pub use loading::Loading;
-pub use room::Room;
+pub use room::EmptySegment;
 pub use segment::{Released, SegmentRow, SegmentState};

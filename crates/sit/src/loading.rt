@@ -9,13 +9,13 @@ ghost use Rattle.sit.specs.Summaries.{count_of};
 
 use crate::blocks::Blocks;
 use crate::body::Body;
-use crate::room::Room;
+use crate::room::EmptySegment;
 use crate::segment::SegmentState;
-use crate::thread::Threading;
+use crate::thread::HoleFilling;
 use crate::valid::ValidBlocks;
 use device::Block;
 use geometry::{Mark, Owner, Shape, State};
-use rights_books::{Books, PartRow, Permit, SegmentAccount};
+use rights_books::{Books, CallAccount, PartRow, SegmentAccount};
 use std::marker::Model;
 use tickets::Ticket;
 use words::{FreeSlip, OpenSlip, Standing, Words};
@@ -30,7 +30,7 @@ pub struct Loading<B: Block + Drop> {
     left: u32,
     blocks: Blocks<B>,
     valid: ValidBlocks,
-    thread: Threading,
+    thread: HoleFilling,
     account: SegmentAccount,
 }
 
@@ -44,7 +44,7 @@ impl<B: Block + Drop> Model for Loading<B> {
     ghost invariant = { λ s. IsLoading s.shape s.number s.left s.blocks s.valid s.thread s.account };
 }
 
-impl<B: Block + Drop> Room<B> {
+impl<B: Block + Drop> EmptySegment<B> {
     /// The segment, before its first block comes in, over its account.
     pub fn load(self, account: SegmentAccount) -> Loading<B>
         requires account { account ≡ record { book = account.book; segment = self.number; marks = [] } }
@@ -74,19 +74,19 @@ impl<B: Block + Drop> Loading<B> {
     pub fn put(
         &mut self,
         books: &Books,
-        permit: &mut Permit,
+        hand: &mut CallAccount,
         block: B,
         owner: Option<Owner>,
     ) -> Option<Ticket<B>>
         requires books { AreItsBooks books.now self.old }
-        requires permit { permit.old.book ≡ self.old.book }
+        requires hand { hand.old.book ≡ self.old.book }
         requires left { 0 < self.old.left }
         requires address { B.address_of block + 1 ≡ address_of self.old.shape self.old.number self.old.left }
         requires bytes { length (B.content_of block) ≡ block_bytes self.old.shape }
         requires owner { MatchOption owner (Unit {0}) IsOwner }
         ensures ticket { MatchOption result (owner ≡ None) (λ ticket. owner ≡ Some ticket.mark.owner) }
         ensures block { MatchOption result (Unit {0}) (λ ticket. (ticket.mark.address ≡ B.address_of block) × (ticket.content ≡ B.content_of block)) }
-        ensures hand { MatchOption result (permit.new ≡ permit.old) (λ ticket. permit.new ≡ record permit.old { tickets = ticket.mark ∷ permit.old.tickets }) }
+        ensures hand { MatchOption result (hand.new ≡ hand.old) (λ ticket. hand.new ≡ record hand.old { tickets = ticket.mark ∷ hand.old.tickets }) }
         ensures left { self.new.left + 1 ≡ self.old.left }
         ensures segment { self.new ≡ record self.old { left = self.new.left; summaries = slice_set self.old.summaries self.new.left owner; contents = contents_put self.old.contents self.new.left (B.content_of block) owner; failed = self.new.failed } }
     {
@@ -100,7 +100,7 @@ impl<B: Block + Drop> Loading<B> {
                 self.valid.set(self.left, owner);
                 let address = block.address();
                 let mark = Mark { address, owner };
-                let claimed = books.mark(&mut self.account, permit, mark);
+                let claimed = books.mark(&mut self.account, hand, mark);
                 Some(Ticket::new(claimed, block))
             }
         }

@@ -9,7 +9,7 @@ ghost use Rattle.words.specs.Claims.{fresh_life};
 use crate::blocks::Blocks;
 use crate::body::Body;
 use crate::segment::SegmentState;
-use crate::thread::Threading;
+use crate::thread::HoleFilling;
 use crate::valid::ValidBlocks;
 use device::Block;
 use geometry::{Error, Geometry, Shape, State};
@@ -21,15 +21,15 @@ use words::Standing;
 /// The memory of one segment without its blocks: with all rooms at hand, a device can be taken apart and put together
 /// without any more memory.
 #[derive(Drop)]
-pub struct Room<B: Block + Drop> {
+pub struct EmptySegment<B: Block + Drop> {
     shape: Shape,
     number: u32,
     blocks: Blocks<B>,
     valid: ValidBlocks,
-    thread: Threading,
+    thread: HoleFilling,
 }
 
-impl<B: Block + Drop> Model for Room<B> {
+impl<B: Block + Drop> Model for EmptySegment<B> {
     ghost use Rattle.sit.specs.Room.{RoomOf, IsRoom};
 
     ghost Value = { RoomOf };
@@ -39,13 +39,13 @@ impl<B: Block + Drop> Model for Room<B> {
     ghost invariant = { λ r. IsRoom (record { shape = r.shape; number = r.number }) r.blocks r.valid r.thread };
 }
 
-impl<B: Block + Drop> Room<B> {
+impl<B: Block + Drop> EmptySegment<B> {
     ghost use Rattle.sit.specs.Room.{IsRoom};
     ghost use Rattle.sit.specs.Segment.{fresh};
     ghost use Rattle.sit.specs.Registered.{post_of};
 
     /// The memory of the segment of this number. The only error is NoMemory.
-    pub fn new(alloc: Global, geometry: &Geometry, number: u32) -> Result<Room<B>, Error>
+    pub fn new(alloc: Global, geometry: &Geometry, number: u32) -> Result<EmptySegment<B>, Error>
         requires { number < geometry.now.segments }
         ensures ok { IfOk result (λ room. room ≡ record { shape = geometry.now.shape; number = number }) }
         ensures err { IfErr result (λ error. error ≡ NoMemory) }
@@ -53,12 +53,12 @@ impl<B: Block + Drop> Room<B> {
         let shape = geometry.shape;
         let first = geometry.address_of(number, 0);
         let count = shape.segment_blocks();
-        Ok(Room {
+        Ok(EmptySegment {
             shape,
             number,
             blocks: Blocks::new(alloc, first, shape.block_bytes(), count)?,
             valid: ValidBlocks::new(alloc, count)?,
-            thread: Threading::new(alloc, count)?,
+            thread: HoleFilling::new(alloc, count)?,
         })
     }
 
@@ -91,7 +91,7 @@ impl<B: Block + Drop> Room<B> {
     }
 
     /// Its parts: none of its blocks is there, and none is valid.
-    pub(crate) fn into_parts(self) -> (Shape, u32, Blocks<B>, ValidBlocks, Threading)
+    pub(crate) fn into_parts(self) -> (Shape, u32, Blocks<B>, ValidBlocks, HoleFilling)
         ensures whose { (result.0 ≡ self.shape) × (result.1 ≡ self.number) }
         ensures room { IsRoom self result.2 result.3 result.4 }
     {

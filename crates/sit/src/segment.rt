@@ -20,10 +20,10 @@ use crate::body::Body;
 use crate::standing::{retire_empty, seal_full, show_open};
 use device::Block;
 use geometry::{Error, Mark, Owner, State};
-use rights_books::{Audit, Books, FileAccount, PartRow, Permit, SegmentAccount};
+use rights_books::{Audit, Books, CallAccount, FileAccount, PartRow, SegmentAccount};
 use std::marker::Model;
 use tickets::Ticket;
-use words::{CheckpointSeat, FreeSlip, OpenSlip, Seat, Standing, StoredOpenSlip, Words};
+use words::{CheckpointSeat, FreeSlip, OpenSlip, SeatToken, Standing, StoredOpenSlip, Words};
 
 /// One segment in its lock (Linux `filesystems/f2fs`, segment information table and segment summary area). The law, whenever
 /// the lock is free: a block's bit is set exactly where the block is not at home; each set bit has one ticket out, whose
@@ -171,14 +171,14 @@ impl<B: Block + Drop> SegmentState<B> {
         &mut self,
         books: &Books,
         words: &Words,
-        permit: &mut Permit,
+        hand: &mut CallAccount,
         slip: &mut Option<StoredOpenSlip>,
         owner: Owner,
         now: u64,
         bytes: &[u8],
     ) -> Result<Ticket<B>, Error>
         requires books { AreItsBooks books.now self.old }
-        requires permit { permit.old.book ≡ self.old.book }
+        requires hand { hand.old.book ≡ self.old.book }
         requires words { words.now.table ≡ self.old.table }
         requires slip { slip.old ≡ Some (slip_of self.old) }
         requires owner { IsOwner owner }
@@ -191,7 +191,7 @@ impl<B: Block + Drop> SegmentState<B> {
         ensures marks { IfOk result (λ ticket. SameItems (ticket.mark ∷ marks_of self.old.segment) (marks_of self.new.segment)) }
         ensures count { OnOk result (count_of self.new.segment.summaries ≡ count_of self.old.segment.summaries + 1) }
         ensures blocks { IfOk result (λ ticket. FollowsBlocks (λ blocks. changed blocks ticket.mark.address ticket.content) self.old.segment self.new.segment) }
-        ensures hand { IfOk result (λ ticket. permit.new ≡ record permit.old { tickets = ticket.mark ∷ permit.old.tickets }) }
+        ensures hand { IfOk result (λ ticket. hand.new ≡ record hand.old { tickets = ticket.mark ∷ hand.old.tickets }) }
         ensures book { IsSameBook self.old self.new }
         ensures error { IfErr result (λ error. error ≡ Device) }
         ensures failure { OnErr result (self.old.segment.failed < self.new.segment.failed) }
@@ -199,13 +199,13 @@ impl<B: Block + Drop> SegmentState<B> {
         ensures spoiled { OnErr result (HasSpoiled self.old.segment self.new.segment) }
         ensures err_blocks { OnErr result ((bytes : List ℕ) × FollowsBlocks (λ blocks. changed blocks (address_of self.old.segment.shape self.old.segment.number self.old.segment.next) bytes) self.old.segment self.new.segment) }
         ensures err_slip { OnErr result (slip.new ≡ slip.old) }
-        ensures err_hand { OnErr result (permit.new ≡ permit.old) }
+        ensures err_hand { OnErr result (hand.new ≡ hand.old) }
     {
         show_open(words, &mut self.standing, slip);
         self.row.change();
         let block = self.body.place(owner, now, bytes)?;
         let address = block.address();
-        let claimed = books.mark(&mut self.account, permit, Mark { address, owner });
+        let claimed = books.mark(&mut self.account, hand, Mark { address, owner });
         seal_full(words, &mut self.standing, slip, self.body.state());
         Ok(Ticket::new(claimed, block))
     }
@@ -235,31 +235,31 @@ impl<B: Block + Drop> SegmentState<B> {
     pub fn place_threaded(
         &mut self,
         books: &Books,
-        permit: &mut Permit,
+        hand: &mut CallAccount,
         log: u32,
         owner: Owner,
         now: u64,
         bytes: &[u8],
     ) -> Result<Option<Ticket<B>>, Error>
         requires books { AreItsBooks books.now self.old }
-        requires permit { permit.old.book ≡ self.old.book }
+        requires hand { hand.old.book ≡ self.old.book }
         requires owner { IsOwner owner }
         requires bytes { length bytes.now ≡ block_bytes self.old.segment.shape }
         ensures filled { IfOk result (λ found. MatchOption found ((self.new ≡ self.old) × IsNextHole self.old.segment.thread log None) (λ ticket. HasFilled log owner now bytes.now self.old self.new ticket)) }
         ensures life { post_of self.new ≡ post_of self.old }
         ensures marks { IfOk result (λ found. IfSome found (λ ticket. SameItems (ticket.mark ∷ marks_of self.old.segment) (marks_of self.new.segment))) }
         ensures blocks { IfOk result (λ found. IfSome found (λ ticket. FollowsBlocks (λ blocks. changed blocks ticket.mark.address ticket.content) self.old.segment self.new.segment)) }
-        ensures hand { IfOk result (λ found. MatchOption found (permit.new ≡ permit.old) (λ ticket. permit.new ≡ record permit.old { tickets = ticket.mark ∷ permit.old.tickets })) }
+        ensures hand { IfOk result (λ found. MatchOption found (hand.new ≡ hand.old) (λ ticket. hand.new ≡ record hand.old { tickets = ticket.mark ∷ hand.old.tickets })) }
         ensures book { IsSameBook self.old self.new }
         ensures error { IfErr result (λ error. error ≡ Device) }
         ensures failure { OnErr result (self.old.segment.failed < self.new.segment.failed) }
         ensures err { OnErr result (self.new ≡ record self.old { segment = self.new.segment }) }
         ensures missed { OnErr result (HasMissed log self.old self.new) }
-        ensures err_hand { OnErr result (permit.new ≡ permit.old) }
+        ensures err_hand { OnErr result (hand.new ≡ hand.old) }
     {
         match self.body.next_hole(log) {
             None => Ok(None),
-            Some(offset) => match self.fill(books, permit, offset, owner, now, bytes) {
+            Some(offset) => match self.fill(books, hand, offset, owner, now, bytes) {
                 Ok(ticket) => Ok(Some(ticket)),
                 Err(error) => Err(error),
             },
@@ -270,14 +270,14 @@ impl<B: Block + Drop> SegmentState<B> {
     fn fill(
         &mut self,
         books: &Books,
-        permit: &mut Permit,
+        hand: &mut CallAccount,
         offset: u32,
         owner: Owner,
         now: u64,
         bytes: &[u8],
     ) -> Result<Ticket<B>, Error>
         requires books { AreItsBooks books.now self.old }
-        requires permit { permit.old.book ≡ self.old.book }
+        requires hand { hand.old.book ≡ self.old.book }
         requires hole { slice_index_or self.old.segment.thread.holes offset false ≡ true }
         requires owner { IsOwner owner }
         requires bytes { length bytes.now ≡ block_bytes self.old.segment.shape }
@@ -290,18 +290,18 @@ impl<B: Block + Drop> SegmentState<B> {
         ensures life { post_of self.new ≡ post_of self.old }
         ensures marks { IfOk result (λ ticket. SameItems (ticket.mark ∷ marks_of self.old.segment) (marks_of self.new.segment)) }
         ensures blocks { IfOk result (λ ticket. FollowsBlocks (λ blocks. changed blocks ticket.mark.address ticket.content) self.old.segment self.new.segment) }
-        ensures hand { IfOk result (λ ticket. permit.new ≡ record permit.old { tickets = ticket.mark ∷ permit.old.tickets }) }
+        ensures hand { IfOk result (λ ticket. hand.new ≡ record hand.old { tickets = ticket.mark ∷ hand.old.tickets }) }
         ensures book { IsSameBook self.old self.new }
         ensures error { IfErr result (λ error. error ≡ Device) }
         ensures failure { OnErr result (self.old.segment.failed < self.new.segment.failed) }
         ensures err { OnErr result (self.new ≡ record self.old { segment = self.new.segment }) }
         ensures spoiled { OnErr result (HasSpoiledAt offset self.old.segment self.new.segment) }
-        ensures err_hand { OnErr result (permit.new ≡ permit.old) }
+        ensures err_hand { OnErr result (hand.new ≡ hand.old) }
     {
         self.row.change();
         let block = self.body.fill(offset, owner, now, bytes)?;
         let address = block.address();
-        let claimed = books.mark(&mut self.account, permit, Mark { address, owner });
+        let claimed = books.mark(&mut self.account, hand, Mark { address, owner });
         Ok(Ticket::new(claimed, block))
     }
 
@@ -337,26 +337,26 @@ impl<B: Block + Drop> SegmentState<B> {
         &mut self,
         books: &Books,
         words: &Words,
-        permit: &mut Permit,
+        hand: &mut CallAccount,
         ticket: Ticket<B>,
     ) -> Released
         requires books { AreItsBooks books.now self.old }
-        requires permit { permit.old.book ≡ self.old.book }
+        requires hand { hand.old.book ≡ self.old.book }
         requires words { words.now.table ≡ self.old.table }
         requires home { segment_of self.old.segment.shape ticket.mark.address ≡ self.old.segment.number }
-        requires held { 0 < times same_mark ticket.mark permit.old.tickets }
+        requires held { 0 < times same_mark ticket.mark hand.old.tickets }
         requires bytes { length ticket.content ≡ block_bytes self.old.segment.shape }
         ensures valid { slice_index_or self.old.segment.summaries (offset_of self.old.segment.shape ticket.mark.address) None ≡ Some ticket.mark.owner }
         ensures segment { HasReleased (cleared self.old.segment (offset_of self.old.segment.shape ticket.mark.address) ticket.content self.new.segment.failed) result self.new.segment }
         ensures life { HasStood result (post_of self.old) (post_of self.new) }
         ensures marks { SameItems (ticket.mark ∷ marks_of self.new.segment) (marks_of self.old.segment) }
         ensures blocks { (blocks : ℕ → List ℕ) → blocks ticket.mark.address ≡ ticket.content → ShowsBlocks self.old.segment blocks → ShowsBlocks self.new.segment blocks }
-        ensures hand { permit.new ≡ record permit.old { tickets = without same_mark ticket.mark permit.old.tickets } }
+        ensures hand { hand.new ≡ record hand.old { tickets = without same_mark ticket.mark hand.old.tickets } }
         ensures book { IsSameBook self.old self.new }
     {
         self.row.change();
         let (claimed, block) = ticket.into_parts();
-        books.clear(&mut self.account, permit, claimed);
+        books.clear(&mut self.account, hand, claimed);
         let released = self.body.release(block);
         retire_empty(words, &mut self.standing, released);
         released
@@ -364,7 +364,13 @@ impl<B: Block + Drop> SegmentState<B> {
 
     /// Pins the segment for a reader's seat, so that it stays in its incarnation. That a ticket of one of its blocks is lodged
     /// in a file shows that it has a valid block, and so that it is open or sealed. This cannot be refused.
-    pub fn pin(&mut self, books: &Books, words: &Words, file: &mut FileAccount, seat: &mut Seat)
+    pub fn pin(
+        &mut self,
+        books: &Books,
+        words: &Words,
+        file: &mut FileAccount,
+        seat: &mut SeatToken,
+    )
         requires books { AreItsBooks books.now self.old }
         requires file { file.old.book ≡ self.old.book }
         requires words { words.now.table ≡ self.old.table }

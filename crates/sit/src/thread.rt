@@ -14,14 +14,14 @@ use std::marker::Model;
 /// Which blocks of a segment the last completed checkpoint marks, and which holes a log is still to fill: threaded logging
 /// (Rosenblum and Ousterhout 1991; Linux `filesystems/f2fs`).
 #[derive(Drop)]
-pub(crate) struct Threading {
+pub(crate) struct HoleFilling {
     kept: Bits,
     holes: Bits,
     // The log that fills the holes, where there are some.
     log: u32,
 }
 
-impl Model for Threading {
+impl Model for HoleFilling {
     ghost use Rattle.std.specs.Prelude.{◌≡◌, ◌<◌, ◌^◌, length};
     ghost use Rattle.sit.specs.Thread.{Thread};
 
@@ -32,13 +32,13 @@ impl Model for Threading {
     ghost invariant = { λ t. length t.holes ≡ length t.kept };
 }
 
-impl Threading {
+impl HoleFilling {
     /// Of so many blocks none is marked. The only error is NoMemory.
-    pub(crate) fn new(alloc: Global, blocks: u32) -> Result<Threading, Error>
+    pub(crate) fn new(alloc: Global, blocks: u32) -> Result<HoleFilling, Error>
         ensures ok { IfOk result (λ thread. thread ≡ fresh_thread blocks) }
         ensures err { IfErr result (λ error. error ≡ NoMemory) }
     {
-        Ok(Threading {
+        Ok(HoleFilling {
             kept: Bits::new(alloc, blocks)?,
             holes: Bits::new(alloc, blocks)?,
             log: 0,

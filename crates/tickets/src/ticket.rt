@@ -3,7 +3,7 @@ ghost use Rattle.std.specs.Prelude.{◌≡◌, length, OnOk, IfOk};
 
 use device::{Block, DeviceError};
 use geometry::{Mark, Owner};
-use rights_books::Ticket as Claimed;
+use rights_books::MarkClaim as Claimed;
 use std::marker::Model;
 
 /// The one right to a valid block: the block itself, and its ticket in the books, which names who has it. It can't be

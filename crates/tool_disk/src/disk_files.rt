@@ -8,7 +8,7 @@ use crate::stripes::{STRIPES, blocks_in, stripe_name, stripes_of};
 use flash_volume::{Block, Leave, Meta, Parts, work_on};
 use named_files::{FolderRows, NewFile, ReadFolder, work_making_room};
 use named_folder::{is_name, row_at};
-use named_reading::Refusal;
+use named_reading::NameRefusal;
 use std::alloc::{AllocError, Global};
 use std::sync::Wait;
 
@@ -143,7 +143,7 @@ fn make<M: Meta + Drop, B: Block + Drop, R: AllocGlobal + Wait>(
     };
     let names = names_of(alloc, disk, stripes_of(blocks))?;
     if !names.iter().all(|name| is_name(name.as_str())) {
-        return Err(DiskFault::Files(Refusal::BadName));
+        return Err(DiskFault::Files(NameRefusal::BadName));
     }
     let zeros = zeros_of(alloc, blocks, block_bytes)?;
     let files = files_of(

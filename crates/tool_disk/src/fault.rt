@@ -1,6 +1,6 @@
 //! Why a disk is not served.
-use flash_volume::{Error, Fault as VolumeFault, Stage};
-use named_reading::Refusal;
+use flash_volume::{Error, LeaveFault as VolumeFault, Stage};
+use named_reading::NameRefusal;
 use std::alloc::{AllocError, AllocFailed};
 use std::io;
 
@@ -16,7 +16,7 @@ pub enum DiskFault {
     /// A file that has the name of a part of the disk is none: it has another length than the others tell.
     Broken,
     /// A work on the folder, or on the disk's files, was refused.
-    Files(Refusal),
+    Files(NameRefusal),
     /// The volume was refused, or a call on it, at this stage.
     Volume(Stage, Error),
     /// What the client sends could not be read, or what it is sent not be written, before it was served.
@@ -29,8 +29,8 @@ impl<M: Drop, B: Drop> From<VolumeFault<M, B>> for DiskFault {
     }
 }
 
-impl From<Refusal> for DiskFault {
-    fn from(refusal: Refusal) -> DiskFault {
+impl From<NameRefusal> for DiskFault {
+    fn from(refusal: NameRefusal) -> DiskFault {
         DiskFault::Files(refusal)
     }
 }

@@ -8,7 +8,7 @@ use disk_service::{
     Counts, DiskLayout, DiskService, DiskSettings, Export, Farewell, Greeted, LONGEST_NAME, greet,
 };
 use flash_volume::{Block, Error, Leave, Meta, Parts, SharedBlock, Stage, serve_volume};
-use named_reading::Refusal;
+use named_reading::NameRefusal;
 use std::alloc::Global;
 use std::io;
 use std::io::{Read, Write};
@@ -62,7 +62,7 @@ pub fn serve_disk<
     ensures run { IfOk result (λ served. (bytes : ℕ) × IsBlockRun B.address_of B.content_of bytes 1 served.0.blocks.items) }
 {
     if options.name.len() > LONGEST_NAME {
-        return Err(DiskFault::Files(Refusal::BadName));
+        return Err(DiskFault::Files(NameRefusal::BadName));
     }
     let mut input = input;
     let mut output = output;
@@ -93,7 +93,7 @@ pub fn serve_disk<
         Leave::Close
     };
     let disk = disk_of(rt.alloc(), files, options.settings, clock, input, output)?;
-    let done = serve_volume(rt, rt.alloc(), parts, leave, disk.stations(), &disk)?;
+    let done = serve_volume(rt, rt.alloc(), parts, leave, disk.threads(), &disk)?;
     for ended in &done.output {
         if let Err(error) = ended {
             return Err(DiskFault::Volume(Stage::Work, *error));

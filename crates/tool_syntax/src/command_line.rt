@@ -16,7 +16,7 @@ pub struct ImageFile<'a> {
 
 /// What the program is to do with an image file.
 #[derive(Drop)]
-pub struct Words<'a> {
+pub struct ArgumentWords<'a> {
     pub image: ImageFile<'a>,
     /// Whether nothing is to be told of work that goes well.
     pub quiet: bool,
@@ -27,7 +27,7 @@ pub struct Words<'a> {
 
 /// The numbers of a volume that is to be made.
 #[derive(Clone, Copy)]
-pub struct Numbers {
+pub struct VolumeSizes {
     pub is_tiny: bool,
     pub segments: u32,
     pub per_section: u32,
@@ -37,14 +37,14 @@ pub struct Numbers {
 
 /// A part of a file's bytes: so many, behind so many.
 #[derive(Clone, Copy)]
-pub struct Part {
+pub struct Portion {
     pub offset: u64,
     pub length: u64,
 }
 
-impl Part {
+impl Portion {
     /// All bytes.
-    pub const ALL: Part = Part {
+    pub const ALL: Portion = Portion {
         offset: 0,
         length: u64::MAX,
     };
@@ -69,7 +69,7 @@ pub struct ServeWords<'a> {
 /// What is to be done. `file` is a file of the system's, in place of a standard stream.
 #[derive(Clone, Copy)]
 pub enum Task<'a> {
-    Format(Numbers),
+    Format(VolumeSizes),
     Put {
         name: &'a str,
         file: Option<&'a str>,
@@ -79,7 +79,7 @@ pub enum Task<'a> {
         name: Option<&'a str>,
         number: u32,
         file: Option<&'a str>,
-        part: Part,
+        part: Portion,
     },
     Append {
         name: &'a str,
@@ -154,7 +154,7 @@ impl<'a> Task<'a> {
 }
 
 /// Reads the words; the first is the program's own name. An error is to be printed: it may be the help that was asked for.
-pub fn read_words<'a, S: AsStr>(alloc: Global, words: &'a [S]) -> Result<Words<'a>, Error> {
+pub fn read_words<'a, S: AsStr>(alloc: Global, words: &'a [S]) -> Result<ArgumentWords<'a>, Error> {
     let mut program = program(alloc)?;
     let matches = program.try_get_matches_from_mut(words)?;
     let Some((command, found)) = matches.subcommand() else {
@@ -170,7 +170,7 @@ pub fn read_words<'a, S: AsStr>(alloc: Global, words: &'a [S]) -> Result<Words<'
     if let Some(found) = found.get_strs("names") {
         names.extend_from_slice(found)?;
     }
-    Ok(Words {
+    Ok(ArgumentWords {
         image: ImageFile {
             path: text_of(found, "image"),
             wait: number_of(found, "wait"),
@@ -273,7 +273,7 @@ fn get_of<'a>(found: &ArgMatches<'a>) -> Option<Task<'a>> {
         name,
         number,
         file: file_of(found),
-        part: Part {
+        part: Portion {
             offset: found.get_one::<u64>("offset").unwrap_or(0),
             length: found.get_one::<u64>("length").unwrap_or(u64::MAX),
         },
@@ -293,8 +293,8 @@ fn number_of(found: &ArgMatches<'_>, id: &str) -> u32 {
     found.get_one::<u32>(id).unwrap_or(0)
 }
 
-fn numbers_of(found: &ArgMatches<'_>) -> Numbers {
-    Numbers {
+fn numbers_of(found: &ArgMatches<'_>) -> VolumeSizes {
+    VolumeSizes {
         is_tiny: text_of(found, "shape") == "tiny",
         segments: number_of(found, "segments"),
         per_section: number_of(found, "per-section"),

@@ -7,7 +7,9 @@ mod completing;
 mod fault;
 mod manual;
 
-pub use command_line::{ImageFile, Numbers, Part, ServeWords, Task, Words, read_words};
+pub use command_line::{
+    ArgumentWords, ImageFile, Portion, ServeWords, Task, VolumeSizes, read_words,
+};
 pub use completing::write_completions;
 pub use fault::Unwritten;
 pub use manual::write_manual;

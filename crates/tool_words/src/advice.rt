@@ -1,6 +1,6 @@
 //! What can be done about a fault.
 use flash_volume::Error;
-use named_reading::Refusal;
+use named_reading::NameRefusal;
 use std::io;
 
 /// What can be done about a file or a stream that failed so; nothing where the failure says it.
@@ -38,15 +38,16 @@ pub fn volume_advice(error: Error) -> &'static str {
 }
 
 /// What can be done about a refusal of a name.
-pub fn name_advice(refusal: Refusal) -> &'static str {
+pub fn name_advice(refusal: NameRefusal) -> &'static str {
     match refusal {
-        Refusal::NoFolder =>
+        NameRefusal::NoFolder =>
             "it was made by another program; ls shows its files by number, get --number reads them",
-        Refusal::BadName => "give another name",
-        Refusal::NoSuchFile => "ls shows what there is",
-        Refusal::LostFile => "another program deleted it, or an rm was cut off; rm that name first",
-        Refusal::NameTaken => "rm that file first, or give another name",
-        Refusal::NoRoom =>
+        NameRefusal::BadName => "give another name",
+        NameRefusal::NoSuchFile => "ls shows what there is",
+        NameRefusal::LostFile =>
+            "another program deleted it, or an rm was cut off; rm that name first",
+        NameRefusal::NameTaken => "rm that file first, or give another name",
+        NameRefusal::NoRoom =>
             "nothing was changed; df tells the room; rm a file, or format a larger image (--segments)",
     }
 }

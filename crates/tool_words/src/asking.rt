@@ -3,9 +3,9 @@
 //! The works refuse the same. They decide, since the image may change before it is locked.
 use crate::fault::Fault;
 use crate::image_run::open_volume;
-use named_files::{Taken, has_room};
-use named_folder::{Entry, FOLDER, is_name, row_at};
-use named_reading::{Listing, Refusal};
+use named_files::{RoomTaken, has_room};
+use named_folder::{FOLDER, FolderRow, is_name, row_at};
+use named_reading::{Listing, NameRefusal};
 use std::fs::{File, Files};
 use std::time::Clock;
 use tool_syntax::ImageFile;
@@ -21,12 +21,12 @@ pub fn ask_to_put<R: AllocGlobal + Clock + Files<File = File>>(
     let rows = rows_of(&listing)?;
     for entry in rows {
         if !has_file(&listing, entry.number) {
-            return Err(Fault::of_name(rt.alloc(), entry.name.as_str(), Refusal::LostFile));
+            return Err(Fault::of_name(rt.alloc(), entry.name.as_str(), NameRefusal::LostFile));
         }
     }
     match new {
         Some(name) if row_at(rows, name).is_some() => {
-            Err(Fault::of_name(rt.alloc(), name, Refusal::NameTaken))
+            Err(Fault::of_name(rt.alloc(), name, NameRefusal::NameTaken))
         }
         _ => Ok(()),
     }
@@ -46,7 +46,7 @@ pub fn ask_for_room<R: AllocGlobal + Clock + Files<File = File>>(
         Some(place) => blocks_of(&listing, rows[place].number),
         None => None,
     };
-    let taken = Taken {
+    let taken = RoomTaken {
         valid: volume.image.total,
         folder: blocks_of(&listing, FOLDER).unwrap_or(0),
         file,
@@ -54,7 +54,7 @@ pub fn ask_for_room<R: AllocGlobal + Clock + Files<File = File>>(
     if has_room(&volume.geometry, taken, bytes) {
         Ok(())
     } else {
-        Err(Fault::of_name(rt.alloc(), name, Refusal::NoRoom))
+        Err(Fault::of_name(rt.alloc(), name, NameRefusal::NoRoom))
     }
 }
 
@@ -72,7 +72,7 @@ pub fn ask_to_append<R: AllocGlobal + Clock + Files<File = File>>(
             let all = rows[place].bytes.saturating_add(bytes);
             ask_for_room(rt, image, name, all)
         }
-        None => Err(Fault::of_name(rt.alloc(), name, Refusal::NoSuchFile)),
+        None => Err(Fault::of_name(rt.alloc(), name, NameRefusal::NoSuchFile)),
     }
 }
 
@@ -93,7 +93,7 @@ pub fn ask_to_remove<R: AllocGlobal + Clock + Files<File = File>>(
     for name in names {
         let name: &str = name;
         if row_at(rows, name).is_none() {
-            return Err(Fault::of_name(rt.alloc(), name, Refusal::NoSuchFile));
+            return Err(Fault::of_name(rt.alloc(), name, NameRefusal::NoSuchFile));
         }
     }
     Ok(())
@@ -107,15 +107,15 @@ pub fn ask_to_rename<R: AllocGlobal + Clock + Files<File = File>>(
     to: &str,
 ) -> Result<(), Fault> {
     if !is_name(to) {
-        return Err(Fault::of_name(rt.alloc(), to, Refusal::BadName));
+        return Err(Fault::of_name(rt.alloc(), to, NameRefusal::BadName));
     }
     let listing = listing_of(rt, image)?;
     let rows = rows_of(&listing)?;
     if row_at(rows, name).is_none() {
-        return Err(Fault::of_name(rt.alloc(), name, Refusal::NoSuchFile));
+        return Err(Fault::of_name(rt.alloc(), name, NameRefusal::NoSuchFile));
     }
     if row_at(rows, to).is_some() {
-        return Err(Fault::of_name(rt.alloc(), to, Refusal::NameTaken));
+        return Err(Fault::of_name(rt.alloc(), to, NameRefusal::NameTaken));
     }
     Ok(())
 }
@@ -134,9 +134,9 @@ fn listing_of<R: AllocGlobal + Clock + Files<File = File>>(
 }
 
 // The rows of the folder. Answers NoFolder where there is none.
-fn rows_of(listing: &Listing) -> Result<&[Entry], Fault> {
+fn rows_of(listing: &Listing) -> Result<&[FolderRow], Fault> {
     match &listing.named {
         Some(entries) => Ok(entries.as_slice()),
-        None => Err(Fault::Name(Refusal::NoFolder)),
+        None => Err(Fault::Name(NameRefusal::NoFolder)),
     }
 }

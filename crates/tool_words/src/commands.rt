@@ -15,7 +15,7 @@ use crate::putting::{PutFile, append, copy, put};
 use crate::room::{room_of, tell_room};
 use crate::screen::Screen;
 use crate::serving::serve;
-use crate::shown::Shown;
+use crate::shown::EscapedText;
 use crate::stat::{list, stat};
 use crate::upgrading::upgrade_image;
 use flash_volume::{Geometry, Leave, Policy};
@@ -24,14 +24,14 @@ use std::fs::{File, Files};
 use std::io::{Read, Write};
 use std::rt::Runtime;
 use std::sync::Wait;
-use tool_syntax::{ImageFile, Task, Words, write_completions, write_manual};
+use tool_syntax::{ArgumentWords, ImageFile, Task, write_completions, write_manual};
 
 /// Does what the words ask for, and answers the exit status.
 pub fn obey<P: Opener, R: Machine, I: Read + Send, O: Write + Send, E: Write>(
     rt: &R,
     opener: &P,
     screen: Screen,
-    words: &Words<'_>,
+    words: &ArgumentWords<'_>,
     input: &mut I,
     out: &mut O,
     errors: &mut E,
@@ -85,7 +85,7 @@ fn change<
     rt: &R,
     opener: &P,
     screen: Screen,
-    words: &Words<'_>,
+    words: &ArgumentWords<'_>,
     input: &mut I,
     out: &mut O,
     errors: &mut E,
@@ -136,7 +136,7 @@ fn tell_made<O: Write>(
         writeln!(
             out,
             "made {}: {} segments, {bytes} bytes, at most {} files",
-            Shown(path),
+            EscapedText(path),
             made.segments,
             made.files
         )?;
@@ -151,7 +151,7 @@ fn tell_put<O: Write>(screen: Screen, name: &str, put: PutFile, out: &mut O) -> 
             "file {} has {} bytes: {}",
             put.number,
             put.bytes,
-            Shown(name)
+            EscapedText(name)
         )?;
     }
     Ok(())
@@ -169,7 +169,7 @@ fn tell_added<O: Write>(
             "file {} has {} bytes more: {}",
             added.number,
             added.bytes,
-            Shown(name)
+            EscapedText(name)
         )?;
     }
     Ok(())

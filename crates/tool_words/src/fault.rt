@@ -1,9 +1,9 @@
 //! Why the program stops.
 use crate::limits::Beyond;
 use file_device::FileFault;
-use flash_volume::{Error, Fault as VolumeFault, Stage};
+use flash_volume::{Error, LeaveFault as VolumeFault, Stage};
 use image_reading::ReadFault;
-use named_reading::Refusal;
+use named_reading::NameRefusal;
 use std::alloc::{AllocError, AllocFailed, Global};
 use std::io;
 use tool_disk::DiskFault;
@@ -43,9 +43,9 @@ pub enum Fault {
     /// The device failed when the last checkpoint was written.
     Unsettled,
     /// A command on names was refused.
-    Name(Refusal),
+    Name(NameRefusal),
     /// A command on this name was refused.
-    Named(String, Refusal),
+    Named(String, NameRefusal),
     /// A file was deleted, and then its name could not be removed.
     NameStays(Error),
     /// The client's bytes could not be read, or it not be answered, before it was served.
@@ -87,8 +87,8 @@ impl From<Error> for Fault {
     }
 }
 
-impl From<Refusal> for Fault {
-    fn from(refusal: Refusal) -> Fault {
+impl From<NameRefusal> for Fault {
+    fn from(refusal: NameRefusal) -> Fault {
         Fault::Name(refusal)
     }
 }
@@ -151,7 +151,7 @@ impl Fault {
     }
 
     /// Why a command on this name was refused.
-    pub fn of_name(alloc: Global, name: &str, refusal: Refusal) -> Fault {
+    pub fn of_name(alloc: Global, name: &str, refusal: NameRefusal) -> Fault {
         match String::from_str(alloc, name) {
             Ok(name) => Fault::Named(name, refusal),
             Err(_) => Fault::Volume(Error::NoMemory),

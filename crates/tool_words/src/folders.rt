@@ -4,9 +4,9 @@ use crate::fault::Fault;
 use crate::image_run::open_volume;
 use crate::new_file::{keep_whole, make_new};
 use crate::screen::Screen;
-use crate::shown::Shown;
+use crate::shown::EscapedText;
 use image_reading::FileSource;
-use named_folder::{Entry, FOLDER, is_name};
+use named_folder::{FOLDER, FolderRow, is_name};
 use named_reading::{Listing, OpenVolume};
 use std::fs;
 use std::fs::{File, Files};
@@ -120,7 +120,7 @@ fn tell_gone<E: Write>(listing: &Listing, errors: &mut E) -> u8 {
     let mut status = 0;
     for entry in named(listing) {
         if !has_file(listing, entry.number) {
-            let name = Shown(entry.name.as_str());
+            let name = EscapedText(entry.name.as_str());
             let _ = writeln!(errors, "rusziveg: {name} is left out: its file is gone");
             status = 1;
         }
@@ -128,7 +128,7 @@ fn tell_gone<E: Write>(listing: &Listing, errors: &mut E) -> u8 {
     status
 }
 
-fn named(listing: &Listing) -> &[Entry] {
+fn named(listing: &Listing) -> &[FolderRow] {
     match &listing.named {
         Some(entries) => entries.as_slice(),
         None => &[],

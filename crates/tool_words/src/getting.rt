@@ -4,19 +4,19 @@ use crate::image_run::open_volume;
 use crate::new_file::{keep_whole, make_new};
 use crate::window::Window;
 use image_reading::{FileSource, ReadFault};
-use named_reading::{OpenVolume, Refusal};
+use named_reading::{NameRefusal, OpenVolume};
 use std::alloc::Global;
 use std::fs::{File, Files};
 use std::io::Write;
 use std::time::Clock;
-use tool_syntax::{ImageFile, Part};
+use tool_syntax::{ImageFile, Portion};
 
 /// Which file is got: by name, or where there is none by number.
 #[derive(Clone, Copy)]
 pub struct Wanted<'a> {
     pub name: Option<&'a str>,
     pub number: u32,
-    pub part: Part,
+    pub part: Portion,
 }
 
 /// Writes the bytes of a file, or a part of them, to `out`; or to a new file of the system's, where one is named.
@@ -50,7 +50,7 @@ pub fn concatenate<R: AllocGlobal + Clock + Files<File = File>, O: Write>(
         let wanted = Wanted {
             name: Some(*name),
             number: 0,
-            part: Part::ALL,
+            part: Portion::ALL,
         };
         hand_out(rt.alloc(), &mut volume, wanted, out)?;
     }
@@ -64,7 +64,7 @@ fn hand_out<O: Write>(
     wanted: Wanted<'_>,
     out: &mut O,
 ) -> Result<(), Fault> {
-    let Part { offset, length } = wanted.part;
+    let Portion { offset, length } = wanted.part;
     let mut window = Window {
         out,
         skip: offset,
@@ -84,7 +84,7 @@ fn hand_out<O: Write>(
 }
 
 // Why a file was not got, with its name or number.
-fn refused(alloc: Global, wanted: Wanted<'_>, refusal: Refusal) -> Fault {
+fn refused(alloc: Global, wanted: Wanted<'_>, refusal: NameRefusal) -> Fault {
     match wanted.name {
         Some(name) => Fault::of_name(alloc, name, refusal),
         None => match format!(in alloc; "file {}", wanted.number) {

@@ -9,12 +9,12 @@ use crate::making_room::put_making_room;
 use crate::opener::Opener;
 use crate::putting::read_file;
 use crate::screen::Screen;
-use crate::shown::Shown;
+use crate::shown::EscapedText;
 use crate::window::Patient;
 use flash_volume::{Block, Error, Leave, Meta, Parts, Stage, work_on};
 use named_files::{NewFile, Put, PutAll};
 use named_folder::is_name;
-use named_reading::Refusal;
+use named_reading::NameRefusal;
 use std::alloc::{AllocError, Global};
 use std::cell::Cell;
 use std::fs::{File, FileType, Files};
@@ -258,7 +258,7 @@ fn put_alone<M: Meta + Drop, B: Block + Drop, R: Runtime + AllocGlobal + Wait>(
 
 // Names the file that was refused.
 fn tell_refused<E: Write>(file: NewFile<'_>, errors: &mut E) {
-    let name = Shown(file.name);
+    let name = EscapedText(file.name);
     let _ = writeln!(
         errors,
         "rusziveg: {name} was not put; those before it by name were"
@@ -267,7 +267,12 @@ fn tell_refused<E: Write>(file: NewFile<'_>, errors: &mut E) {
 
 fn tell_put<O: Write>(file: NewFile<'_>, screen: Screen, out: &mut O) -> Result<(), Fault> {
     if !screen.quiet {
-        writeln!(out, "{} has {} bytes", Shown(file.name), file.bytes.len())?;
+        writeln!(
+            out,
+            "{} has {} bytes",
+            EscapedText(file.name),
+            file.bytes.len()
+        )?;
     }
     Ok(())
 }
@@ -324,13 +329,13 @@ fn add_name<E: Write>(
         let _ = writeln!(
             errors,
             "rusziveg: {} is left out: it is {}",
-            Shown(name),
+            EscapedText(name),
             kind_text(&kind)
         );
         return Ok(false);
     }
     if !is_name(name) {
-        return Err(Fault::of_name(alloc, name, Refusal::BadName));
+        return Err(Fault::of_name(alloc, name, NameRefusal::BadName));
     }
     names.push(String::from_str(alloc, name)?)?;
     Ok(true)

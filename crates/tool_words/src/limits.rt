@@ -1,7 +1,7 @@
 //! The limits of a volume's numbers.
 use crate::fault::Fault;
 use std::fmt;
-use tool_syntax::Numbers;
+use tool_syntax::VolumeSizes;
 
 /// A number of a volume that is beyond its limits.
 #[derive(Clone, Copy, Debug)]
@@ -44,7 +44,7 @@ impl fmt::Display for Beyond {
 }
 
 /// Refuses numbers of which one is beyond its limits, and tells the first. `Geometry::new` refuses the same, and decides.
-pub fn ask_numbers(numbers: &Numbers) -> Result<(), Fault> {
+pub fn ask_numbers(numbers: &VolumeSizes) -> Result<(), Fault> {
     within("--segments", numbers.segments, 16, 4096)?;
     within("--per-section", numbers.per_section, 1, 16)?;
     if numbers.segments.checked_rem(numbers.per_section) != Some(0) {

@@ -8,14 +8,14 @@ use named_files::MakeFolder;
 use std::fs;
 use std::fs::{File, Files};
 use std::sync::Wait;
-use tool_syntax::Numbers;
+use tool_syntax::VolumeSizes;
 
 /// Makes an image file with a volume without files. Where that fails, no file is left.
 pub fn make<P: Opener, R: AllocGlobal + Wait + Files<File = File>>(
     rt: &R,
     opener: &P,
     path: &str,
-    numbers: Numbers,
+    numbers: VolumeSizes,
 ) -> Result<Geometry, Fault> {
     ask_numbers(&numbers)?;
     let geometry = geometry_of(numbers)?;
@@ -34,8 +34,8 @@ pub fn make<P: Opener, R: AllocGlobal + Wait + Files<File = File>>(
     }
 }
 
-fn geometry_of(numbers: Numbers) -> Result<Geometry, Fault> {
-    let Numbers {
+fn geometry_of(numbers: VolumeSizes) -> Result<Geometry, Fault> {
+    let VolumeSizes {
         is_tiny,
         segments,
         per_section,

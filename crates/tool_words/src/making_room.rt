@@ -5,7 +5,7 @@ ghost use Rattle.device.specs.Parts.{IsBlockRun};
 use crate::fault::Fault;
 use flash_volume::{Block, Error, Leave, Meta, Parts, work_on};
 use named_files::{Append, DeleteFile, Put, Remove, Rename, work_making_room};
-use named_reading::Refusal;
+use named_reading::NameRefusal;
 use std::sync::Wait;
 
 /// Puts a file. Where there is no room, room is made, and then it is tried once more. The parts come back.
@@ -13,7 +13,7 @@ pub fn put_making_room<M: Meta + Drop, B: Block + Drop, R: AllocGlobal + Wait>(
     rt: &R,
     parts: Parts<M, B>,
     put: Put<'_>,
-) -> Result<(Parts<M, B>, Result<u32, Refusal>), Fault>
+) -> Result<(Parts<M, B>, Result<u32, NameRefusal>), Fault>
     requires run { (bytes : ℕ) × IsBlockRun B.address_of B.content_of bytes 1 parts.blocks.items }
     ensures run { IfOk result (λ done. (bytes : ℕ) × IsBlockRun B.address_of B.content_of bytes 1 done.0.blocks.items) }
 {
@@ -28,7 +28,7 @@ pub fn append_making_room<M: Meta + Drop, B: Block + Drop, R: AllocGlobal + Wait
     rt: &R,
     parts: Parts<M, B>,
     append: Append<'_>,
-) -> Result<Result<u32, Refusal>, Fault>
+) -> Result<Result<u32, NameRefusal>, Fault>
     requires run { (bytes : ℕ) × IsBlockRun B.address_of B.content_of bytes 1 parts.blocks.items }
 {
     match work_making_room(rt, parts, append, append.bytes.len() as u64, append.now) {
@@ -42,7 +42,7 @@ pub fn rename_making_room<M: Meta + Drop, B: Block + Drop, R: AllocGlobal + Wait
     rt: &R,
     parts: Parts<M, B>,
     rename: Rename<'_>,
-) -> Result<Result<(), Refusal>, Fault>
+) -> Result<Result<(), NameRefusal>, Fault>
     requires run { (bytes : ℕ) × IsBlockRun B.address_of B.content_of bytes 1 parts.blocks.items }
 {
     match work_making_room(rt, parts, rename, 0, rename.now) {
@@ -59,7 +59,7 @@ pub fn remove_making_room<M: Meta + Drop, B: Block + Drop, R: AllocGlobal + Wait
     rt: &R,
     parts: Parts<M, B>,
     remove: Remove<'_>,
-) -> Result<Result<(), Refusal>, Fault>
+) -> Result<Result<(), NameRefusal>, Fault>
     requires run { (bytes : ℕ) × IsBlockRun B.address_of B.content_of bytes 1 parts.blocks.items }
 {
     match work_making_room(rt, parts, remove, 0, remove.now) {
@@ -77,9 +77,9 @@ pub fn remove_making_room<M: Meta + Drop, B: Block + Drop, R: AllocGlobal + Wait
 // its name goes.
 fn remove_in_two<M: Meta + Drop, B: Block + Drop, R: AllocGlobal + Wait>(
     rt: &R,
-    refused: flash_volume::Fault<M, B>,
+    refused: flash_volume::LeaveFault<M, B>,
     remove: Remove<'_>,
-) -> Result<Result<(), Refusal>, Fault>
+) -> Result<Result<(), NameRefusal>, Fault>
     requires run { (bytes : ℕ) × IsBlockRun B.address_of B.content_of bytes 1 refused.parts.blocks.items }
 {
     let file = DeleteFile { name: remove.name };

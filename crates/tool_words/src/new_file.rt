@@ -38,25 +38,25 @@ pub fn keep_whole<R: AllocGlobal + Files<File = File>>(
 
 /// A new file that has no name of its own yet, but one beside it.
 #[derive(Drop)]
-pub struct NewFile {
+pub struct UnnamedFile {
     /// What is written to it.
     pub bytes: Sparse,
     beside: String,
 }
 
-impl NewFile {
+impl UnnamedFile {
     /// Makes a file beside the one of a path. Where there is a file of that path, that is FileThere, and none is made.
     pub fn beside<R: AllocGlobal + Files<File = File>>(
         rt: &R,
         path: &str,
-    ) -> Result<NewFile, Fault> {
+    ) -> Result<UnnamedFile, Fault> {
         refuse_there(rt, path)?;
         for number in 0..NAMES {
             let beside = format!(in rt.alloc(); "{path}.{number}.new")?;
             match File::create_new(rt, beside.as_str()) {
                 Ok(file) => {
                     let bytes = Sparse::of(file);
-                    return Ok(NewFile { bytes, beside });
+                    return Ok(UnnamedFile { bytes, beside });
                 }
                 Err(error) if error.kind() == io::ErrorKind::AlreadyExists => {}
                 Err(error) => return Err(Fault::of_file(rt.alloc(), path, error)),

@@ -8,7 +8,7 @@ use flash_volume::Error;
 use image_reading::ReadFault;
 use named_files::{Append, Put};
 use named_folder::is_name;
-use named_reading::Refusal;
+use named_reading::NameRefusal;
 use std::fs::{File, Files};
 use std::io::Read;
 use std::rt::Runtime;
@@ -35,7 +35,7 @@ pub fn put<P: Opener, R: Runtime + AllocGlobal + Wait + Files<File = File>, I: R
     input: &mut I,
 ) -> Result<PutFile, Fault> {
     if !is_name(name) {
-        return Err(Fault::of_name(rt.alloc(), name, Refusal::BadName));
+        return Err(Fault::of_name(rt.alloc(), name, NameRefusal::BadName));
     }
     let bytes = read_bytes(rt, image, file, input)?;
     ask_to_put(rt, image, if replaces { None } else { Some(name) })?;
@@ -75,7 +75,7 @@ pub fn copy<P: Opener, R: Runtime + AllocGlobal + Wait + Files<File = File>>(
     replaces: bool,
 ) -> Result<PutFile, Fault> {
     if !is_name(to) {
-        return Err(Fault::of_name(rt.alloc(), to, Refusal::BadName));
+        return Err(Fault::of_name(rt.alloc(), to, NameRefusal::BadName));
     }
     let bytes = bytes_of(rt, image, name)?;
     ask_to_put(rt, image, if replaces { None } else { Some(to) })?;
@@ -108,7 +108,7 @@ fn put_file<R: AllocGlobal>(
     rt: &R,
     name: &str,
     bytes: usize,
-    answer: Result<u32, Refusal>,
+    answer: Result<u32, NameRefusal>,
 ) -> Result<PutFile, Fault> {
     match answer {
         Ok(number) => Ok(PutFile { number, bytes }),

@@ -1,7 +1,7 @@
 //! The room of a volume, as `df` tells that of a disk.
 use crate::fault::Fault;
 use crate::json_text::write_json;
-use crate::shown::Shown;
+use crate::shown::EscapedText;
 use flash_volume::{Geometry, usable_blocks};
 use image::Image;
 use image_reading::length_of;
@@ -13,7 +13,7 @@ use std::io::Write;
 
 /// The room of a volume in bytes.
 #[derive(Clone, Copy, Drop, Serialize)]
-pub struct Room {
+pub struct RoomInBytes {
     /// Of blocks that may be valid at once.
     pub usable_bytes: u64,
     /// Of blocks that are valid: files, their nodes, and the folder.
@@ -27,7 +27,7 @@ pub struct Room {
 /// Tells the room of the volume of an image file.
 pub fn tell_room<O: Write>(
     alloc: Global,
-    room: &Room,
+    room: &RoomInBytes,
     path: &str,
     json: bool,
     out: &mut O,
@@ -49,20 +49,20 @@ pub fn tell_room<O: Write>(
         room.free_bytes,
         percent(room.used_bytes, room.usable_bytes),
         room.kept_bytes,
-        Shown(path)
+        EscapedText(path)
     )?;
     Ok(())
 }
 
 /// The room of a volume whose last checkpoint is this image.
-pub fn room_of(geometry: &Geometry, image: &Image) -> Room {
+pub fn room_of(geometry: &Geometry, image: &Image) -> RoomInBytes {
     let usable = usable_blocks(geometry);
     let kept = geometry.blocks().saturating_sub(usable);
     let folder = kept_for_folder(geometry, length_of(image, FOLDER));
     let taken = u64::from(image.total).saturating_add(folder);
     let left = u64::from(usable).saturating_sub(taken);
     let free = data_blocks(geometry, u32::try_from(left).unwrap_or(u32::MAX));
-    Room {
+    RoomInBytes {
         usable_bytes: bytes_of(geometry, usable),
         used_bytes: bytes_of(geometry, image.total),
         free_bytes: bytes_of(geometry, free),

@@ -8,7 +8,7 @@ use flash_volume::Error;
 use std::io::{Read, Write};
 use std::rt::Runtime;
 use std::{env, io};
-use tool_syntax::{Words, read_words};
+use tool_syntax::{ArgumentWords, read_words};
 
 // The exit status where the words are refused.
 const MISUSED: u8 = 2;
@@ -40,7 +40,7 @@ pub fn run_words<P: Opener, R: Machine, I: Read + Send, O: Write + Send, E: Writ
 
 // Writes what is left of the output, tells what failed, and answers the exit status.
 fn status_of<O: Write, E: Write>(
-    words: &Words<'_>,
+    words: &ArgumentWords<'_>,
     done: Result<u8, Fault>,
     out: &mut O,
     errors: &mut E,
@@ -59,7 +59,7 @@ fn status_of<O: Write, E: Write>(
 }
 
 // Tells a fault, and what was done before where standard output failed.
-fn told<E: Write>(words: &Words<'_>, fault: Fault, errors: &mut E) -> u8 {
+fn told<E: Write>(words: &ArgumentWords<'_>, fault: Fault, errors: &mut E) -> u8 {
     fault
         .after(words.task.done())
         .tell(words.image.path, errors)

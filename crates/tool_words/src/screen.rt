@@ -1,5 +1,5 @@
 //! What the streams are connected to.
-use crate::shown::Shown;
+use crate::shown::EscapedText;
 use std::io::Write;
 
 /// How the program writes.
@@ -26,7 +26,7 @@ impl Screen {
     /// Tells what is done now, over what was told before.
     pub fn tell<E: Write>(self, errors: &mut E, step: &str, of: &str) {
         if self.progress {
-            let of = Shown(of);
+            let of = EscapedText(of);
             let _ = write!(errors, "\r\u{1b}[K{step} {of} ..");
             let _ = errors.flush();
         }

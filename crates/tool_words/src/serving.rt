@@ -6,7 +6,7 @@ use crate::machine::Machine;
 use crate::new_file::{keep_whole, make_new};
 use crate::opener::Opener;
 use crate::screen::Screen;
-use crate::shown::Shown;
+use crate::shown::EscapedText;
 use disk_service::{Counts, DiskSettings, Farewell};
 use serde::Serialize;
 use std::fs::{File, Files};
@@ -118,7 +118,7 @@ fn seconds_of(seconds: u32) -> Option<u32> {
 
 // Tells in a line what was done.
 fn tell<E: Write>(report: &Report, disk: &str, errors: &mut E) {
-    let disk = Shown(disk);
+    let disk = EscapedText(disk);
     let _ = writeln!(
         errors,
         "{disk}: {} reads, {} writes, {} trims, {} flushes, {} refused; {} sections cleaned, {} blocks moved",

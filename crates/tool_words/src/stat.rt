@@ -4,10 +4,10 @@ use crate::fault::Fault;
 use crate::image_run::open_volume;
 use crate::json_text::write_json;
 use crate::room::{bytes_of, room_of};
-use crate::shown::Shown;
+use crate::shown::EscapedText;
 use flash_volume::{Geometry, Packing};
 use image::Image;
-use named_folder::{Entry, FOLDER};
+use named_folder::{FOLDER, FolderRow};
 use named_reading::Listing;
 use serde::Serialize;
 use std::alloc::Global;
@@ -157,7 +157,7 @@ fn write_rows<O: Write>(
     for row in rows {
         // A folder of another program's may have what a terminal would obey.
         names.push(match row.name {
-            Some(name) => format!(in alloc; "{}", Shown(name))?,
+            Some(name) => format!(in alloc; "{}", EscapedText(name))?,
             None => String::new(alloc),
         })?;
     }
@@ -202,7 +202,7 @@ fn write_total<O: Write>(geometry: &Geometry, rows: &[Row<'_>], out: &mut O) -> 
 
 fn rows_of<'a>(alloc: Global, listing: &'a Listing) -> Result<Vec<Row<'a>>, Fault> {
     let mut rows = Vec::new(alloc);
-    let named: &[Entry] = match &listing.named {
+    let named: &[FolderRow] = match &listing.named {
         Some(entries) => entries.as_slice(),
         None => &[],
     };

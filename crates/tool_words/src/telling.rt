@@ -1,7 +1,7 @@
 //! What is said of a fault, and which status it has.
 use crate::advice::{file_advice, name_advice, volume_advice};
 use crate::fault::Fault;
-use crate::shown::Shown;
+use crate::shown::EscapedText;
 use flash_volume::Error;
 use std::io;
 use std::io::Write;
@@ -49,14 +49,14 @@ impl Fault {
             Fault::File(path, error) => writeln!(
                 errors,
                 "{}: {error}{}",
-                Shown(path.as_str()),
+                EscapedText(path.as_str()),
                 file_advice(error.kind())
             ),
-            Fault::FileThere(path) => writeln!(errors, "{}: {THERE}", Shown(path.as_str())),
+            Fault::FileThere(path) => writeln!(errors, "{}: {THERE}", EscapedText(path.as_str())),
             Fault::NoFiles(path) => writeln!(
                 errors,
                 "{}: there is no ordinary file in the folder",
-                Shown(path.as_str())
+                EscapedText(path.as_str())
             ),
             Fault::Beyond(beyond) => writeln!(errors, "{beyond}"),
             Fault::Client(error) => writeln!(
@@ -64,7 +64,7 @@ impl Fault {
                 "the client: {error}; a disk is served to an NBD client behind standard input and output"
             ),
             _ => {
-                let image = Shown(image);
+                let image = EscapedText(image);
                 write!(errors, "{image}: ")?;
                 self.write_of_image(errors)
             }
@@ -112,14 +112,14 @@ impl Fault {
             Fault::Named(name, refusal) => writeln!(
                 errors,
                 "{}: {refusal}; {}",
-                Shown(name.as_str()),
+                EscapedText(name.as_str()),
                 name_advice(*refusal)
             ),
             Fault::NameStays(error) => writeln!(
                 errors,
                 "{error}; the file is gone, and its name stays in the folder; rm another file, then this name again"
             ),
-            Fault::Disk(disk, fault) => write_of_disk(Shown(disk.as_str()), fault, errors),
+            Fault::Disk(disk, fault) => write_of_disk(EscapedText(disk.as_str()), fault, errors),
             _ => Ok(()),
         }
     }
@@ -143,7 +143,11 @@ impl Fault {
 }
 
 // Why a disk was not served.
-fn write_of_disk<E: Write>(disk: Shown<'_>, fault: &DiskFault, errors: &mut E) -> io::Result<()> {
+fn write_of_disk<E: Write>(
+    disk: EscapedText<'_>,
+    fault: &DiskFault,
+    errors: &mut E,
+) -> io::Result<()> {
     match fault {
         DiskFault::NoDisk => writeln!(
             errors,

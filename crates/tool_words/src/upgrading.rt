@@ -1,7 +1,7 @@
 //! A volume of any format is written anew in format 3.
 use crate::fault::Fault;
 use crate::image_run::open_volume;
-use crate::new_file::NewFile;
+use crate::new_file::UnnamedFile;
 use flash_volume::Geometry;
 use image_reading::upgrade;
 use named_reading::OpenVolume;
@@ -22,7 +22,7 @@ pub fn upgrade_image<R: AllocGlobal + Clock + Files<File = File>>(
         source,
     } = open_volume(rt, image)?;
     let mut source = source;
-    let mut new = NewFile::beside(rt, to)?;
+    let mut new = UnnamedFile::beside(rt, to)?;
     let written = upgrade(rt.alloc(), &geometry, image, &mut source, &mut new.bytes);
     match written {
         Ok(made) => {

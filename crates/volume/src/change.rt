@@ -1,6 +1,7 @@
 //! The calls that change a file. Each has a permit for its whole length, and gives it back with nothing in hand.
 ghost use Rattle.std.specs.Prelude.{◌≡◌, ◌≢◌, ◌<◌, ◌≤◌, ◌↔◌, ◌⊎◌, length, OnOk, OnErr, IfOk, IfErr, IsErrOf};
-ghost use Rattle.geometry.specs.declared.error.Error.TheVariants.{NoMemory, Device, NoSpace, NoFile, NoNode, TooFar, BadLength, Wounded};
+ghost use Rattle.geometry.specs.Refusals.{IsOfPut, IsOfWrite};
+ghost use Rattle.geometry.specs.declared.error.Error.TheVariants.{NoMemory, NoFile, TooFar, BadLength, Wounded};
 ghost use Rattle.geometry.specs.File.{new_file, written, cut_to, erased};
 ghost use Rattle.geometry.specs.Path.{largest_length};
 ghost use Rattle.geometry.specs.Shape.{block_bytes};
@@ -10,7 +11,7 @@ use crate::volume::Volume;
 use device::{Block, Meta};
 use file_cells::{FilePass, NewBlock};
 use geometry::{Error, Kind};
-use rights_books::Permit;
+use rights_books::CallAccount;
 use rights_permits::VolumeName;
 use std::sync::Wait;
 
@@ -32,7 +33,7 @@ impl<V: VolumeName, M: Meta, B: Block + Drop> Volume<V, M, B> {
     fn create_by<R: Wait>(
         &self,
         rt: &R,
-        hand: &mut Permit,
+        hand: &mut CallAccount,
         kind: Kind,
     ) -> Result<FilePass<V>, Error>
         requires hand { hand.old ≡ at_home V.Books.books.book }
@@ -51,7 +52,7 @@ impl<V: VolumeName, M: Meta, B: Block + Drop> Volume<V, M, B> {
     /// Answers BadLength where the bytes are not one block, then TooFar where the index is at or past the largest length, then
     /// Wounded where a checkpoint failed while it was written, then NoMemory where a growth was refused, NoNode where a node is
     /// missing on the way and every number was seen taken, NoSpace where the log is full and no segment was free or could be
-    /// threaded, or, by the careful rule, where the next checkpoint could lack places for its nodes (see `area::Threading`), or
+    /// threaded, or, by the careful rule, where the next checkpoint could lack places for its nodes (see `area::HoleReuse`), or
     /// Device where the device failed. After each of them the file is as before.
     pub fn write<R: Wait>(
         &self,
@@ -65,7 +66,7 @@ impl<V: VolumeName, M: Meta, B: Block + Drop> Volume<V, M, B> {
         ensures err { OnErr result (pass.new ≡ pass.old) }
         ensures bad_length { IsErrOf result BadLength ↔ (length bytes.now ≢ block_bytes V.Numbers.geometry.shape) }
         ensures too_far { IsErrOf result TooFar ↔ ((length bytes.now ≡ block_bytes V.Numbers.geometry.shape) × (largest_length V.Numbers.geometry.shape ≤ index)) }
-        ensures error { IfErr result (λ error. (error ≡ BadLength) ⊎ ((error ≡ TooFar) ⊎ ((error ≡ Wounded) ⊎ ((error ≡ NoMemory) ⊎ ((error ≡ NoNode) ⊎ ((error ≡ NoSpace) ⊎ (error ≡ Device))))))) }
+        ensures error { IfErr result (λ error. (error ≡ BadLength) ⊎ IsOfWrite error) }
     {
         let shape = self.area.geometry().shape;
         if bytes.len() != shape.block_bytes() as usize {
@@ -89,7 +90,7 @@ impl<V: VolumeName, M: Meta, B: Block + Drop> Volume<V, M, B> {
     fn write_by<R: Wait>(
         &self,
         rt: &R,
-        hand: &mut Permit,
+        hand: &mut CallAccount,
         pass: &mut FilePass<V>,
         block: &NewBlock<'_>,
     ) -> Result<(), Error>
@@ -99,7 +100,7 @@ impl<V: VolumeName, M: Meta, B: Block + Drop> Volume<V, M, B> {
         ensures hand { hand.new ≡ hand.old }
         ensures file { OnOk result (pass.new ≡ record pass.old { file = written pass.old.file block.now.index block.now.bytes.now }) }
         ensures err { OnErr result (pass.new ≡ pass.old) }
-        ensures error { IfErr result (λ error. (error ≡ NoMemory) ⊎ ((error ≡ NoNode) ⊎ ((error ≡ NoSpace) ⊎ (error ≡ Device)))) }
+        ensures error { IfErr result IsOfPut }
     {
         let mut cell = self.lock_file(rt, pass.number());
         cell.write(rt, self.alloc, &self.area, hand, pass, block)
@@ -121,7 +122,7 @@ impl<V: VolumeName, M: Meta, B: Block + Drop> Volume<V, M, B> {
         Ok(())
     }
 
-    fn cut_by<R: Wait>(&self, rt: &R, hand: &mut Permit, pass: &mut FilePass<V>, length: u32)
+    fn cut_by<R: Wait>(&self, rt: &R, hand: &mut CallAccount, pass: &mut FilePass<V>, length: u32)
         requires hand { hand.old ≡ at_home V.Books.books.book }
         ensures hand { hand.new ≡ hand.old }
         ensures file { pass.new ≡ record pass.old { file = cut_to pass.old.file length } }
@@ -156,7 +157,7 @@ impl<V: VolumeName, M: Meta, B: Block + Drop> Volume<V, M, B> {
     fn erase_by<R: Wait>(
         &self,
         rt: &R,
-        hand: &mut Permit,
+        hand: &mut CallAccount,
         pass: &mut FilePass<V>,
         from: u32,
         to: u32,
@@ -185,7 +186,7 @@ impl<V: VolumeName, M: Meta, B: Block + Drop> Volume<V, M, B> {
         Ok(())
     }
 
-    fn delete_by<R: Wait>(&self, rt: &R, hand: &mut Permit, pass: FilePass<V>)
+    fn delete_by<R: Wait>(&self, rt: &R, hand: &mut CallAccount, pass: FilePass<V>)
         requires hand { hand.old ≡ at_home V.Books.books.book }
         ensures hand { hand.new ≡ hand.old }
     {

@@ -1,7 +1,8 @@
 //! A section of the volume is cleaned, beside those who write and read its files.
 ghost use Rattle.std.specs.Prelude.{◌≡◌, ◌≢◌, ◌⊎◌, IfOk, IfErr};
-ghost use Rattle.geometry.specs.declared.error.Error.TheVariants.{NoMemory, Device, NoSpace, Wounded};
-ghost use Rattle.area.specs.declared.threading.Threading.TheVariants.{WhileReserveIsFull};
+ghost use Rattle.geometry.specs.Refusals.{IsOfMove, IsOfRead};
+ghost use Rattle.geometry.specs.declared.error.Error.TheVariants.{NoSpace, Wounded};
+ghost use Rattle.area.specs.declared.hole_reuse.HoleReuse.TheVariants.{WhileReserveIsFull};
 ghost use Rattle.rights_permits.specs.Turns.{at_home};
 ghost use Rattle.cleaning.specs.Cleaning.{IsCleaned};
 
@@ -9,7 +10,7 @@ use crate::volume::Volume;
 use cleaning::{Cleaned, Fate, Files, Policy, clean};
 use device::{Block, Meta};
 use geometry::{Error, Owner};
-use rights_books::Permit;
+use rights_books::CallAccount;
 use rights_permits::VolumeName;
 use std::sync::Wait;
 
@@ -17,7 +18,7 @@ impl<V: VolumeName, M: Meta, B: Block + Drop> Files<V> for Volume<V, M, B> {
     fn migrate<R: Wait>(
         &self,
         rt: &R,
-        hand: &mut Permit,
+        hand: &mut CallAccount,
         inode: u32,
         address: u32,
         owner: Owner,
@@ -43,8 +44,8 @@ impl<V: VolumeName, M: Meta, B: Block + Drop> Volume<V, M, B> {
     /// what it has moved.
     pub fn clean<R: Wait>(&self, rt: &R, policy: Policy, now: u64) -> Result<Cleaned, Error>
         ensures cleaned { IfOk result (λ c. IsCleaned V.Numbers.geometry policy now c.rows.items c.section c.moved c.gone) }
-        ensures goes_on { self.now.area.threading ≡ WhileReserveIsFull → IfErr result (λ error. error ≢ NoSpace) }
-        ensures error { IfErr result (λ error. (error ≡ Wounded) ⊎ ((error ≡ NoMemory) ⊎ ((error ≡ Device) ⊎ (error ≡ NoSpace)))) }
+        ensures goes_on { self.now.area.hole_reuse ≡ WhileReserveIsFull → IfErr result (λ error. error ≢ NoSpace) }
+        ensures error { IfErr result (λ error. (error ≡ Wounded) ⊎ IsOfMove error) }
     {
         let mut permit = self.area.turnstile().enter(rt)?;
         let done = self.clean_by(rt, &mut permit.hand, policy, now);
@@ -55,15 +56,15 @@ impl<V: VolumeName, M: Meta, B: Block + Drop> Volume<V, M, B> {
     fn clean_by<R: Wait>(
         &self,
         rt: &R,
-        hand: &mut Permit,
+        hand: &mut CallAccount,
         policy: Policy,
         now: u64,
     ) -> Result<Cleaned, Error>
         requires hand { hand.old ≡ at_home V.Books.books.book }
         ensures hand { hand.new ≡ hand.old }
         ensures cleaned { IfOk result (λ c. IsCleaned V.Numbers.geometry policy now c.rows.items c.section c.moved c.gone) }
-        ensures goes_on { self.now.area.threading ≡ WhileReserveIsFull → IfErr result (λ error. (error ≡ NoMemory) ⊎ (error ≡ Device)) }
-        ensures error { IfErr result (λ error. (error ≡ NoMemory) ⊎ ((error ≡ Device) ⊎ (error ≡ NoSpace))) }
+        ensures goes_on { self.now.area.hole_reuse ≡ WhileReserveIsFull → IfErr result IsOfRead }
+        ensures error { IfErr result IsOfMove }
     {
         clean(rt, self.alloc, &self.area, self, hand, policy, now)
     }

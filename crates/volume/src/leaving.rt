@@ -17,7 +17,7 @@ use close_area::own_file;
 use device::{Block, Meta, Parts};
 use file_cells::{FileCell, FilePass, Seat, seats_out};
 use geometry::Error;
-use rights_books::{FileAccount, Permit};
+use rights_books::{CallAccount, FileAccount};
 use rights_permits::VolumeName;
 use std::sync::{Mutex, Wait};
 
@@ -153,7 +153,7 @@ pub fn empty_files<V: VolumeName, B: Block + Drop, R: Wait>(
 fn give_up_files<V: VolumeName, B: Block + Drop, R: Wait>(
     rt: &R,
     area: &MainArea<V, B>,
-    hand: &mut Permit,
+    hand: &mut CallAccount,
     mut files: Vec<Mutex<FileCell<V, B>>>,
     mut accounts: Vec<FileAccount>,
 ) -> Vec<FileAccount>

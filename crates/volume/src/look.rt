@@ -1,6 +1,6 @@
 //! The calls that look at the volume and change nothing in it.
-ghost use Rattle.std.specs.Prelude.{◌≡◌, ◌⊎◌, IfOk, IfErr};
-ghost use Rattle.geometry.specs.declared.error.Error.TheVariants.{NoMemory, Device};
+ghost use Rattle.std.specs.Prelude.{◌≡◌, IfOk, IfErr};
+ghost use Rattle.geometry.specs.Refusals.{IsOfRead};
 ghost use Rattle.file_cells.specs.Reader.{IsPinned};
 ghost use Rattle.file_cells.specs.Status.{all};
 
@@ -27,7 +27,7 @@ impl<V: VolumeName, M: Meta, B: Block + Drop> Volume<V, M, B> {
         ensures file { IfOk result (λ reader. reader.file ≡ pass.now.file) }
         ensures pins { IfOk result (λ reader. IsPinned reader) }
         ensures seat { IfErr result (λ refused. refused.0 ≡ seat) }
-        ensures error { IfErr result (λ refused. (refused.1 ≡ NoMemory) ⊎ (refused.1 ≡ Device)) }
+        ensures error { IfErr result (λ refused. IsOfRead refused.1) }
     {
         let mut cell = self.lock_file(rt, pass.number());
         cell.snapshot(rt, self.alloc, &self.area, pass, seat)

@@ -11,12 +11,12 @@ use std::alloc::Global;
 pub fn open_queues<L: BooksName, W: WordsName>(
     alloc: Global,
     segments: u32,
-) -> Result<(OpenedTurnstile<L>, pool::Opened<W>), Error>
+) -> Result<(OpenedTurnstile<L>, pool::OpenedPool<W>), Error>
     requires some { 0 < segments }
     ensures slots { IfOk result (λ opened. opened.1.ordinary.slots ≡ segments) }
     ensures error { IfErr result (λ error. error ≡ NoMemory) }
 {
     let channel = OpenedTurnstile::new(alloc)?;
-    let queues = pool::Opened::new(alloc, segments)?;
+    let queues = pool::OpenedPool::new(alloc, segments)?;
     Ok((channel, queues))
 }

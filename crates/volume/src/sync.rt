@@ -1,6 +1,6 @@
 //! A checkpoint of the running volume.
-ghost use Rattle.std.specs.Prelude.{◌≡◌, ◌<◌, ◌⊎◌, ◌+◌, ◌∷◌, [], map, reverse, vec_len, true, false, IfOk, IfErr};
-ghost use Rattle.geometry.specs.declared.error.Error.TheVariants.{NoMemory, Device, NoSpace, Wounded, Exhausted};
+ghost use Rattle.std.specs.Prelude.{◌≡◌, ◌<◌, ◌+◌, ◌∷◌, [], map, reverse, vec_len, true, false, IfOk, IfErr};
+ghost use Rattle.geometry.specs.Refusals.{IsOfRead, IsOfSync};
 ghost use Rattle.image.specs.Rules.{IsLawful};
 ghost use Rattle.checkpoint_image.specs.View.{taken_view};
 ghost use Rattle.checkpoint.specs.Files.{files_of};
@@ -36,7 +36,7 @@ impl<V: VolumeName, M: Meta, B: Block + Drop> Volume<V, M, B> {
         ensures any_moment { IfOk result (λ stored. IsShownOver M.seen M.may_leave M.moment M.left_since V.Numbers.geometry (taken_view stored.taken.image) stored.pack.shown.items) }
         ensures geometry { IfOk result (λ stored. stored.taken.image.geometry ≡ V.Numbers.geometry) }
         ensures later { IfOk result (λ stored. self.now.base.version < stored.taken.image.tables.version) }
-        ensures error { IfErr result (λ error. (error ≡ Wounded) ⊎ ((error ≡ Exhausted) ⊎ ((error ≡ NoMemory) ⊎ ((error ≡ NoSpace) ⊎ (error ≡ Device))))) }
+        ensures error { IfErr result IsOfSync }
     {
         let mut packs = self.packs.lock(rt);
         let version = packs.next_version()?;
@@ -94,7 +94,7 @@ impl<V: VolumeName, M: Meta, B: Block + Drop> Volume<V, M, B> {
         ensures written { IfOk result (λ stored. IsInPack M.may_leave V.Numbers.geometry (taken_view stored.taken.image) stored.pack.shown.items) }
         ensures any_moment { IfOk result (λ stored. IsShownOver M.seen M.may_leave M.moment M.left_since V.Numbers.geometry (taken_view stored.taken.image) stored.pack.shown.items) }
         ensures geometry { IfOk result (λ stored. stored.taken.image.geometry ≡ V.Numbers.geometry) }
-        ensures error { IfErr result (λ error. (error ≡ NoMemory) ⊎ (error ≡ Device)) }
+        ensures error { IfErr result IsOfRead }
     {
         let taken = take_volume(
             rt,

@@ -6,7 +6,7 @@ ghost use Rattle.geometry.specs.File.{bytes_at};
 ghost use Rattle.geometry.specs.Shape.{block_bytes};
 
 use crate::cells::SpareCell;
-use area::{MainArea, Threading, lock_numbered};
+use area::{HoleReuse, MainArea, lock_numbered};
 use checkpoint::PacksCell;
 use device::{Block, Meta};
 use file_cells::{FileCell, FilePass};
@@ -62,11 +62,11 @@ impl<V: VolumeName, M: Meta, B: Block + Drop> Volume<V, M, B> {
 
     /// The same volume, whose ordinary appends thread used segments by this rule from now on. One that was just made threads
     /// whenever it can.
-    pub fn with_threading<R: Wait>(mut self, rt: &R, threading: Threading) -> Volume<V, M, B>
-        ensures threading { result.area.threading ≡ threading }
+    pub fn with_hole_reuse<R: Wait>(mut self, rt: &R, hole_reuse: HoleReuse) -> Volume<V, M, B>
+        ensures hole_reuse { result.area.hole_reuse ≡ hole_reuse }
         ensures base { result.base ≡ self.base }
     {
-        self.area = self.area.with_threading(threading);
+        self.area = self.area.with_hole_reuse(hole_reuse);
         self.area.count_places(rt);
         self
     }

@@ -1,5 +1,6 @@
 //! The superblock and the first pack of a volume without files.
-ghost use Rattle.std.specs.Prelude.{◌≡◌, ◌⊎◌, ◌<◌, ◌≤◌, length, IfErr, IfOk};
+ghost use Rattle.std.specs.Prelude.{◌≡◌, ◌<◌, ◌≤◌, length, IfErr, IfOk};
+ghost use Rattle.geometry.specs.Refusals.{IsOfRead};
 ghost use Rattle.device.specs.Disk.{Leaves};
 ghost use Rattle.device.specs.Parts.{HasSize};
 ghost use Rattle.volume_format.specs.Mountable.{IsMountable};
@@ -41,7 +42,7 @@ pub fn format<M: Meta, B: Block>(
     ensures mountable { IfOk result (λ written. IsMountable M.seen M.may_leave B.address_of B.content_of geometry (empty_image geometry) written) }
     ensures blocks { IfOk result (λ written. written.blocks ≡ parts.blocks) }
     ensures failures { IfOk result (λ written. M.failed parts.meta ≤ M.failed written.meta) }
-    ensures errors { IfErr result (λ fault. (fault.error ≡ NoMemory) ⊎ (fault.error ≡ Device)) }
+    ensures errors { IfErr result (λ fault. IsOfRead fault.error) }
     ensures memory { IfErr result (λ fault. fault.error ≡ NoMemory → fault.parts ≡ parts) }
     ensures device { IfErr result (λ fault. fault.error ≡ Device → M.failed parts.meta < M.failed fault.parts.meta) }
     ensures size_back { IfErr result (λ fault. HasSize M.seen B.address_of B.content_of geometry fault.parts) }

@@ -1,10 +1,10 @@
 //! The laws of mounting what a format or a close left.
-ghost use Rattle.std.specs.Prelude.{◌≡◌, ◌⊎◌, []};
+ghost use Rattle.std.specs.Prelude.{◌≡◌, []};
+ghost use Rattle.geometry.specs.Refusals.{IsOfRead};
 ghost use Rattle.device.specs.declared.parts.Parts.{Parts};
 ghost use Rattle.mount_reading.specs.Held.{HoldsImage, IsPartsRefusal};
 ghost use Rattle.volume_format.specs.Mountable.{IsMountable};
 ghost use Rattle.geometry.specs.declared.error.Error.{Error};
-ghost use Rattle.geometry.specs.declared.error.Error.TheVariants.{NoMemory, Device};
 ghost use Rattle.geometry.specs.declared.geometry.Geometry.{Geometry};
 ghost use Rattle.image.specs.Empty.{empty_image};
 ghost use Rattle.image.specs.Files.{files};
@@ -28,7 +28,7 @@ pub fn mount_law<M: Meta, B: Block>()
         → IsMountable M.seen M.may_leave B.address_of B.content_of geometry image left
         → IsFound M.seen M.may_leave B.address_of B.content_of geometry left found
         → IsPartsRefusal M.seen B.address_of B.content_of found error
-        → (error ≡ NoMemory) ⊎ (error ≡ Device) }
+        → IsOfRead error }
     ensures same { (geometry other : Geometry) (image image' : Image) (left found : Parts M B)
         → IsMountable M.seen M.may_leave B.address_of B.content_of geometry image left
         → IsFound M.seen M.may_leave B.address_of B.content_of geometry left found

@@ -9,8 +9,8 @@ use Rattle.atomic_table.proofs.Lists.{set_again}
 use Rattle.geometry.specs.declared.state.State.{State}
 use Rattle.geometry.specs.declared.state.State.TheVariants.{Free, Open, Sealed, Prefree}
 use Rattle.geometry.specs.Weights.{weigh}
-use Rattle.words.specs.declared.claim.Claim.{Claim}
-use Rattle.words.specs.declared.claim.Claim.TheVariants.{Stands, Slip, Appends, Reads, Checkpoint}
+use Rattle.words.specs.declared.claim.SeatClaim.{SeatClaim}
+use Rattle.words.specs.declared.claim.SeatClaim.TheVariants.{Stands, Slip, Appends, Reads, Checkpoint}
 use Rattle.words.specs.Claims.{total, at, is_open, stands, opens, appends}
 use Rattle.words.specs.Rule.{Law}
 use Rattle.words.specs.Steps.{SeatState, shown_apart}
@@ -23,7 +23,7 @@ open_low Open = omega arith
 open_low Sealed = omega arith
 open_low Prefree = omega arith
 
-opens_low : (s : ℕ) (c : Claim) → opens s c ≤ stands s c
+opens_low : (s : ℕ) (c : SeatClaim) → opens s c ≤ stands s c
 opens_low s (Stands l) = at_mono l.segment s (is_open l.state) 1 (open_low l.state)
 opens_low s (Slip k) = omega arith
 opens_low s (Appends k) = omega arith
@@ -34,12 +34,12 @@ weigh_low : {X : Type 0} (f g : X → ℕ) (xs : List X) → ((x : X) → f x �
 weigh_low f g [] low = omega arith
 weigh_low f g (x ∷ xs) low = let here = low x in let there = weigh_low f g xs low in omega arith
 
-total_low : (s : ℕ) (views : List (List Claim)) → total (opens s) views ≤ total (stands s) views
+total_low : (s : ℕ) (views : List (List SeatClaim)) → total (opens s) views ≤ total (stands s) views
 total_low s views =
-    weigh_low (λ (v : List Claim). weigh (opens s) v) (λ (v : List Claim). weigh (stands s) v) views (λ v. weigh_low (opens s) (stands s) v (opens_low s))
+    weigh_low (λ (v : List SeatClaim). weigh (opens s) v) (λ (v : List SeatClaim). weigh (stands s) v) views (λ v. weigh_low (opens s) (stands s) v (opens_low s))
 
 module _ (n slots id word : ℕ) (me : SeatState) where
-  apart_by : (s : Table (Unit {0}) (List Claim)) → Law n s.words s.views → get_elem? s.views id ≡ some me.0
+  apart_by : (s : Table (Unit {0}) (List SeatClaim)) → Law n s.words s.views → get_elem? s.views id ≡ some me.0
       → (a b : ℕ) → me.0 ≡ Appends a ∷ Appends b ∷ [] → a < n → a ≢ b
   apart_by s law at_id a b is low same =
       let mine : weigh (appends a) me.0 ≤ total (appends a) s.views = sum-in (λ u. weigh (appends a) u) s.views id me.0 at_id in
@@ -56,14 +56,14 @@ module _ (n slots id word : ℕ) (me : SeatState) where
     me.0,
     keeps,
     tt,
-    subst (λ (z : List ℕ × List (List Claim)). Law n z.0 z.1) (λ k. (sym (set-get_or s.words word 0) k, sym (set_again s.views id me.0 at_id) k)) law,
+    subst (λ (z : List ℕ × List (List SeatClaim)). Law n z.0 z.1) (λ k. (sym (set-get_or s.words word 0) k, sym (set_again s.views id me.0 at_id) k)) law,
     (refl, refl, λ a' b' is'. apart_by s law at_id a' b' is' (let same : a ≡ a' = first (sym is ∙ is') in omega arith)),
   )
     where
-      first : {a a' b b' : ℕ} → ◌≡◌ {A = List Claim} (Appends a ∷ Appends b ∷ []) (Appends a' ∷ Appends b' ∷ []) → a ≡ a'
+      first : {a a' b b' : ℕ} → ◌≡◌ {A = List SeatClaim} (Appends a ∷ Appends b ∷ []) (Appends a' ∷ Appends b' ∷ []) → a ≡ a'
       first e = ap number e
         where
-          number : List Claim → ℕ
+          number : List SeatClaim → ℕ
           number [] = 0
           number (Stands l ∷ cs) = 0
           number (Slip k ∷ cs) = 0

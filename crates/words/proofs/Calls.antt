@@ -6,8 +6,8 @@ use Rattle.atomic_table.specs.Table.{Step, step, Allows}
 use Rattle.geometry.specs.declared.state.State.TheVariants.{Free, Sealed, Prefree}
 use Rattle.words.specs.declared.claim.Life.{Life}
 use Rattle.words.specs.declared.claim.Pins.{Pins}
-use Rattle.words.specs.declared.claim.Claim.{Claim}
-use Rattle.words.specs.declared.claim.Claim.TheVariants.{Stands, Slip, Appends, Reads, Checkpoint}
+use Rattle.words.specs.declared.claim.SeatClaim.{SeatClaim}
+use Rattle.words.specs.declared.claim.SeatClaim.TheVariants.{Stands, Slip, Appends, Reads, Checkpoint}
 use Rattle.words.specs.Claims.{times}
 use Rattle.words.specs.Tokens.{IsPinnable}
 use Rattle.words.specs.Steps.{SeatState, version_loaded, counted, sealed, retired, freed, opened, shown_open, pinned, unpinned, pins_counted, version_seen, advanced, agreed}
@@ -17,10 +17,10 @@ use Rattle.words.proofs.Seats.{advances}
 
 module _ (n slots id word : ℕ) (me : SeatState) where
   -- at a word that is the one meant, and claims that are those meant
-  at_claims : (v : List Claim) (w k : ℕ) (f : ℕ → ℕ) (then : Step (Unit {0}) → SeatState → ℕ → SeatState → Type 0) → me.0 ≡ v → word ≡ w
+  at_claims : (v : List SeatClaim) (w k : ℕ) (f : ℕ → ℕ) (then : Step (Unit {0}) → SeatState → ℕ → SeatState → Type 0) → me.0 ≡ v → word ≡ w
       → Allows (Holds n) slots id (v, me.1) w f (then (step {S = Unit {0}} slots w k 0 none) (v, me.1))
       → Allows (Holds n) slots id me word f (then (step {S = Unit {0}} slots word k 0 none) me)
-  at_claims v w k f then e d h = subst (λ (z : List Claim × ℕ). Allows (Holds n) slots id (z.0, me.1) z.1 f (then (step {S = Unit {0}} slots z.1 k 0 none) (z.0, me.1))) (λ i. (sym e i, sym d i)) h
+  at_claims v w k f then e d h = subst (λ (z : List SeatClaim × ℕ). Allows (Holds n) slots id (z.0, me.1) z.1 f (then (step {S = Unit {0}} slots z.1 k 0 none) (z.0, me.1))) (λ i. (sym e i, sym d i)) h
 
   pub version_call : (l : Life) → me.0 ≡ Stands l ∷ [] → word ≡ n → Allows (Holds n) slots id me word (λ x. x) (version_loaded (step slots word 0 0 none) me)
   version_call l e d = at_claims (Stands l ∷ []) n 0 (λ x. x) version_loaded e d (loads_version n slots id me.1 l)

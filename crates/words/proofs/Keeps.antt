@@ -6,13 +6,13 @@ use native.Mathlib.Decide.{ℕ_discrete}
 use mathlib.Core.Option.{some}
 use lib.ListN.{get_elem?}
 use Rattle.geometry.specs.Weights.{weigh}
-use Rattle.words.specs.declared.claim.Claim.{Claim}
-use Rattle.words.specs.declared.claim.Claim.TheVariants.{Stands, Slip, Appends, Reads, Checkpoint}
+use Rattle.words.specs.declared.claim.SeatClaim.{SeatClaim}
+use Rattle.words.specs.declared.claim.SeatClaim.TheVariants.{Stands, Slip, Appends, Reads, Checkpoint}
 use Rattle.words.specs.Claims.{Every, total, stands, stands_at, rank, frees, opens, room, slips, appends, pins, pins_at, readers, checkpoints, version}
 use Rattle.words.specs.Rule.{Sound, Law}
 use Rattle.words.proofs.Counts.{times_at_le, sum-set, sum-mono, sum-le, every-set, every-map}
 
-pub pins_le : (n completed s : ℕ) (c : Claim) → Sound n completed c → pins s c ≤ readers c
+pub pins_le : (n completed s : ℕ) (c : SeatClaim) → Sound n completed c → pins s c ≤ readers c
 pins_le n completed s (Stands l) h = omega arith
 pins_le n completed s (Slip k) h = omega arith
 pins_le n completed s (Appends k) h = omega arith
@@ -20,7 +20,7 @@ pins_le n completed s (Reads r) h = h.0 s
 pins_le n completed s (Checkpoint k) h = omega arith
 
 -- Claims come in the place of others, and those who stand, write and read are counted as before.
-pub record IsAlike (v w : List Claim) : Type 0 where
+pub record IsAlike (v w : List SeatClaim) : Type 0 where
   pub standings : (s : ℕ) → weigh (stands s) w ≡ weigh (stands s) v
   pub one_checkpoint : weigh checkpoints w ≡ weigh checkpoints v
   pub free_slips : (s : ℕ) → weigh (slips s) w + weigh (frees s) v ≡ weigh (slips s) v + weigh (frees s) w
@@ -28,14 +28,14 @@ pub record IsAlike (v w : List Claim) : Type 0 where
   pub same_readers : weigh readers w ≡ weigh readers v
 
 -- They come to a seat, and there are no more pins than there is room for.
-pub record IsCounted (views : List (List Claim)) (id : ℕ) (v w : List Claim) : Type 0 where
+pub record IsCounted (views : List (List SeatClaim)) (id : ℕ) (v w : List SeatClaim) : Type 0 where
   pub alike : IsAlike v w
   pub within : (s : ℕ) → total (pins s) (set views id w) ≤ total (room s) (set views id w)
   pub same_life : (s i : ℕ) → total (pins_at s i) (set views id w) ≤ 64 * total (stands_at s i) (set views id w)
 
-module _ (n : ℕ) (words : List ℕ) (views : List (List Claim)) (law : Law n words views) where
+module _ (n : ℕ) (words : List ℕ) (views : List (List SeatClaim)) (law : Law n words views) where
   -- a rearrangement of the claims
-  pub regrouped : (views' : List (List Claim)) → ((f : Claim → ℕ) → total f views' ≡ total f views) → ((P : Claim → Type 0) → Every (Every P) views → Every (Every P) views') → Law n words views'
+  pub regrouped : (views' : List (List SeatClaim)) → ((f : SeatClaim → ℕ) → total f views' ≡ total f views) → ((P : SeatClaim → Type 0) → Every (Every P) views → Every (Every P) views') → Law n words views'
   regrouped views' same every = record {
     wide = law.wide;
     one_standing = λ s h. same (stands s) ∙ law.one_standing s h;
@@ -51,8 +51,8 @@ module _ (n : ℕ) (words : List ℕ) (views : List (List Claim)) (law : Law n w
     sound = every (Sound n (get_or words n 0)) law.sound;
   }
 
-  module _ (id : ℕ) (v w : List Claim) (at_id : get_elem? views id ≡ some v) where
-    pub moved : (f : Claim → ℕ) → total f (set views id w) + weigh f v ≡ total f views + weigh f w
+  module _ (id : ℕ) (v w : List SeatClaim) (at_id : get_elem? views id ≡ some v) where
+    pub moved : (f : SeatClaim → ℕ) → total f (set views id w) + weigh f v ≡ total f views + weigh f w
     moved f = sum-set (λ u. weigh f u) views id v w at_id
 
     pub changed : (words' : List ℕ) → length words' ≡ n + 1
@@ -62,7 +62,7 @@ module _ (n : ℕ) (words : List ℕ) (views : List (List Claim)) (law : Law n w
         → get_or words' n 0 < 4294967296
         → IsCounted views id v w
         → Every (Sound n (get_or words' n 0)) w
-        → ((c : Claim) → Sound n (get_or words n 0) c → Sound n (get_or words' n 0) c)
+        → ((c : SeatClaim) → Sound n (get_or words n 0) c → Sound n (get_or words' n 0) c)
         → Law n words' (set views id w)
     changed words' wide enc ver up bound counted snd later = record {
       wide = wide;
@@ -116,7 +116,7 @@ module _ (n : ℕ) (words : List ℕ) (views : List (List Claim)) (law : Law n w
       let a = sum-mono (λ u. weigh (pins s) u) (λ u. weigh readers u) (Every (Sound n (get_or words n 0))) views (λ u h. sum-mono (pins s) readers (Sound n (get_or words n 0)) u (pins_le n (get_or words n 0) s) h) law.sound in
       let b = law.few_readers in omega arith
 
-pins_at_le : (s i : ℕ) (c : Claim) → pins_at s i c ≤ pins s c
+pins_at_le : (s i : ℕ) (c : SeatClaim) → pins_at s i c ≤ pins s c
 pins_at_le s i (Stands l) = omega arith
 pins_at_le s i (Slip k) = omega arith
 pins_at_le s i (Appends k) = omega arith
@@ -124,5 +124,5 @@ pins_at_le s i (Reads r) = times_at_le s i r.held
 pins_at_le s i (Checkpoint k) = omega arith
 
 -- the pins on one incarnation are among those on the segment
-pub part_of_pins : (s i : ℕ) (views : List (List Claim)) → total (pins_at s i) views ≤ total (pins s) views
+pub part_of_pins : (s i : ℕ) (views : List (List SeatClaim)) → total (pins_at s i) views ≤ total (pins s) views
 part_of_pins s i views = sum-le (λ u. weigh (pins_at s i) u) (λ u. weigh (pins s) u) views (λ u. sum-le (pins_at s i) (pins s) u (pins_at_le s i))

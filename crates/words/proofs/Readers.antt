@@ -13,8 +13,8 @@ use Rattle.geometry.specs.declared.state.State.TheVariants.{Free, Open, Sealed, 
 use Rattle.geometry.specs.Weights.{weigh}
 use Rattle.words.specs.declared.claim.Life.{Life}
 use Rattle.words.specs.declared.claim.Pins.{Pins}
-use Rattle.words.specs.declared.claim.Claim.{Claim}
-use Rattle.words.specs.declared.claim.Claim.TheVariants.{Stands, Slip, Appends, Reads, Checkpoint}
+use Rattle.words.specs.declared.claim.SeatClaim.{SeatClaim}
+use Rattle.words.specs.declared.claim.SeatClaim.TheVariants.{Stands, Slip, Appends, Reads, Checkpoint}
 use Rattle.words.specs.Claims.{Every, total, at, code, room_of, times, times_at, stands, stands_at, rank_of, rank, room, pins, pins_at, readers}
 use Rattle.words.specs.Rule.{Sound, Law}
 use Rattle.words.specs.Steps.{life_counted, pins_seen, pins_loaded, pins_with, pins_without, pinned, unpinned, pins_counted, version_seen, agreed}
@@ -23,25 +23,25 @@ use Rattle.words.proofs.Keeps.{moved, word_changed, looked, few_pins, part_of_pi
 use Rattle.words.proofs.Standings.{facts, Holds, low_part, no_rank, no_life}
 
 -- whose word it is, told by no seat
-pub record Owner (n : ℕ) (words : List ℕ) (views : List (List Claim)) (s : ℕ) : Type 0 where
+pub record Owner (n : ℕ) (words : List ℕ) (views : List (List SeatClaim)) (s : ℕ) : Type 0 where
   pub l : Life
   pub is : get_or words s 0 ≡ 256 * code l.state + 65536 * l.incarnation + total (pins s) views
   pub lives : (i : ℕ) → total (stands_at s i) views ≡ at l.incarnation i 1
 
-life_here : (s : ℕ) (c : Claim) → stands s c ≡ 1 → (l : Life) × (c ≡ Stands l) × (l.segment ≡ s)
+life_here : (s : ℕ) (c : SeatClaim) → stands s c ≡ 1 → (l : Life) × (c ≡ Stands l) × (l.segment ≡ s)
 life_here s (Stands l) h = (l, refl, dite (ℕ_discrete l.segment s) (λ e. e) (λ ne. let k = at_other l.segment s 1 (λ e. ne (sym e)) in absurd (omega arith)))
 life_here s (Slip k) h = absurd (omega arith)
 life_here s (Appends k) h = absurd (omega arith)
 life_here s (Reads r) h = absurd (omega arith)
 life_here s (Checkpoint v) h = absurd (omega arith)
 
-pub owner : (n : ℕ) (words : List ℕ) (views : List (List Claim)) → Law n words views → (s : ℕ) → s < n → Owner n words views s
+pub owner : (n : ℕ) (words : List ℕ) (views : List (List SeatClaim)) → Law n words views → (s : ℕ) → s < n → Owner n words views s
 owner n words views law s lt =
     let all = law.one_standing s lt in
     let f = sum-find (λ u. weigh (stands s) u) views all in
     let g = sum-find (stands s) f.1 f.3 in
     let h = life_here s g.1 g.3 in
-    let the : (k : Claim → ℕ) → ((c : Claim) → stands s c ≡ 0 → k c ≡ 0) → total k views ≡ k (Stands h.0) = λ k no'.
+    let the : (k : SeatClaim → ℕ) → ((c : SeatClaim) → stands s c ≡ 0 → k c ≡ 0) → total k views ≡ k (Stands h.0) = λ k no'.
     sum-only (λ u. weigh (stands s) u) (λ u. weigh k u) views f.0 f.1 (λ u. sum-none (stands s) k u no') f.2 f.3 all ∙ (sum-only (stands s) k f.1 g.0 g.1 no' g.2 g.3 f.3 ∙ ap k h.1) in
     let r = the (rank s) (no_rank s) in
     let d = at_same h.0.segment s (rank_of h.0) h.2 in
@@ -65,10 +65,10 @@ code_most Sealed = omega arith
 code_most Prefree = omega arith
 
 module _ (n slots id : ℕ) (c : List (ℕ × Unit {0})) (p : Pins) where
-  abbrev me : Me (Unit {0}) (List Claim)
+  abbrev me : Me (Unit {0}) (List SeatClaim)
   me = (Reads p ∷ [], c)
 
-  module _ (s : Table (Unit {0}) (List Claim)) (law : Law n s.words s.views) (at_id : get_elem? s.views id ≡ some (Reads p ∷ [])) where
+  module _ (s : Table (Unit {0}) (List SeatClaim)) (law : Law n s.words s.views) (at_id : get_elem? s.views id ≡ some (Reads p ∷ [])) where
     sound_here : Sound n (get_or s.words n 0) (Reads p)
     sound_here = (every-get (Every (Sound n (get_or s.words n 0))) s.views id (Reads p ∷ []) law.sound at_id).0
 
@@ -81,7 +81,7 @@ module _ (n slots id : ℕ) (c : List (ℕ × Unit {0})) (p : Pins) where
 
     reader_looked : (seen : ℕ) (load : ℕ × ℕ) (loads : ℕ) → seen ≤ get_or s.words n 0 → Law n s.words (set s.views id (Reads (record { held = p.held; seen = seen; load = load; loads = loads }) ∷ []))
     reader_looked seen load loads old =
-        let w : List Claim = Reads (record { held = p.held; seen = seen; load = load; loads = loads }) ∷ [] in
+        let w : List SeatClaim = Reads (record { held = p.held; seen = seen; load = load; loads = loads }) ∷ [] in
         let mv = moved n s.words s.views law id (Reads p ∷ []) w at_id in
         looked n s.words s.views law id (Reads p ∷ []) w at_id (λ z. refl) refl (record {
           alike = record { standings = λ z. refl; one_checkpoint = refl; free_slips = λ z. refl; open_appenders = λ z. refl; same_readers = refl };
@@ -125,7 +125,7 @@ module _ (n slots id : ℕ) (c : List (ℕ × Unit {0})) (p : Pins) where
   pub unpins : (z : ℕ) → z < n → 0 < times z p.held → Allows (Holds n) slots id me z (λ x. (x + (2 ^ 64 - 1)) % 2 ^ 64) (unpinned (step slots z 1 0 none) me)
   unpins z lt has s law _ at_id small =
       let x : ℕ = get_or s.words z 0 in
-      let w : List Claim = Reads (pins_without p z) ∷ [] in
+      let w : List SeatClaim = Reads (pins_without p z) ∷ [] in
       let mv = moved n s.words s.views law id (Reads p ∷ []) w at_id in
       let own = own_pins s law at_id z in
       let o = owner n s.words s.views law z lt in
@@ -149,7 +149,7 @@ module _ (n slots id : ℕ) (c : List (ℕ × Unit {0})) (p : Pins) where
 
 -- a standing and a reader's seat together
 module _ (n slots id : ℕ) (c : List (ℕ × Unit {0})) (l : Life) (p : Pins) where
-  abbrev pair : Me (Unit {0}) (List Claim)
+  abbrev pair : Me (Unit {0}) (List SeatClaim)
   pair = (Stands l ∷ Reads p ∷ [], c)
 
   pub pins_it : (l.state ≡ Open) ⊎ (l.state ≡ Sealed) → times l.segment p.held ≡ 0
@@ -157,8 +157,8 @@ module _ (n slots id : ℕ) (c : List (ℕ × Unit {0})) (l : Life) (p : Pins) w
   pins_it busy none_yet s law _ at_id small =
       let g : ℕ = l.segment in
       let x : ℕ = get_or s.words g 0 in
-      let v : List Claim = Stands l ∷ Reads p ∷ [] in
-      let w : List Claim = Stands (life_counted l (x % 256)) ∷ Reads (pins_with p l.segment l.incarnation) ∷ [] in
+      let v : List SeatClaim = Stands l ∷ Reads p ∷ [] in
+      let w : List SeatClaim = Stands (life_counted l (x % 256)) ∷ Reads (pins_with p l.segment l.incarnation) ∷ [] in
       let f = facts n s.words s.views law id l (Reads p ∷ []) at_id refl in
       let mv = moved n s.words s.views law id v w at_id in
       let here = every-get (Every (Sound n (get_or s.words n 0))) s.views id v law.sound at_id in
@@ -211,12 +211,12 @@ module _ (n slots id : ℕ) (c : List (ℕ × Unit {0})) (l : Life) (p : Pins) w
   pub agrees : Allows (Holds n) slots id pair l.segment (λ x. x) (agreed (step slots l.segment 0 0 none) pair)
   agrees s law _ at_id small =
       let g : ℕ = l.segment in
-      let v : List Claim = Stands l ∷ Reads p ∷ [] in
+      let v : List SeatClaim = Stands l ∷ Reads p ∷ [] in
       let f = facts n s.words s.views law id l (Reads p ∷ []) at_id refl in (
         v,
         keeps,
         tt,
-        subst (λ (z : List ℕ × List (List Claim)). Law n z.0 z.1) (λ k. (sym (set-get_or s.words g 0) k, sym (set_again s.views id v at_id) k)) law,
+        subst (λ (z : List ℕ × List (List SeatClaim)). Law n z.0 z.1) (λ k. (sym (set-get_or s.words g 0) k, sym (set_again s.views id v at_id) k)) law,
         (
           refl,
           refl,

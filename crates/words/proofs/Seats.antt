@@ -11,8 +11,8 @@ use Rattle.atomic_table.proofs.Lists.{set_else}
 use Rattle.geometry.specs.declared.state.State.{State}
 use Rattle.geometry.specs.declared.state.State.TheVariants.{Free, Open, Sealed, Prefree}
 use Rattle.geometry.specs.Weights.{weigh}
-use Rattle.words.specs.declared.claim.Claim.{Claim}
-use Rattle.words.specs.declared.claim.Claim.TheVariants.{Stands, Slip, Appends, Reads, Checkpoint}
+use Rattle.words.specs.declared.claim.SeatClaim.{SeatClaim}
+use Rattle.words.specs.declared.claim.SeatClaim.TheVariants.{Stands, Slip, Appends, Reads, Checkpoint}
 use Rattle.words.specs.Claims.{Every, total, at, stands, stands_at, rank, frees, opens, room, slips, appends, pins, pins_at, readers, checkpoints, version, fresh_life, fresh_pins, fresh_segments, opening_view, without_second, second}
 use Rattle.words.specs.Rule.{IsDated, Sound, Law}
 use Rattle.words.specs.Steps.{advanced}
@@ -20,7 +20,7 @@ use Rattle.words.proofs.Counts.{at_same, at_other, at_zero, sum-append, sum-set,
 use Rattle.words.proofs.Keeps.{moved, changed, regrouped}
 use Rattle.words.proofs.Standings.{Holds}
 
-no_version : (c : Claim) → checkpoints c ≡ 0 → version c ≡ 0
+no_version : (c : SeatClaim) → checkpoints c ≡ 0 → version c ≡ 0
 no_version (Stands l) h = refl
 no_version (Slip k) h = refl
 no_version (Appends k) h = refl
@@ -33,7 +33,7 @@ dated_later Open c d i stamp le h = omega arith
 dated_later Sealed c d i stamp le h = omega arith
 dated_later Prefree c d i stamp le h = let a : i ≤ stamp = h.0 in let b : stamp ≤ c = h.1 in (a, omega arith)
 
-sound_later : (n c d : ℕ) → c ≤ d → (k : Claim) → Sound n c k → Sound n d k
+sound_later : (n c d : ℕ) → c ≤ d → (k : SeatClaim) → Sound n c k → Sound n d k
 sound_later n c d le (Stands l) h = let b : l.seen ≤ c = h.1 in (h.0, omega arith, dated_later l.state c d l.incarnation l.stamp le h.2)
 sound_later n c d le (Slip k) h = tt
 sound_later n c d le (Appends k) h = tt
@@ -44,7 +44,7 @@ pub advances : (n slots id : ℕ) (c : List (ℕ × Unit {0})) (v : ℕ) → v +
     → Allows (Holds n) slots id (Checkpoint v ∷ [], c) n (λ x. (x + 1) % 2 ^ 64) (advanced (step slots n 1 0 none) (Checkpoint v ∷ [], c))
 advances n slots id c v small s law _ at_id _ =
     let x : ℕ = get_or s.words n 0 in
-    let w : List Claim = Checkpoint (v + 1) ∷ [] in
+    let w : List SeatClaim = Checkpoint (v + 1) ∷ [] in
     let all = law.one_checkpoint in
     let mine : total version s.views ≡ v + 0 =
     sum-only (λ u. weigh checkpoints u) (λ u. weigh version u) s.views id (Checkpoint v ∷ []) (λ u. sum-none checkpoints version u no_version) at_id refl all in
@@ -69,7 +69,7 @@ advances n slots id c v small s law _ at_id _ =
       (refl, refl, is),
     )
 
-pub joins : (n id : ℕ) (v : List Claim) (other : ℕ) (w : List Claim) → Joins (Holds n) id v other w (v ++ w) []
+pub joins : (n id : ℕ) (v : List SeatClaim) (other : ℕ) (w : List SeatClaim) → Joins (Holds n) id v other w (v ++ w) []
 joins n id v other w s law at_v apart at_w =
     let at_w' : get_elem? s.views other ≡ some w = sym (set_else s.views id other (v ++ w) apart) ∙ at_w in
     regrouped n s.words s.views law (set (set s.views id (v ++ w)) other [])
@@ -77,19 +77,19 @@ joins n id v other w s law at_v apart at_w =
     (λ P h. every-set (Every P) (set s.views id (v ++ w)) other []
     (every-set (Every P) s.views id (v ++ w) h (every-append P v w (every-get (Every P) s.views id v h at_v) (every-get (Every P) s.views other w h at_w'))) tt)
 
-cut : (n id : ℕ) (v left right : List Claim) → ((f : Claim → ℕ) → weigh f left + weigh f right ≡ weigh f v) → ((P : Claim → Type 0) → Every P v → Every P left × Every P right) → Splits (Holds n) id v left right
+cut : (n id : ℕ) (v left right : List SeatClaim) → ((f : SeatClaim → ℕ) → weigh f left + weigh f right ≡ weigh f v) → ((P : SeatClaim → Type 0) → Every P v → Every P left × Every P right) → Splits (Holds n) id v left right
 cut n id v left right same every s law at_v =
     regrouped n s.words s.views law (set s.views id left ++ right ∷ [])
     (λ f. let a = sum-set (λ u. weigh f u) s.views id v left at_v in let b = sum-append (λ u. weigh f u) (set s.views id left) (right ∷ []) in let e = same f in omega arith)
     (λ P h. let k = every P (every-get (Every P) s.views id v h at_v) in
     every-append (Every P) (set s.views id left) (right ∷ []) (every-set (Every P) s.views id left h k.0) (k.1, tt))
 
-pub cuts_second : (n id : ℕ) (v : List Claim) → Splits (Holds n) id v (without_second v) (second v)
+pub cuts_second : (n id : ℕ) (v : List SeatClaim) → Splits (Holds n) id v (without_second v) (second v)
 cuts_second n id [] = cut n id [] [] [] (λ f. refl) (λ P h. (tt, tt))
 cuts_second n id (a ∷ []) = cut n id (a ∷ []) (a ∷ []) [] (λ f. omega arith) (λ P h. (h, tt))
 cuts_second n id (a ∷ b ∷ cs) = cut n id (a ∷ b ∷ cs) (a ∷ cs) (b ∷ []) (λ f. omega arith) (λ P h. ((h.0, h.1.1), (h.1.0, tt)))
 
-pub cuts_whole : (n id : ℕ) (v : List Claim) → Splits (Holds n) id v [] v
+pub cuts_whole : (n id : ℕ) (v : List SeatClaim) → Splits (Holds n) id v [] v
 cuts_whole n id v = cut n id v [] v (λ f. omega arith) (λ P h. (tt, h))
 
 -- that seats may be cut and joined
@@ -97,11 +97,11 @@ pub ruleset cuts_and_joins = (cuts_second, cuts_whole, joins)
 
 -- the start
 
-nothing : (f : Claim → ℕ) (a count : ℕ) → ((s : ℕ) → f (Stands (fresh_life s)) ≡ 0) → ((s : ℕ) → f (Slip s) ≡ 0) → weigh f (fresh_segments a count) ≡ 0
+nothing : (f : SeatClaim → ℕ) (a count : ℕ) → ((s : ℕ) → f (Stands (fresh_life s)) ≡ 0) → ((s : ℕ) → f (Slip s) ≡ 0) → weigh f (fresh_segments a count) ≡ 0
 nothing f a zero x y = refl
 nothing f a (suc count) x y = let p = x a in let q = y a in let r = nothing f (suc a) count x y in omega arith
 
-alike : (f g : Claim → ℕ) (a count : ℕ) → ((s : ℕ) → f (Stands (fresh_life s)) + f (Slip s) ≡ g (Stands (fresh_life s)) + g (Slip s)) → weigh f (fresh_segments a count) ≡ weigh g (fresh_segments a count)
+alike : (f g : SeatClaim → ℕ) (a count : ℕ) → ((s : ℕ) → f (Stands (fresh_life s)) + f (Slip s) ≡ g (Stands (fresh_life s)) + g (Slip s)) → weigh f (fresh_segments a count) ≡ weigh g (fresh_segments a count)
 alike f g a zero x = refl
 alike f g a (suc count) x = let p = x a in let r = alike f g (suc a) count x in omega arith
 
@@ -120,7 +120,7 @@ fresh_sound n completed a zero h k = tt
 fresh_sound n completed a (suc count) h k = ((omega arith, omega arith, k), (tt, fresh_sound n completed (suc a) count (omega arith) k))
 
 module _ (n seats start : ℕ) where
-  sums : (f : Claim → ℕ) → f (Reads fresh_pins) ≡ 0 → total f (opening_view n seats start ∷ []) ≡ f (Checkpoint start) + weigh f (fresh_segments 0 n)
+  sums : (f : SeatClaim → ℕ) → f (Reads fresh_pins) ≡ 0 → total f (opening_view n seats start ∷ []) ≡ f (Checkpoint start) + weigh f (fresh_segments 0 n)
   sums f z = let a = sum-append f (fresh_segments 0 n) (replicate seats (Reads fresh_pins)) in let b = sum-replicate f seats (Reads fresh_pins) z in omega arith
 
   pub opens_lawful : (words : List ℕ) → length words ≡ n + 1 → ((s : ℕ) → s < n → get_or words s 0 ≡ 0) → get_or words n 0 ≡ start → 0 < start → start < 4294967296 → seats ≤ 64

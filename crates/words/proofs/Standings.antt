@@ -12,8 +12,8 @@ use Rattle.geometry.specs.declared.state.State.{State}
 use Rattle.geometry.specs.declared.state.State.TheVariants.{Free, Open, Sealed, Prefree}
 use Rattle.geometry.specs.Weights.{weigh}
 use Rattle.words.specs.declared.claim.Life.{Life}
-use Rattle.words.specs.declared.claim.Claim.{Claim}
-use Rattle.words.specs.declared.claim.Claim.TheVariants.{Stands, Slip, Appends, Reads, Checkpoint}
+use Rattle.words.specs.declared.claim.SeatClaim.{SeatClaim}
+use Rattle.words.specs.declared.claim.SeatClaim.TheVariants.{Stands, Slip, Appends, Reads, Checkpoint}
 use Rattle.words.specs.Claims.{Every, total, at, code, is_free, is_open, room_of, stands, stands_at, rank_of, rank, frees, opens, room, slips, appends, pins, pins_at}
 use Rattle.words.specs.Rule.{IsDated, Sound, Law}
 use Rattle.words.specs.Steps.{life_seen, life_loaded, life_sealed, life_retired, life_freed, life_opened, version_loaded, counted, sealed, retired, freed, opened, shown_open}
@@ -21,7 +21,7 @@ use Rattle.words.proofs.Counts.{at_here, at_other, at_zero, at_none, sum-none, s
 use Rattle.words.proofs.Keeps.{moved, word_changed, few_pins, part_of_pins}
 
 -- what the rule says of one segment, told by its standing
-pub record Facts (n : ℕ) (words : List ℕ) (views : List (List Claim)) (l : Life) : Type 0 where
+pub record Facts (n : ℕ) (words : List ℕ) (views : List (List SeatClaim)) (l : Life) : Type 0 where
   pub lt : l.segment < n
   pub dated : IsDated l.state (get_or words n 0) l.incarnation l.stamp
   pub seen : l.seen ≤ get_or words n 0
@@ -41,47 +41,47 @@ dated_low Open c i stamp h = h
 dated_low Sealed c i stamp h = h
 dated_low Prefree c i stamp h = omega (arith, h.0, h.1)
 
-pub no_rank : (s : ℕ) (c : Claim) → stands s c ≡ 0 → rank s c ≡ 0
+pub no_rank : (s : ℕ) (c : SeatClaim) → stands s c ≡ 0 → rank s c ≡ 0
 no_rank s (Stands l) h = at_none l.segment s (rank_of l) h
 no_rank s (Slip k) h = refl
 no_rank s (Appends k) h = refl
 no_rank s (Reads r) h = refl
 no_rank s (Checkpoint v) h = refl
 
-no_room : (s : ℕ) (c : Claim) → stands s c ≡ 0 → room s c ≡ 0
+no_room : (s : ℕ) (c : SeatClaim) → stands s c ≡ 0 → room s c ≡ 0
 no_room s (Stands l) h = at_none l.segment s (room_of l.state l.pins) h
 no_room s (Slip k) h = refl
 no_room s (Appends k) h = refl
 no_room s (Reads r) h = refl
 no_room s (Checkpoint v) h = refl
 
-no_frees : (s : ℕ) (c : Claim) → stands s c ≡ 0 → frees s c ≡ 0
+no_frees : (s : ℕ) (c : SeatClaim) → stands s c ≡ 0 → frees s c ≡ 0
 no_frees s (Stands l) h = at_none l.segment s (is_free l.state) h
 no_frees s (Slip k) h = refl
 no_frees s (Appends k) h = refl
 no_frees s (Reads r) h = refl
 no_frees s (Checkpoint v) h = refl
 
-no_opens : (s : ℕ) (c : Claim) → stands s c ≡ 0 → opens s c ≡ 0
+no_opens : (s : ℕ) (c : SeatClaim) → stands s c ≡ 0 → opens s c ≡ 0
 no_opens s (Stands l) h = at_none l.segment s (is_open l.state) h
 no_opens s (Slip k) h = refl
 no_opens s (Appends k) h = refl
 no_opens s (Reads r) h = refl
 no_opens s (Checkpoint v) h = refl
 
-pub no_life : (s i : ℕ) (c : Claim) → stands s c ≡ 0 → stands_at s i c ≡ 0
+pub no_life : (s i : ℕ) (c : SeatClaim) → stands s c ≡ 0 → stands_at s i c ≡ 0
 no_life s i (Stands l) h = at_none l.segment s (at l.incarnation i 1) h
 no_life s i (Slip k) h = refl
 no_life s i (Appends k) h = refl
 no_life s i (Reads r) h = refl
 no_life s i (Checkpoint v) h = refl
 
-module _ (n : ℕ) (words : List ℕ) (views : List (List Claim)) (law : Law n words views) (id : ℕ) (l : Life) (rest : List Claim) (at_id : get_elem? views id ≡ some (Stands l ∷ rest)) where
+module _ (n : ℕ) (words : List ℕ) (views : List (List SeatClaim)) (law : Law n words views) (id : ℕ) (l : Life) (rest : List SeatClaim) (at_id : get_elem? views id ≡ some (Stands l ∷ rest)) where
   sound_here : Sound n (get_or words n 0) (Stands l)
   sound_here = (every-get (Every (Sound n (get_or words n 0))) views id (Stands l ∷ rest) law.sound at_id).0
 
   module _ (nobody : weigh (stands l.segment) rest ≡ 0) where
-    alone : (g : Claim → ℕ) → ((c : Claim) → stands l.segment c ≡ 0 → g c ≡ 0) → total g views ≡ g (Stands l)
+    alone : (g : SeatClaim → ℕ) → ((c : SeatClaim) → stands l.segment c ≡ 0 → g c ≡ 0) → total g views ≡ g (Stands l)
     alone g no' = let lt = sound_here.0 in let here = at_here l.segment 1 in
         let one : weigh (stands l.segment) (Stands l ∷ rest) ≡ 1 = omega arith in
         let t = sum-only (λ u. weigh (stands l.segment) u) (λ u. weigh g u) views id (Stands l ∷ rest) (λ u. sum-none (stands l.segment) g u no') at_id one (law.one_standing l.segment lt) in
@@ -111,7 +111,7 @@ module _ (n : ℕ) (words : List ℕ) (views : List (List Claim)) (law : Law n w
         }
 
 -- a standing goes on to another state in the same incarnation, and no slip and no appender comes or goes
-module _ (n : ℕ) (words : List ℕ) (views : List (List Claim)) (law : Law n words views) (id : ℕ) (l : Life) (at_id : get_elem? views id ≡ some (Stands l ∷ [])) where
+module _ (n : ℕ) (words : List ℕ) (views : List (List SeatClaim)) (law : Law n words views) (id : ℕ) (l : Life) (at_id : get_elem? views id ≡ some (Stands l ∷ [])) where
   module _ (st : State) (stamp seen version_loads pin_loads held : ℕ) where
     abbrev l' : Life
     l' = record { segment = l.segment; state = st; incarnation = l.incarnation; stamp = stamp; seen = seen; version_loads = version_loads; pin_loads = pin_loads; pins = held }
@@ -143,7 +143,7 @@ module _ (n : ℕ) (words : List ℕ) (views : List (List Claim)) (law : Law n w
         })
         ((f.lt, old, dated), tt)
 
-abbrev pub Holds : ℕ → Table (Unit {0}) (List Claim) → Type 0
+abbrev pub Holds : ℕ → Table (Unit {0}) (List SeatClaim) → Type 0
 Holds n s = Law n s.words s.views
 
 -- a word is its state and incarnation, and below them its pins
@@ -157,7 +157,7 @@ code_le Sealed = omega arith
 code_le Prefree = omega arith
 
 module _ (n slots id : ℕ) (c : List (ℕ × Unit {0})) (l : Life) where
-  abbrev me : Me (Unit {0}) (List Claim)
+  abbrev me : Me (Unit {0}) (List SeatClaim)
   me = (Stands l ∷ [], c)
 
   pub retires : l.state ≡ Sealed → l.incarnation ≤ l.seen → Allows (Holds n) slots id me l.segment (λ x. (x + 256) % 2 ^ 64) (retired (step slots l.segment 256 0 none) me)
@@ -215,7 +215,7 @@ module _ (n slots id : ℕ) (c : List (ℕ × Unit {0})) (l : Life) where
       → Allows (Holds n) slots id me l.segment (λ x. (x + (2 ^ 64 - 768)) % 2 ^ 64) (freed (step slots l.segment 768 0 none) me)
   frees_it is none_left later s law _ at_id small =
       let g : ℕ = l.segment in
-      let w : List Claim = Stands (life_freed l) ∷ Slip l.segment ∷ [] in
+      let w : List SeatClaim = Stands (life_freed l) ∷ Slip l.segment ∷ [] in
       let f = facts n s.words s.views law id l [] at_id refl in
       let mv = moved n s.words s.views law id (Stands l ∷ []) w at_id in
       let x : ℕ = get_or s.words l.segment 0 in
@@ -253,14 +253,14 @@ module _ (n slots id : ℕ) (c : List (ℕ × Unit {0})) (l : Life) where
         (refl, refl),
       )
 
-  abbrev both : Me (Unit {0}) (List Claim)
+  abbrev both : Me (Unit {0}) (List SeatClaim)
   both = (Stands l ∷ Slip l.segment ∷ [], c)
 
   pub opens_it : Allows (Holds n) slots id both l.segment (λ x. (x + 65792) % 2 ^ 64) (opened (step slots l.segment 65792 0 none) both)
   opens_it s law _ at_id small =
       let g : ℕ = l.segment in
-      let v : List Claim = Stands l ∷ Slip l.segment ∷ [] in
-      let w : List Claim = Stands (life_opened l) ∷ Appends l.segment ∷ [] in
+      let v : List SeatClaim = Stands l ∷ Slip l.segment ∷ [] in
+      let w : List SeatClaim = Stands (life_opened l) ∷ Appends l.segment ∷ [] in
       let f = facts n s.words s.views law id l (Slip l.segment ∷ []) at_id refl in
       let mv = moved n s.words s.views law id v w at_id in
       let x : ℕ = get_or s.words l.segment 0 in
@@ -313,10 +313,10 @@ module _ (n slots id : ℕ) (c : List (ℕ × Unit {0})) (l : Life) where
       only_free Prefree h = absurd (omega arith)
 
   -- a standing with its segment's appender
-  abbrev appending : Me (Unit {0}) (List Claim)
+  abbrev appending : Me (Unit {0}) (List SeatClaim)
   appending = (Stands l ∷ Appends l.segment ∷ [], c)
 
-  open_by : (s : Table (Unit {0}) (List Claim)) → Law n s.words s.views → get_elem? s.views id ≡ some appending.0 → l.state ≡ Open
+  open_by : (s : Table (Unit {0}) (List SeatClaim)) → Law n s.words s.views → get_elem? s.views id ≡ some appending.0 → l.state ≡ Open
   open_by s law at_id =
       let g : ℕ = l.segment in
       let f = facts n s.words s.views law id l (Appends g ∷ []) at_id refl in
@@ -336,17 +336,17 @@ module _ (n slots id : ℕ) (c : List (ℕ × Unit {0})) (l : Life) where
     appending.0,
     keeps,
     tt,
-    subst (λ (z : List ℕ × List (List Claim)). Law n z.0 z.1) (λ k. (sym (set-get_or s.words l.segment 0) k, sym (set_again s.views id appending.0 at_id) k)) law,
+    subst (λ (z : List ℕ × List (List SeatClaim)). Law n z.0 z.1) (λ k. (sym (set-get_or s.words l.segment 0) k, sym (set_again s.views id appending.0 at_id) k)) law,
     (refl, refl, open_by s law at_id),
   )
 
   pub seals : Allows (Holds n) slots id appending l.segment (λ x. (x + 256) % 2 ^ 64) (sealed (step slots l.segment 256 0 none) appending)
   seals s law _ at_id small =
       let g : ℕ = l.segment in
-      let v : List Claim = appending.0 in
+      let v : List SeatClaim = appending.0 in
       let x : ℕ = get_or s.words g 0 in
       let l' : Life = life_sealed l (x % 256) in
-      let w : List Claim = Stands l' ∷ [] in
+      let w : List SeatClaim = Stands l' ∷ [] in
       let f = facts n s.words s.views law id l (Appends g ∷ []) at_id refl in
       let mv = moved n s.words s.views law id v w at_id in
       let p : ℕ = total (pins g) s.views in

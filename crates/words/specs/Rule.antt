@@ -2,8 +2,8 @@
 use Rattle.std.specs.Prelude.{◌≡◌, ℕ, ◌+◌, ◌*◌, ◌<◌, ◌≤◌, List, length, slice_index}
 use Rattle.geometry.specs.declared.state.State.{State}
 use Rattle.geometry.specs.declared.state.State.TheVariants.{Free, Open, Sealed, Prefree}
-use Rattle.words.specs.declared.claim.Claim.{Claim}
-use Rattle.words.specs.declared.claim.Claim.TheVariants.{Stands, Slip, Appends, Reads, Checkpoint}
+use Rattle.words.specs.declared.claim.SeatClaim.{SeatClaim}
+use Rattle.words.specs.declared.claim.SeatClaim.TheVariants.{Stands, Slip, Appends, Reads, Checkpoint}
 use Rattle.words.specs.Claims.{Every, total, times, stands, stands_at, rank, frees, opens, room, slips, appends, pins, pins_at, readers, checkpoints, version}
 
 -- The completed version is never below a segment's incarnation, and it is above it while the segment is free: so the
@@ -16,7 +16,7 @@ IsDated Prefree completed incarnation stamp = (incarnation ≤ stamp) × (stamp 
 
 -- what a claim says by itself: no version that was seen is above the completed one, and a seat holds at most one pin
 -- a segment
-abbrev pub Sound : ℕ → ℕ → Claim → Type 0
+abbrev pub Sound : ℕ → ℕ → SeatClaim → Type 0
 Sound n completed (Stands l) = (l.segment < n) × (l.seen ≤ completed)
     × IsDated l.state completed l.incarnation l.stamp
 Sound n completed (Slip s) = Unit {0}
@@ -25,7 +25,7 @@ Sound n completed (Reads r) = ((s : ℕ) → times s r.held ≤ 1) × (r.seen �
 Sound n completed (Checkpoint v) = Unit {0}
 
 -- The words are those of n segments and of the completed version, and the views are the claims of all seats
-pub record Law (n : ℕ) (words : List ℕ) (views : List (List Claim)) : Type 0 where
+pub record Law (n : ℕ) (words : List ℕ) (views : List (List SeatClaim)) : Type 0 where
   pub wide : length words ≡ n + 1
   -- each segment has one standing, and there is one checkpoint's seat
   pub one_standing : (s : ℕ) → s < n → total (stands s) views ≡ 1

@@ -4,8 +4,8 @@ use Rattle.atomic_table.specs.Table.{Me, Step}
 use Rattle.geometry.specs.declared.state.State.TheVariants.{Free, Open}
 use Rattle.words.specs.declared.claim.Life.{Life}
 use Rattle.words.specs.declared.claim.Pins.{Pins}
-use Rattle.words.specs.declared.claim.Claim.{Claim}
-use Rattle.words.specs.declared.claim.Claim.TheVariants.{Stands, Slip, Appends, Reads, Checkpoint}
+use Rattle.words.specs.declared.claim.SeatClaim.{SeatClaim}
+use Rattle.words.specs.declared.claim.SeatClaim.TheVariants.{Stands, Slip, Appends, Reads, Checkpoint}
 use Rattle.geometry.specs.Life.{Stage}
 use Rattle.geometry.specs.Life as life
 use Rattle.geometry.specs.Version.{next_version}
@@ -13,7 +13,7 @@ use Rattle.words.specs.Claims.{times, times_at, life_of, pins_of, version_of}
 
 -- a seat's claims, and the slots that it holds, of which there are none
 abbrev pub SeatState : Type 0
-SeatState = Me (Unit {0}) (List Claim)
+SeatState = Me (Unit {0}) (List SeatClaim)
 
 -- A load reads a word and leaves what it found in the seat's view. These steps alone are loads: `version_loaded` and `counted`
 -- of a standing, each of which raises a count of its own by 1, and `version_seen` and `pins_counted` of a reader's seat, which

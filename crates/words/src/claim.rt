@@ -33,7 +33,7 @@ pub struct Pins {
 }
 
 /// One claim of a seat.
-pub enum Claim {
+pub enum SeatClaim {
     /// The one right to move a segment's state.
     Stands(Life),
     /// The one right to open a free segment.

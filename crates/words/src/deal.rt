@@ -2,13 +2,13 @@
 ghost use Rattle.std.specs.Prelude.{◌≡◌, ℕ, ◌<◌, ◌≤◌, List, [], ◌∷◌, ◌++◌, replicate, IfOk, IsOkUnless};
 ghost use Rattle.words.specs.Claims.{fresh_segments, fresh_pins};
 ghost use Rattle.words.specs.Tokens.{fresh_posts, fresh_slips, fresh_holder};
-ghost use Rattle.words.specs.declared.claim.Claim.TheVariants.{Checkpoint, Reads};
+ghost use Rattle.words.specs.declared.claim.SeatClaim.TheVariants.{Checkpoint, Reads};
 ghost use Rattle.geometry.specs.declared.error.Error.TheVariants.{NoMemory};
 
 use crate::claim::Plan;
 use crate::plays::{Second, WordSeat, WordTable};
 use crate::table::Words;
-use crate::tokens::{CheckpointSeat, FreeSlip, Seat, Standing};
+use crate::tokens::{CheckpointSeat, FreeSlip, SeatToken, Standing};
 use geometry::Error;
 use std::alloc::{AllocError, AllocFailed, Global};
 
@@ -20,7 +20,7 @@ pub struct Dealt {
     /// One a segment, in the order of their numbers, since all are free.
     pub slips: Vec<FreeSlip>,
     /// The readers' seats.
-    pub seats: Vec<Seat>,
+    pub seats: Vec<SeatToken>,
     /// The one seat that advances the completed version.
     pub checkpoint: CheckpointSeat,
 }
@@ -89,7 +89,7 @@ fn deal_seats(
     seat: &mut WordSeat,
     count: u32,
     version: u32,
-    seats: &mut Vec<Seat>,
+    seats: &mut Vec<SeatToken>,
 ) -> Result<(), AllocError>
     requires table { seat.old.table_id ≡ words.now.table }
     requires claims { (seat.old.me.0 ≡ Checkpoint version ∷ replicate count (Reads fresh_pins))
@@ -104,7 +104,7 @@ fn deal_seats(
     let shared = &words.table.shared;
     for index in 0..count {
         let own = shared.split_seat::<Second>(seat);
-        seats.push(Seat { seat: own })?;
+        seats.push(SeatToken { seat: own })?;
     }
     Ok(())
 }

@@ -8,7 +8,7 @@
 //!
 //! Who may take which step is known by tokens without bytes. Each segment has one `Standing`, with which alone its state
 //! is moved; while it is free one `FreeSlip`, with which alone it is opened; and while it is open one `OpenSlip`, with
-//! which alone it is sealed. A reader has a `Seat`, and the checkpoint has the one `CheckpointSeat`.
+//! which alone it is sealed. A reader has a `SeatToken`, and the checkpoint has the one `CheckpointSeat`.
 //!
 //! Every step is one load, `fetch_add` or `fetch_sub`, and no step is tried twice. Nothing here waits, and only
 //! `Words::new` takes memory.
@@ -22,8 +22,10 @@ mod reading;
 mod table;
 mod tokens;
 
-pub use claim::{Claim, Life, Pins};
+pub use claim::{Life, Pins, SeatClaim};
 pub use deal::Dealt;
 pub use moves::{Move, Moved};
 pub use table::Words;
-pub use tokens::{CheckpointSeat, FreeSlip, OpenSlip, Seat, Standing, StoredOpenSlip, StoredSlip};
+pub use tokens::{
+    CheckpointSeat, FreeSlip, OpenSlip, SEATS, SeatToken, Standing, StoredOpenSlip, StoredSlip,
+};

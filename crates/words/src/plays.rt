@@ -1,11 +1,11 @@
 //! The rule of the words, and what each step tells.
-use crate::claim::{Claim, Plan};
+use crate::claim::{Plan, SeatClaim};
 use atomic_table::{Join, Play, Seat, Split, Table, TableRule};
 use std::alloc::Global;
 use std::collections::LinkedList;
 
 /// What a seat knows: its claims. No value of it is made.
-pub type View = LinkedList<Claim>;
+pub type View = LinkedList<SeatClaim>;
 
 /// The rule of the words.
 pub struct WordLaw;
@@ -35,9 +35,9 @@ impl Play<(), View> for LoadsVersion {
 }
 
 /// A standing loads its segment's pins.
-pub struct Counts;
+pub struct PinsLoaded;
 
-impl Play<(), View> for Counts {
+impl Play<(), View> for PinsLoaded {
     ghost use Rattle.words.specs.Steps.{counted};
 
     ghost then = { counted };
@@ -163,9 +163,9 @@ impl Split<View> for Second {
 }
 
 /// All claims go.
-pub struct Whole;
+pub struct AllClaims;
 
-impl Split<View> for Whole {
+impl Split<View> for AllClaims {
     ghost use Rattle.std.specs.Prelude.{[]};
 
     ghost left = { λ v. [] };

@@ -5,14 +5,16 @@ ghost use Rattle.words.specs.Claims.{times, times_at};
 ghost use Rattle.words.specs.Steps.{life_counted, pins_seen, pins_loaded, pins_with, pins_without};
 ghost use Rattle.geometry.specs.declared.state.State.TheVariants.{Free};
 
-use crate::plays::{Agrees, CountsPins, Pinned, Second, SeesVersion, Together, Unpinned, Whole};
+use crate::plays::{
+    Agrees, AllClaims, CountsPins, Pinned, Second, SeesVersion, Together, Unpinned,
+};
 use crate::table::{INCARNATION, STATE, Words};
-use crate::tokens::{Seat, Standing};
+use crate::tokens::{SeatToken, Standing};
 
 impl Words {
     /// The seat pins the segment, which keeps its incarnation until it is unpinned.
     #[tactic(auto, using(crate::proofs::Seats::cuts_and_joins))]
-    pub fn pin(&self, standing: &mut Standing, seat: &mut Seat)
+    pub fn pin(&self, standing: &mut Standing, seat: &mut SeatToken)
         requires table { (standing.old.table ≡ self.now.table) × (seat.old.table ≡ self.now.table) }
         requires state { IsPinnable standing.old.life.state }
         requires once { times standing.old.life.segment seat.old.pins.held ≡ 0 }
@@ -24,7 +26,7 @@ impl Words {
     {
         let word = standing.segment as usize;
         let shared = &self.table.shared;
-        let reader = shared.split_seat::<Whole>(&mut seat.seat);
+        let reader = shared.split_seat::<AllClaims>(&mut seat.seat);
         shared.join_seat::<Together>(&mut standing.seat, reader);
         shared.fetch_add::<Pinned>(&mut standing.seat, word, 1);
         let pinned = shared.split_seat::<Second>(&mut standing.seat);
@@ -32,7 +34,7 @@ impl Words {
     }
 
     /// The seat lets go of its pin on a segment.
-    pub fn unpin(&self, seat: &mut Seat, segment: u32)
+    pub fn unpin(&self, seat: &mut SeatToken, segment: u32)
         requires table { seat.old.table ≡ self.now.table }
         requires within { segment < self.now.segments }
         requires pinned { 0 < times segment seat.old.pins.held }
@@ -45,7 +47,7 @@ impl Words {
     }
 
     /// How many seats pin a segment, as its word shows at this call.
-    pub fn pins(&self, seat: &mut Seat, segment: u32) -> u32
+    pub fn pins(&self, seat: &mut SeatToken, segment: u32) -> u32
         requires table { seat.old.table ≡ self.now.table }
         requires within { segment < self.now.segments }
         ensures load { (seat.new.table ≡ seat.old.table)
@@ -61,7 +63,7 @@ impl Words {
     }
 
     /// The completed version, which this call loads. It is never less than the seat saw before.
-    pub fn seen(&self, seat: &mut Seat) -> u32
+    pub fn seen(&self, seat: &mut SeatToken) -> u32
         requires { seat.old.table ≡ self.now.table }
         ensures load { (seat.new.table ≡ seat.old.table)
             × (seat.new.pins ≡ pins_seen seat.old.pins result) }
@@ -72,7 +74,7 @@ impl Words {
     }
 
     /// The incarnation of a segment that the seat pins, which this call loads: it is the one that the pin was given.
-    pub fn pinned_incarnation(&self, seat: &mut Seat, segment: u32) -> u64
+    pub fn pinned_incarnation(&self, seat: &mut SeatToken, segment: u32) -> u64
         requires table { seat.old.table ≡ self.now.table }
         requires within { segment < self.now.segments }
         requires pinned { 0 < times segment seat.old.pins.held }
@@ -91,7 +93,7 @@ impl Words {
 
     /// A pin that the seat holds has its segment's incarnation, and the segment is not free.
     #[tactic(auto, using(crate::proofs::Seats::cuts_and_joins))]
-    pub fn agree(&self, standing: &mut Standing, seat: &mut Seat)
+    pub fn agree(&self, standing: &mut Standing, seat: &mut SeatToken)
         requires table { (standing.old.table ≡ self.now.table) × (seat.old.table ≡ self.now.table) }
         ensures standing { standing.new ≡ standing.old }
         ensures seat { seat.new ≡ seat.old }
@@ -103,7 +105,7 @@ impl Words {
     {
         let word = standing.segment as usize;
         let shared = &self.table.shared;
-        let reader = shared.split_seat::<Whole>(&mut seat.seat);
+        let reader = shared.split_seat::<AllClaims>(&mut seat.seat);
         shared.join_seat::<Together>(&mut standing.seat, reader);
         shared.load::<Agrees>(&mut standing.seat, word);
         let back = shared.split_seat::<Second>(&mut standing.seat);

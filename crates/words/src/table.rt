@@ -8,8 +8,8 @@ ghost use Rattle.words.specs.Steps.{life_seen, life_loaded};
 ghost use Rattle.geometry.specs.declared.state.State.TheVariants.{Free, Open, Sealed, Prefree};
 
 use crate::plays::{
-    Advances, Counts, Frees, LoadsVersion, Opens, Retires, Seals, Second, ShowsApart, ShowsOpen,
-    Together, Whole, WordTable,
+    Advances, AllClaims, Frees, LoadsVersion, Opens, PinsLoaded, Retires, Seals, Second,
+    ShowsApart, ShowsOpen, Together, WordTable,
 };
 use crate::tokens::{CheckpointSeat, FreeSlip, OpenSlip, Standing};
 use std::marker::Model;
@@ -65,7 +65,10 @@ impl Words {
         ensures few { result ≤ 64 }
     {
         let word = standing.segment as usize;
-        let found = self.table.shared.load::<Counts>(&mut standing.seat, word);
+        let found = self
+            .table
+            .shared
+            .load::<PinsLoaded>(&mut standing.seat, word);
         (found % STATE) as u32
     }
 
@@ -109,7 +112,7 @@ impl Words {
     {
         let word = standing.segment as usize;
         let shared = &self.table.shared;
-        let appender = shared.split_seat::<Whole>(&mut slip.seat);
+        let appender = shared.split_seat::<AllClaims>(&mut slip.seat);
         shared.join_seat::<Together>(&mut standing.seat, appender);
         shared.load::<ShowsOpen>(&mut standing.seat, word);
         slip.seat = shared.split_seat::<Second>(&mut standing.seat);
@@ -126,7 +129,7 @@ impl Words {
     {
         let word = self.segments as usize;
         let shared = &self.table.shared;
-        let second = shared.split_seat::<Whole>(&mut other.seat);
+        let second = shared.split_seat::<AllClaims>(&mut other.seat);
         shared.join_seat::<Together>(&mut one.seat, second);
         shared.load::<ShowsApart>(&mut one.seat, word);
         other.seat = shared.split_seat::<Second>(&mut one.seat);

@@ -19,7 +19,7 @@ impl Model for Standing {
 
     ghost use Rattle.std.specs.Prelude.{◌≡◌, ◌+◌, ◌<◌, [], ◌∷◌};
     ghost use Rattle.words.specs.Claims.{life_of};
-    ghost use Rattle.words.specs.declared.claim.Claim.TheVariants.{Stands};
+    ghost use Rattle.words.specs.declared.claim.SeatClaim.TheVariants.{Stands};
 
     ghost view = { λ s. record { table = s.seat.table_id; life = life_of s.seat.me.0 } };
 
@@ -40,7 +40,7 @@ impl Model for FreeSlip {
     ghost Value = { FreeSegment };
 
     ghost use Rattle.std.specs.Prelude.{◌≡◌, ◌+◌, ◌<◌, [], ◌∷◌};
-    ghost use Rattle.words.specs.declared.claim.Claim.TheVariants.{Slip};
+    ghost use Rattle.words.specs.declared.claim.SeatClaim.TheVariants.{Slip};
 
     ghost view = { λ s. record { table = s.seat.table_id; segment = s.segment } };
 
@@ -61,7 +61,7 @@ impl Model for StoredSlip {
     ghost Value = { FreeSegment };
 
     ghost use Rattle.std.specs.Prelude.{◌≡◌, ◌+◌, ◌<◌, [], ◌∷◌};
-    ghost use Rattle.words.specs.declared.claim.Claim.TheVariants.{Slip};
+    ghost use Rattle.words.specs.declared.claim.SeatClaim.TheVariants.{Slip};
 
     ghost view = { λ s. record { table = s.seat.table_id; segment = s.segment } };
 
@@ -81,7 +81,7 @@ impl Model for OpenSlip {
     ghost Value = { OpenSegment };
 
     ghost use Rattle.std.specs.Prelude.{◌≡◌, [], ◌∷◌};
-    ghost use Rattle.words.specs.declared.claim.Claim.TheVariants.{Appends};
+    ghost use Rattle.words.specs.declared.claim.SeatClaim.TheVariants.{Appends};
 
     ghost view = { λ s. record { table = s.seat.table_id; segment = s.segment } };
 
@@ -101,27 +101,30 @@ impl Model for StoredOpenSlip {
     ghost Value = { OpenSegment };
 
     ghost use Rattle.std.specs.Prelude.{◌≡◌, [], ◌∷◌};
-    ghost use Rattle.words.specs.declared.claim.Claim.TheVariants.{Appends};
+    ghost use Rattle.words.specs.declared.claim.SeatClaim.TheVariants.{Appends};
 
     ghost view = { λ s. record { table = s.seat.table_id; segment = s.segment } };
 
     ghost invariant = { λ s. (s.seat.me.0 ≡ Appends s.segment ∷ []) × (s.seat.me.1 ≡ []) };
 }
 
+/// The most seats that readers have.
+pub const SEATS: u32 = 64;
+
 /// A reader's seat, which holds at most one pin a segment. The pins of a seat that is dropped stay for ever.
 #[derive(Drop)]
-pub struct Seat {
+pub struct SeatToken {
     pub(crate) seat: WordSeat,
 }
 
-impl Model for Seat {
+impl Model for SeatToken {
     ghost use Rattle.words.specs.Tokens.{Holder};
 
     ghost Value = { Holder };
 
     ghost use Rattle.std.specs.Prelude.{◌≡◌, [], ◌∷◌};
     ghost use Rattle.words.specs.Claims.{pins_of};
-    ghost use Rattle.words.specs.declared.claim.Claim.TheVariants.{Reads};
+    ghost use Rattle.words.specs.declared.claim.SeatClaim.TheVariants.{Reads};
 
     ghost view = { λ s. record { table = s.seat.table_id; pins = pins_of s.seat.me.0 } };
 
@@ -142,7 +145,7 @@ impl Model for CheckpointSeat {
 
     ghost use Rattle.std.specs.Prelude.{◌≡◌, [], ◌∷◌};
     ghost use Rattle.words.specs.Claims.{version_of};
-    ghost use Rattle.words.specs.declared.claim.Claim.TheVariants.{Checkpoint};
+    ghost use Rattle.words.specs.declared.claim.SeatClaim.TheVariants.{Checkpoint};
 
     ghost view = { λ s. record { table = s.seat.table_id; version = version_of s.seat.me.0 } };
 

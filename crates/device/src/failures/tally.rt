@@ -6,29 +6,29 @@ use std::marker::Model;
 
 /// A number that only proofs read.
 #[derive(Drop)]
-pub struct Tally {
+pub struct FailureTally {
     pub ghost count: { ℕ },
 }
 
-impl Model for Tally {
+impl Model for FailureTally {
     ghost also_owns = { λ _. ftrue };
 }
 
 // It owns nothing.
-unsafe impl Send for Tally {}
+unsafe impl Send for FailureTally {}
 
-impl Tally {
+impl FailureTally {
     /// Nothing is counted.
-    pub fn zero() -> Tally
+    pub fn zero() -> FailureTally
         ensures { result.count ≡ 0 }
     {
-        Tally {}
+        FailureTally {}
     }
 
     /// One more.
-    pub fn next(_before: &Tally) -> Tally
+    pub fn next(_before: &FailureTally) -> FailureTally
         ensures { result.count ≡ _before.now.count + 1 }
     {
-        Tally {}
+        FailureTally {}
     }
 }

@@ -3,7 +3,7 @@ ghost use Rattle.std.specs.Prelude.{◌≡◌, ◌≤◌, ◌+◌, length};
 ghost use Rattle.device.specs.Disk.{Holds, Only};
 ghost use Rattle.device.specs.Outcomes.{Outcome, Since, seen_is_outcome, outcome_since, since_now};
 
-use crate::log::Log;
+use crate::log::History;
 use crate::{DeviceError, Meta};
 
 /// A call that changes what a crash may leave.
@@ -22,7 +22,7 @@ pub enum Call {
 pub struct MemMeta {
     pub bytes: Vec<u8>,
     /// The calls so far, the latest first, and beside each the bytes from before it.
-    pub calls: Log<Vec<u8>, Call>,
+    pub calls: History<Vec<u8>, Call>,
 }
 
 impl MemMeta {
@@ -33,7 +33,7 @@ impl MemMeta {
     {
         MemMeta {
             bytes,
-            calls: Log::new(),
+            calls: History::new(),
         }
     }
 

@@ -1,7 +1,7 @@
 //! Bytes are put behind those that a file has.
-ghost use Rattle.std.specs.Prelude.{◌≡◌, ◌⊎◌, IfOk, IfErr};
+ghost use Rattle.std.specs.Prelude.{◌≡◌, IfOk, IfErr};
+ghost use Rattle.geometry.specs.Refusals.{IsOfRead};
 ghost use Rattle.geometry.specs.Shape.{block_bytes};
-ghost use Rattle.geometry.specs.declared.error.Error.TheVariants.{Device, NoMemory};
 ghost use Rattle.named_files.specs.Files.{IsRead};
 
 use crate::content::read_all;
@@ -12,7 +12,7 @@ use file_cells::FilePass;
 use flash_volume::{Rights, Work};
 use geometry::Error;
 use named_folder::row_at;
-use named_reading::Refusal;
+use named_reading::NameRefusal;
 use rights_permits::VolumeName;
 use std::alloc::Global;
 use std::sync::Wait;
@@ -34,7 +34,7 @@ impl<'a, M: Meta, B: Block + Drop> Work<M, B> for Append<'a> {
     ghost use Rattle.geometry.specs.Shape.{block_bytes};
     ghost use Rattle.named_files.specs.Files.{IsRead, WasPut};
 
-    type Output = Result<u32, Refusal>;
+    type Output = Result<u32, NameRefusal>;
 
     // The file of the name has the bytes behind those that it had, and nothing else changes; or nothing does.
     ghost post = { λ append geometry before output after. MatchResult output
@@ -50,7 +50,7 @@ impl<'a, M: Meta, B: Block + Drop> Work<M, B> for Append<'a> {
         alloc: Global,
         volume: &Volume<V, M, B>,
         rights: &mut Rights<V>,
-    ) -> Result<Result<u32, Refusal>, Error> {
+    ) -> Result<Result<u32, NameRefusal>, Error> {
         let passes = rights.passes.as_slice();
         let mut bytes = match read_named(rt, alloc, volume, passes, self.name)? {
             Ok(bytes) => bytes,
@@ -74,20 +74,20 @@ fn read_named<V: VolumeName, M: Meta, B: Block + Drop, R: Wait>(
     volume: &Volume<V, M, B>,
     passes: &[FilePass<V>],
     name: &str,
-) -> Result<Result<Vec<u8>, Refusal>, Error>
+) -> Result<Result<Vec<u8>, NameRefusal>, Error>
     ensures read { IfOk result (λ found. IfOk found (λ bytes. IsRead (block_bytes V.Numbers.geometry.shape) name.now bytes.items passes.now)) }
-    ensures error { IfErr result (λ error. (error ≡ NoMemory) ⊎ (error ≡ Device)) }
+    ensures error { IfErr result IsOfRead }
 {
     let Some(entries) = read_folder(rt, alloc, volume, passes)? else {
-        return Ok(Err(Refusal::NoFolder));
+        return Ok(Err(NameRefusal::NoFolder));
     };
     let held = entries.as_slice();
     let Some(row) = row_at(held, name) else {
-        return Ok(Err(Refusal::NoSuchFile));
+        return Ok(Err(NameRefusal::NoSuchFile));
     };
     let entry = &held[row];
     let Some(place) = place_of(passes, entry.number) else {
-        return Ok(Err(Refusal::LostFile));
+        return Ok(Err(NameRefusal::LostFile));
     };
     let mut bytes = read_all(rt, alloc, volume, &passes[place])?;
     bytes.truncate(entry.bytes as usize);

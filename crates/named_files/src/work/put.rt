@@ -9,14 +9,14 @@ ghost use Rattle.named_folder.specs.Names.{IsRowOf, IsRowPlace};
 ghost use Rattle.named_folder.specs.Rows.{row_of};
 
 use crate::content::{Blocks, write_all};
-use crate::room::{Taken, has_room};
+use crate::room::{RoomTaken, has_room};
 use crate::walk::{place_of, read_rows, write_folder};
 use device::{Block, Meta};
 use file_cells::FilePass;
 use flash_volume::{Rights, Work};
 use geometry::{Error, Kind};
-use named_folder::{Entry, FOLDER, encode, is_name, put_row, row_at};
-use named_reading::Refusal;
+use named_folder::{FOLDER, FolderRow, encode, is_name, put_row, row_at};
+use named_reading::NameRefusal;
 use rights_permits::VolumeName;
 use std::alloc::Global;
 use std::sync::Wait;
@@ -42,7 +42,7 @@ impl<'a, M: Meta, B: Block + Drop> Work<M, B> for Put<'a> {
     ghost use Rattle.geometry.specs.Shape.{block_bytes};
     ghost use Rattle.named_files.specs.Files.{WasPut};
 
-    type Output = Result<u32, Refusal>;
+    type Output = Result<u32, NameRefusal>;
 
     // The file of the name has the bytes, and nothing else changes; or nothing does.
     ghost post = { λ put geometry before output after. MatchResult output
@@ -57,7 +57,7 @@ impl<'a, M: Meta, B: Block + Drop> Work<M, B> for Put<'a> {
         alloc: Global,
         volume: &Volume<V, M, B>,
         rights: &mut Rights<V>,
-    ) -> Result<Result<u32, Refusal>, Error> {
+    ) -> Result<Result<u32, NameRefusal>, Error> {
         let mut entries = match read_rows(rt, alloc, volume, rights.passes.as_slice())? {
             Ok(entries) => entries,
             Err(refusal) => return Ok(Err(refusal)),
@@ -81,9 +81,9 @@ pub(crate) fn enter_file<V: VolumeName, M: Meta, B: Block + Drop, R: Wait>(
     alloc: Global,
     volume: &Volume<V, M, B>,
     passes: &mut Vec<FilePass<V>>,
-    entries: &mut Vec<Entry>,
+    entries: &mut Vec<FolderRow>,
     put: Put<'_>,
-) -> Result<Result<u32, Refusal>, Error>
+) -> Result<Result<u32, NameRefusal>, Error>
     requires rows { All IsRow (map row_of entries.old.items) }
     requires folder { IsThere passes.old.items 1 }
     requires there { All (λ row. IsThere passes.old.items row.number) (map row_of entries.old.items) }
@@ -93,16 +93,16 @@ pub(crate) fn enter_file<V: VolumeName, M: Meta, B: Block + Drop, R: Wait>(
     ensures error { IfErr result IsOfCall }
 {
     if !is_name(put.name) {
-        return Ok(Err(Refusal::BadName));
+        return Ok(Err(NameRefusal::BadName));
     }
     let row = row_at(entries.as_slice(), put.name);
     if row.is_some() && !put.replaces {
-        return Ok(Err(Refusal::NameTaken));
+        return Ok(Err(NameRefusal::NameTaken));
     }
     let held = entries.as_slice();
     let bytes = put.bytes.len() as u64;
     if !fits(rt, alloc, volume, passes.as_slice(), held, row, bytes)? {
-        return Ok(Err(Refusal::NoRoom));
+        return Ok(Err(NameRefusal::NoRoom));
     }
     let number = write_row(rt, alloc, volume, passes, held, row, put.bytes, put.now)?;
     put_row(alloc, entries, row, put.name, number, bytes)?;
@@ -116,7 +116,7 @@ fn fits<V: VolumeName, M: Meta, B: Block + Drop, R: Wait>(
     alloc: Global,
     volume: &Volume<V, M, B>,
     passes: &[FilePass<V>],
-    entries: &[Entry],
+    entries: &[FolderRow],
     row: Option<usize>,
     bytes: u64,
 ) -> Result<bool, Error>
@@ -129,7 +129,7 @@ fn fits<V: VolumeName, M: Meta, B: Block + Drop, R: Wait>(
     };
     // Nodes that were never written are valid nowhere yet, nor are rows.
     let unwritten = volume.checkpoint_room().marked;
-    let taken = Taken {
+    let taken = RoomTaken {
         valid: volume.valid_blocks(rt).saturating_add(unwritten),
         folder: blocks_of(passes, FOLDER).unwrap_or(0),
         file,
@@ -153,7 +153,7 @@ fn write_row<V: VolumeName, M: Meta, B: Block + Drop, R: Wait>(
     alloc: Global,
     volume: &Volume<V, M, B>,
     passes: &mut Vec<FilePass<V>>,
-    entries: &[Entry],
+    entries: &[FolderRow],
     row: Option<usize>,
     bytes: &[u8],
     now: u64,

@@ -13,8 +13,8 @@ use device::{Block, Meta};
 use file_cells::FilePass;
 use flash_volume::{Rights, Work};
 use geometry::Error;
-use named_folder::Entry;
-use named_reading::Refusal;
+use named_folder::FolderRow;
+use named_reading::NameRefusal;
 use rights_permits::VolumeName;
 use std::alloc::Global;
 use std::cell::Cell;
@@ -47,7 +47,7 @@ impl<'a, 'b, 'c, M: Meta, B: Block + Drop> Work<M, B> for PutAll<'a, 'b, 'c> {
     ghost use Rattle.geometry.specs.Shape.{block_bytes};
     ghost use Rattle.named_files.specs.Many.{WerePut};
 
-    type Output = Result<(), Refusal>;
+    type Output = Result<(), NameRefusal>;
 
     // The files are put, one after the other, and nothing else changes; or those in front of the one that was refused.
     ghost post = { λ put geometry before output after. MatchResult output
@@ -62,7 +62,7 @@ impl<'a, 'b, 'c, M: Meta, B: Block + Drop> Work<M, B> for PutAll<'a, 'b, 'c> {
         alloc: Global,
         volume: &Volume<V, M, B>,
         rights: &mut Rights<V>,
-    ) -> Result<Result<(), Refusal>, Error> {
+    ) -> Result<Result<(), NameRefusal>, Error> {
         let mut entries = match read_rows(rt, alloc, volume, rights.passes.as_slice())? {
             Ok(entries) => entries,
             Err(refusal) => return Ok(Err(refusal)),
@@ -81,7 +81,7 @@ impl<'a, 'b, 'c, M: Meta, B: Block + Drop> Work<M, B> for PutAll<'a, 'b, 'c> {
 #[derive(Drop)]
 struct Entered {
     files: usize,
-    outcome: Result<(), Refusal>,
+    outcome: Result<(), NameRefusal>,
 }
 
 // Puts files, and leaves the folder's file as it is: it is to be written from the rows.
@@ -90,7 +90,7 @@ fn enter_all<V: VolumeName, M: Meta, B: Block + Drop, R: Wait>(
     alloc: Global,
     volume: &Volume<V, M, B>,
     passes: &mut Vec<FilePass<V>>,
-    entries: &mut Vec<Entry>,
+    entries: &mut Vec<FolderRow>,
     work: PutAll<'_, '_, '_>,
 ) -> Result<Entered, Error>
     requires rows { All IsRow (map row_of entries.old.items) }

@@ -3,8 +3,8 @@ use crate::walk::read_rows;
 use device::{Block, Meta};
 use flash_volume::{Rights, Work};
 use geometry::{Error, Geometry};
-use named_folder::Entry;
-use named_reading::Refusal;
+use named_folder::FolderRow;
+use named_reading::NameRefusal;
 use rights_permits::VolumeName;
 use std::alloc::Global;
 use std::sync::Wait;
@@ -13,7 +13,7 @@ use volume::Volume;
 /// The rows of a volume's folder, and the volume's numbers.
 #[derive(Drop)]
 pub struct FolderRows {
-    pub entries: Vec<Entry>,
+    pub entries: Vec<FolderRow>,
     pub geometry: Geometry,
 }
 
@@ -28,7 +28,7 @@ impl<M: Meta, B: Block + Drop> Work<M, B> for ReadFolder {
     ghost use Rattle.named_files.specs.Files.{HasFolder};
     ghost use Rattle.named_folder.specs.Rows.{row_of};
 
-    type Output = Result<FolderRows, Refusal>;
+    type Output = Result<FolderRows, NameRefusal>;
 
     // The rows are the folder's, the numbers the volume's, and nothing changes.
     ghost post = { λ work geometry before output after.
@@ -43,7 +43,7 @@ impl<M: Meta, B: Block + Drop> Work<M, B> for ReadFolder {
         alloc: Global,
         volume: &Volume<V, M, B>,
         rights: &mut Rights<V>,
-    ) -> Result<Result<FolderRows, Refusal>, Error> {
+    ) -> Result<Result<FolderRows, NameRefusal>, Error> {
         let passes = rights.passes.as_slice();
         let entries = match read_rows(rt, alloc, volume, passes)? {
             Ok(entries) => entries,

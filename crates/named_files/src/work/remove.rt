@@ -10,8 +10,8 @@ use device::{Block, Meta};
 use file_cells::FilePass;
 use flash_volume::{Rights, Work};
 use geometry::Error;
-use named_folder::{Entry, take_row};
-use named_reading::Refusal;
+use named_folder::{FolderRow, take_row};
+use named_reading::NameRefusal;
 use rights_permits::VolumeName;
 use std::alloc::Global;
 use std::sync::Wait;
@@ -31,7 +31,7 @@ impl<'a, M: Meta, B: Block + Drop> Work<M, B> for Remove<'a> {
     ghost use Rattle.geometry.specs.Shape.{block_bytes};
     ghost use Rattle.named_files.specs.Files.{WasRemoved};
 
-    type Output = Result<(), Refusal>;
+    type Output = Result<(), NameRefusal>;
 
     // The name is gone and its file too, and no other file changes; or nothing does.
     ghost post = { λ remove geometry before output after. MatchResult output
@@ -46,7 +46,7 @@ impl<'a, M: Meta, B: Block + Drop> Work<M, B> for Remove<'a> {
         alloc: Global,
         volume: &Volume<V, M, B>,
         rights: &mut Rights<V>,
-    ) -> Result<Result<(), Refusal>, Error> {
+    ) -> Result<Result<(), NameRefusal>, Error> {
         let entries = match take_named(rt, alloc, volume, &mut rights.passes, self.name)? {
             Ok(entries) => entries,
             Err(refusal) => return Ok(Err(refusal)),
@@ -70,7 +70,7 @@ impl<'a, M: Meta, B: Block + Drop> Work<M, B> for DeleteFile<'a> {
     ghost use Rattle.geometry.specs.Shape.{block_bytes};
     ghost use Rattle.named_files.specs.Files.{WasDeleted};
 
-    type Output = Result<(), Refusal>;
+    type Output = Result<(), NameRefusal>;
 
     // It fails only as a call on the volume may.
     ghost failed = { λ work geometry before error. IsOfCall error };
@@ -86,7 +86,7 @@ impl<'a, M: Meta, B: Block + Drop> Work<M, B> for DeleteFile<'a> {
         alloc: Global,
         volume: &Volume<V, M, B>,
         rights: &mut Rights<V>,
-    ) -> Result<Result<(), Refusal>, Error> {
+    ) -> Result<Result<(), NameRefusal>, Error> {
         match take_named(rt, alloc, volume, &mut rights.passes, self.name)? {
             Ok(_left) => Ok(Ok(())),
             Err(refusal) => Ok(Err(refusal)),
@@ -101,7 +101,7 @@ fn take_named<V: VolumeName, M: Meta, B: Block + Drop, R: Wait>(
     volume: &Volume<V, M, B>,
     passes: &mut Vec<FilePass<V>>,
     name: &str,
-) -> Result<Result<Vec<Entry>, Refusal>, Error>
+) -> Result<Result<Vec<FolderRow>, NameRefusal>, Error>
     ensures taken { IfOk result (λ answer. IfOk answer (λ left. WasTaken (block_bytes V.Numbers.geometry.shape) name.now passes.old.items passes.new.items (map row_of left.items))) }
     ensures refused { IfOk result (λ answer. IfErr answer (λ refusal. passes.new ≡ passes.old)) }
     ensures error { IfErr result IsOfCall }

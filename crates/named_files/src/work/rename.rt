@@ -4,7 +4,7 @@ use device::{Block, Meta};
 use flash_volume::{Rights, Work};
 use geometry::Error;
 use named_folder::{is_name, rename_row, row_at};
-use named_reading::Refusal;
+use named_reading::NameRefusal;
 use rights_permits::VolumeName;
 use std::alloc::Global;
 use std::sync::Wait;
@@ -25,7 +25,7 @@ impl<'a, M: Meta, B: Block + Drop> Work<M, B> for Rename<'a> {
     ghost use Rattle.geometry.specs.Shape.{block_bytes};
     ghost use Rattle.named_files.specs.Files.{WasRenamed};
 
-    type Output = Result<(), Refusal>;
+    type Output = Result<(), NameRefusal>;
 
     // The file has the new name, and no file changes but the folder; or nothing does.
     ghost post = { λ rename geometry before output after. MatchResult output
@@ -40,9 +40,9 @@ impl<'a, M: Meta, B: Block + Drop> Work<M, B> for Rename<'a> {
         alloc: Global,
         volume: &Volume<V, M, B>,
         rights: &mut Rights<V>,
-    ) -> Result<Result<(), Refusal>, Error> {
+    ) -> Result<Result<(), NameRefusal>, Error> {
         if !is_name(self.to) {
-            return Ok(Err(Refusal::BadName));
+            return Ok(Err(NameRefusal::BadName));
         }
         let passes = rights.passes.as_slice();
         let found = match find_named(rt, alloc, volume, passes, self.name)? {
@@ -51,7 +51,7 @@ impl<'a, M: Meta, B: Block + Drop> Work<M, B> for Rename<'a> {
         };
         let NamedRow { mut entries, row } = found;
         if row_at(entries.as_slice(), self.to).is_some() {
-            return Ok(Err(Refusal::NameTaken));
+            return Ok(Err(NameRefusal::NameTaken));
         }
         rename_row(alloc, entries.as_mut_slice(), row, self.to)?;
         let passes = rights.passes.as_mut_slice();

@@ -10,13 +10,13 @@ use crate::places::{no_items, place_passes};
 use device::{Block, Meta};
 use flash_volume::Lent;
 use geometry::Error;
-use program_script::Task;
+use program_script::WorkerTask;
 use rights_permits::VolumeName;
 
 impl<'a, V: VolumeName, M: Meta, B: Block + Drop> Session<'a, V, M, B> {
     /// A session over the same volume at the same time, to which the passes of the files and the readers move that these tasks
     /// name, where they are there. The only error is NoMemory, and then nothing has moved.
-    pub fn take_share(&mut self, tasks: &[Task]) -> Result<Session<'a, V, M, B>, Error>
+    pub fn take_share(&mut self, tasks: &[WorkerTask]) -> Result<Session<'a, V, M, B>, Error>
         ensures share { IfOk result (λ share. IsShare tasks.now self.old share self.new) }
         ensures error { IfErr result (λ error. error ≡ NoMemory) }
         ensures err { OnErr result (self.new ≡ self.old) }

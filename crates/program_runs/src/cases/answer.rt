@@ -1,5 +1,5 @@
 //! What the program `f2fsim` tells of an input.
-use flash_volume::{Packing, Threading};
+use flash_volume::{HoleReuse, Packing};
 use program_run::{OpenGate, Rules, check_image, run_script, tell_files};
 use program_trials::Input;
 use std::alloc::Global;
@@ -14,7 +14,7 @@ use std::thread::Threads;
 pub enum Question {
     Check,
     Files,
-    Script(Threading),
+    Script(HoleReuse),
 }
 
 /// What is told of an input: what goes to standard output as it is, what goes to standard error behind a bar, and a status that is
@@ -31,7 +31,7 @@ pub fn answer<R: Threads + Wait + Sync>(
     let status = match question {
         Question::Check => check_image(alloc, input, &mut out, &mut errors),
         Question::Files => tell_files(rt, alloc, input, &mut out, &mut errors),
-        Question::Script(threading) => run_script(
+        Question::Script(hole_reuse) => run_script(
             rt,
             alloc,
             input,
@@ -40,7 +40,7 @@ pub fn answer<R: Threads + Wait + Sync>(
             Some(saved),
             Rules {
                 packing: Packing::Slots,
-                threading,
+                hole_reuse,
             },
             &OpenGate,
         ),

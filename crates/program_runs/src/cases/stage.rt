@@ -3,7 +3,7 @@ use crate::cases::answer::{Question, answer};
 use crate::cases::turns::run_in_turns;
 use crate::lawful::in_pages;
 use crate::mounting::mount_bytes;
-use flash_volume::{Leave, Threading};
+use flash_volume::{HoleReuse, Leave};
 use image_reading::ReadFault;
 use program_trials::{
     End, ImageFile, Input, number, push_lines, tell_call, tell_script, text_bytes,
@@ -19,7 +19,7 @@ use std::thread::Threads;
 pub struct Stage {
     alloc: Global,
     script: String,
-    threading: Threading,
+    hole_reuse: HoleReuse,
     image: ImageFile,
     told: Vec<u8>,
 }
@@ -29,7 +29,7 @@ impl Stage {
         Stage {
             alloc,
             script: String::new(alloc),
-            threading: Threading::Whenever,
+            hole_reuse: HoleReuse::Always,
             image: ImageFile::new(alloc),
             told: Vec::new(alloc),
         }
@@ -68,7 +68,7 @@ impl Stage {
         self.run(rt, 1)?;
         match verb {
             "careful" => {
-                self.threading = Threading::WhileReserveIsFull;
+                self.hole_reuse = HoleReuse::WhileReserveIsFull;
                 Ok(())
             }
             "run" => self.run_text(rt, rest),
@@ -94,9 +94,9 @@ impl Stage {
             return Ok(());
         }
         let script = self.script.as_str();
-        let (first, image) = answer_script(rt, self.alloc, self.threading, script.as_bytes())?;
+        let (first, image) = answer_script(rt, self.alloc, self.hole_reuse, script.as_bytes())?;
         for _ in 1..times {
-            let (next, _) = answer_script(rt, self.alloc, self.threading, script.as_bytes())?;
+            let (next, _) = answer_script(rt, self.alloc, self.hole_reuse, script.as_bytes())?;
             if next.as_slice() != first.as_slice() {
                 self.told.extend_from_slice(next.as_slice())?;
             }
@@ -118,7 +118,7 @@ impl Stage {
     // Runs a text as a script.
     fn run_text<R: Threads + Wait + Sync>(&mut self, rt: &R, text: &str) -> io::Result<()> {
         let text = text_bytes(self.alloc, text)?;
-        let (told, image) = answer_script(rt, self.alloc, self.threading, text.as_slice())?;
+        let (told, image) = answer_script(rt, self.alloc, self.hole_reuse, text.as_slice())?;
         self.told.extend_from_slice(told.as_slice())?;
         self.image.bytes = image;
         Ok(())
@@ -176,7 +176,7 @@ impl Stage {
             _ => io::ErrorKind::PermissionDenied,
         };
         self.ask(rt, Question::Check, End::Failed(kind))?;
-        self.ask(rt, Question::Script(self.threading), End::Failed(kind))
+        self.ask(rt, Question::Script(self.hole_reuse), End::Failed(kind))
     }
 }
 
@@ -184,7 +184,7 @@ impl Stage {
 fn answer_script<R: Threads + Wait + Sync>(
     rt: &R,
     alloc: Global,
-    threading: Threading,
+    hole_reuse: HoleReuse,
     script: &[u8],
 ) -> io::Result<(Vec<u8>, Vec<u8>)> {
     let mut saved = Vec::new(alloc);
@@ -192,7 +192,7 @@ fn answer_script<R: Threads + Wait + Sync>(
     let told = answer(
         rt,
         alloc,
-        Question::Script(threading),
+        Question::Script(hole_reuse),
         &mut input,
         &mut saved,
     )?;

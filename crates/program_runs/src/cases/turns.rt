@@ -1,5 +1,5 @@
 //! Scripts through a gate that holds each of two workers before its second call until the other's first one has answered.
-use flash_volume::{Packing, Threading};
+use flash_volume::{HoleReuse, Packing};
 use program_run::{Gate, Rules, run_script};
 use std::alloc::Global;
 use std::io::Write;
@@ -101,7 +101,7 @@ fn run_once<R: Threads + Wait + Sync>(rt: &R, alloc: Global, script: &[u8]) -> i
         None,
         Rules {
             packing: Packing::Slots,
-            threading: Threading::Whenever,
+            hole_reuse: HoleReuse::Always,
         },
         &turns,
     );

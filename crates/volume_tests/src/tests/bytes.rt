@@ -1,5 +1,5 @@
 //! Bytes of a file at any place, against those of a list.
-use byte_files::{append, read_at, truncate, write_at};
+use byte_files::Open;
 use flash_volume::{
     Block, Error, FilePass, Geometry, Kind, Leave, MemDevice, Meta, Rights, Shape, Volume,
     VolumeName, Work, work_on_new,
@@ -86,20 +86,20 @@ fn act_on<V: VolumeName, M: Meta, B: Block + Drop, R: Wait>(
         Act::Write(at, size) => {
             let bytes = some_bytes(alloc, size, first)?;
             lay(list, at, bytes.as_slice())?;
-            write_at(rt, alloc, volume, pass, at as u64, bytes.as_slice(), 0).map_err(
-                |fault| fault.1,
-            )
+            Open { rt, alloc, volume }
+                .write_at(pass, at as u64, bytes.as_slice(), 0)
+                .map_err(|fault| fault.1)
         }
         Act::Append(size) => {
             let bytes = some_bytes(alloc, size, first)?;
             list.extend_from_slice(bytes.as_slice())?;
-            append(rt, alloc, volume, pass, count as u64, bytes.as_slice(), 0).map_err(
-                |fault| fault.1,
-            )
+            Open { rt, alloc, volume }
+                .append(pass, count as u64, bytes.as_slice(), 0)
+                .map_err(|fault| fault.1)
         }
         Act::Truncate(left) => {
             list.resize(left, 0)?;
-            truncate(rt, alloc, volume, pass, left as u64, 0)
+            Open { rt, alloc, volume }.truncate(pass, left as u64, 0)
         }
     }
 }
@@ -140,7 +140,7 @@ fn has<V: VolumeName, M: Meta, B: Block + Drop, R: Wait>(
     count: usize,
 ) -> Result<bool, Error> {
     let mut out = vec![in alloc; 0xffu8; count]?;
-    read_at(rt, alloc, volume, pass, at as u64, out.as_mut_slice())?;
+    Open { rt, alloc, volume }.read_at(pass, at as u64, out.as_mut_slice())?;
     for (index, byte) in out.as_slice().iter().enumerate() {
         if *byte != list.get(at.saturating_add(index)).copied().unwrap_or(0) {
             return Ok(false);

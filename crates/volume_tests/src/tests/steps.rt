@@ -4,8 +4,8 @@ ghost use Rattle.device.specs.Parts.{IsBlockRun};
 
 use super::watched::Watch;
 use flash_volume::{
-    Block, Done, Error, Fault, Geometry, Kind, Leave, MemBlock, MemDevice, MemMeta, Meta, Parts,
-    Policy, Rights, Shape, Stage, Volume, VolumeName, Work, work_on_new,
+    Block, Done, Error, Geometry, Kind, Leave, LeaveFault, MemBlock, MemDevice, MemMeta, Meta,
+    Parts, Policy, Rights, Shape, Stage, Volume, VolumeName, Work, work_on_new,
 };
 use std::alloc::Global;
 use std::process::Abort;
@@ -134,7 +134,7 @@ pub(crate) fn made<R: Wait>(
 /// The device that a refusal at this stage, with this error, hands back.
 pub(crate) fn refused<M: Meta, B: Block + Drop, O: Drop>(
     rt: &impl Abort,
-    done: Result<Done<M, B, O>, Fault<M, B>>,
+    done: Result<Done<M, B, O>, LeaveFault<M, B>>,
     wanted: (Stage, Error),
 ) -> Parts<M, B>
     requires { IfErr done (λ fault. (bytes : ℕ) × IsBlockRun B.address_of B.content_of bytes 1 fault.parts.blocks.items) }

@@ -8,7 +8,7 @@ use Rattle.geometry.specs.Weights.{weigh}
 use Rattle.geometry.proofs.Weighing.{weigh-at}
 use Rattle.geometry.specs.Address.{address_of}
 use Rattle.geometry.specs.declared.owner.Mark.{Mark}
-use Rattle.rights_books.specs.declared.claim.Entry.{Entry}
+use Rattle.rights_books.specs.declared.claim.TakenNumber.{TakenNumber}
 use Rattle.rights_books.specs.declared.claim.Copied.{Copied}
 use Rattle.rights_books.specs.Accounts.{CensusView, FileView}
 use Rattle.rights_books.specs.Weights.{segment_copy, file_copy, shard_copy, marks_copied, tickets_copied, taken_copied, tokens_copied, of_entry}
@@ -96,8 +96,8 @@ returns-clause-empty g c =
     let no_shards = weigh_nothing shards in
     let no_files = weigh_nothing files in
     let lodged = weigh_none (λ (v : FileView). weigh (λ (m : Mark). 1) v.tickets) files (λ i v got. ap (weigh (λ (m : Mark). 1)) (c.requires.files i v got).no_tickets) in
-    let owned = weigh_none (λ (v : FileView). weigh (λ (e : Entry). 1) v.tokens) files (λ i v got. ap (weigh (λ (e : Entry). 1)) (c.requires.files i v got).no_tokens) in
-    let taken : weigh (λ (s : ShardNodes). weigh (λ (e : Entry). 1) s.taken) shards ≡ 0 =
+    let owned = weigh_none (λ (v : FileView). weigh (λ (e : TakenNumber). 1) v.tokens) files (λ i v got. ap (weigh (λ (e : TakenNumber). 1)) (c.requires.files i v got).no_tokens) in
+    let taken : weigh (λ (s : ShardNodes). weigh (λ (e : TakenNumber). 1) s.taken) shards ≡ 0 =
     let a = c.learn_segments.ensures.audit.others (taken_copied (λ e. 1)) (λ n marks. refl) in
     let b = c.learn_shards.ensures.audit.copies (taken_copied (λ e. 1)) in
     let d = c.learn_files.ensures.copies (taken_copied (λ e. 1)) in

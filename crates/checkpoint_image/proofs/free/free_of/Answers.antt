@@ -4,7 +4,7 @@ use Rattle.std.proofs.lemmas.List.{get_or-map}
 use Rattle.std.proofs.lemmas.List.Sums.{sum_by_push}
 use Rattle.std.specs.List.{list_any}
 use Rattle.geometry.specs.Shape.{segment_blocks}
-use Rattle.image.specs.declared.image.Place.{Place}
+use Rattle.image.specs.declared.image.LogHead.{LogHead}
 use Rattle.image.specs.Files.{below}
 use Rattle.image.specs.Free.{is_free, stands_in}
 use Rattle.image.specs.Image.{Image, SegmentInfo, info_of, no_segment}
@@ -49,7 +49,7 @@ loop-number-preserved g c =
     ∙ sym (ap (λ (l : List SegmentInfo). get_or l n no_segment) infos ∙ get_or-map (λ s. info (part_in shown s)) xs n item no_segment (omega arith)) in
     c.is_unused.ensures
     ∙ ap (λ (i : SegmentInfo). (i.count == 0) && not (list_any (stands_in n) c.args.logs.now)) one
-    ∙ ap (λ (ls : List (Option Place)). ((info_of image n).count == 0) && not (list_any (stands_in n) ls)) (sym logs)) in
+    ∙ ap (λ (ls : List (Option LogHead)). ((info_of image n).count == 0) && not (list_any (stands_in n) ls)) (sym logs)) in
     elim c.if-is_unused.branch [
       | then-is_unused w ↦ (
         omega (arith, c.loop-number.invariant.0),

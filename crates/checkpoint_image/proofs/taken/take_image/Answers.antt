@@ -11,7 +11,7 @@ use Rattle.std.specs.Prelude.{Option, Vec, slice_get, Some}
 use Rattle.std.specs.declared.alloc.Global.{Global}
 use Rattle.std.proofs.lemmas.List.{length-map}
 use Rattle.geometry.specs.declared.geometry.Geometry.{Geometry}
-use Rattle.image.specs.declared.image.Place.{Place}
+use Rattle.image.specs.declared.image.LogHead.{LogHead}
 use Rattle.rights_books.specs.declared.row_account.KeptAccount.{KeptAccount}
 use Rattle.checkpoint_image.specs.Cells.{Filed, place_in}
 use Rattle.checkpoint_image.specs.Kept.{IsKeptBody}
@@ -97,4 +97,4 @@ returns-clause-spelled g c =
     spelled_by _ _ _ _ _ told old.geometry.shape new.body.bytes.items
     (body_is g.S.HoldsSegment.shown g.H.HoldsShard.shown old.geometry old.twins.items new.body.bytes.items kept c.args.segments.now c.args.shards.now every (sym (length-map c.args.shards.now g.H.HoldsShard.shown) ∙ c.requires.cells.all_shards) c.requires.noted_segments c.requires.noted_shards sized
     (numbers (c.args.version ∷ c.total_of.result ∷ []) ++ flat_map log_bytes c.in_ok-places_of.field-0.items)
-    (c.in_ok-put_head.ensures.front ∙ ap (λ (logs : List (Option Place)). numbers (c.args.version ∷ c.total_of.result ∷ []) ++ flat_map log_bytes logs) c.deref-2.ensures.value))
+    (c.in_ok-put_head.ensures.front ∙ ap (λ (logs : List (Option LogHead)). numbers (c.args.version ∷ c.total_of.result ∷ []) ++ flat_map log_bytes logs) c.deref-2.ensures.value))

@@ -1,7 +1,7 @@
 -- Once its entries are given back, the inode's token is all that the file has in hand: with it the hand is empty, and
 -- every block of the file is at home.
 use Rattle.std.proofs.Common.{◌≡◌, ◌<◌, ap, sym, subst, ◌∙◌}
-use Rattle.rights_books.specs.declared.claim.Entry.{Entry}
+use Rattle.rights_books.specs.declared.claim.TakenNumber.{TakenNumber}
 use Rattle.rights_books.specs.Lists.{times}
 use Rattle.rights_books.specs.Sameness.{same_entry}
 use Rattle.nodes.specs.Held.{no_others}
@@ -17,7 +17,7 @@ return_node-requires-clause-held g c =
     let done = c.return_entries.ensures in
     let f = c.return_entries.new.file in
     let hand = c.return_entries.new.hand in
-    subst (λ (e : Entry). 0 < times same_entry e hand.tokens) (sym c.into_token.ensures)
+    subst (λ (e : TakenNumber). 0 < times same_entry e hand.tokens) (sym c.into_token.ensures)
     (root_there f done.bare hand.tickets hand.tokens (done.serves.others no_others c.requires.held))
 
 pub return_node-requires-clause-whole : goal.return_node-requires-clause-whole
@@ -45,5 +45,5 @@ returns-clause-home g c = λ bytes shown.
     let done = c.return_entries.ensures in
     let f = c.return_entries.new.file in
     let before = done.home bytes one.0 in
-    let last = subst (λ (e : Entry). 0 < e.address → bytes e.address ≡ e.bytes) c.into_token.ensures one.1 in
+    let last = subst (λ (e : TakenNumber). 0 < e.address → bytes e.address ≡ e.bytes) c.into_token.ensures one.1 in
     (before.0, before.1, before.2 (hold_last bytes f done.bare c.return_entries.new.hand (done.serves.others no_others c.requires.held) last)))

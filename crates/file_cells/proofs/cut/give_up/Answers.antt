@@ -3,7 +3,7 @@
 use Rattle.std.proofs.Common.{◌<◌, refl, ap, sym, subst, ◌∙◌, arith}
 use Rattle.geometry.specs.Weights.{weigh}
 use Rattle.rights_books.specs.Accounts.{HandView}
-use Rattle.rights_books.specs.declared.claim.Entry.{Entry}
+use Rattle.rights_books.specs.declared.claim.TakenNumber.{TakenNumber}
 use Rattle.rights_books.specs.Lists.{times}
 use Rattle.rights_books.specs.Sameness.{same_entry}
 use Rattle.rights_books.proofs.Steps.{without_entry}
@@ -23,7 +23,7 @@ give_node-requires-clause-held g c =
     let cut = c.cut_blocks.ensures in
     let f = c.cut_blocks.new.file in
     let hand = c.cut_blocks.new.hand in
-    subst (λ (e : Entry). 0 < times same_entry e hand.tokens) (sym c.into_token.ensures)
+    subst (λ (e : TakenNumber). 0 < times same_entry e hand.tokens) (sym c.into_token.ensures)
     (root_there f (cut.bare refl) hand.tickets hand.tokens (cut.serves.others held.0 held.1))
 
 pub give_node-requires-clause-whole : goal.give_node-requires-clause-whole

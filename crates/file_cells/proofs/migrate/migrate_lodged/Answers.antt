@@ -13,32 +13,32 @@ use Rattle.file_cells.proofs.migrate.migrate_lodged.Given as given
 use Rattle.file_cells.proofs.migrate.migrate_lodged.Goals as goal
 
 pub migrate-done-requires-clause-book : goal.migrate-done-requires-clause-book
-migrate-done-requires-clause-book g c = lent_book g.V.Books.BooksName.books.book c.args.account.now c.args.hand.now c.unlodge_all.new.permit c.requires.hand c.unlodge_all.ensures.permit
+migrate-done-requires-clause-book g c = lent_book g.V.Books.BooksName.books.book c.args.account.now c.args.hand.now c.unlodge_all.new.hand c.requires.hand c.unlodge_all.ensures.hand
 
 pub migrate-done-requires-clause-held : goal.migrate-done-requires-clause-held
-migrate-done-requires-clause-held g c = (no_others, lent_all g.V.Books.BooksName.books.book c.args.account.now c.args.hand.now c.unlodge_all.new.permit c.requires.hand c.unlodge_all.ensures.permit c.args.file.now c.requires.lodged.lodged)
+migrate-done-requires-clause-held g c = (no_others, lent_all g.V.Books.BooksName.books.book c.args.account.now c.args.hand.now c.unlodge_all.new.hand c.requires.hand c.unlodge_all.ensures.hand c.args.file.now c.requires.lodged.lodged)
 
 pub lodge_all-requires : goal.lodge_all-requires
 lodge_all-requires g c =
-    record { books = books_again g.V.Books.BooksName.books.book c.args.account.now c.args.hand.now c.unlodge_all.new.permit c.requires.hand c.unlodge_all.ensures.permit c.unlodge_all.new.file c.migrate-done.new.hand _ c.unlodge_all.ensures.file c.requires.book (ap (λ (b : Ruled Layout). b.book) c.books-2.ensures.books) c.migrate-done.ensures.serves.book }
+    record { books = books_again g.V.Books.BooksName.books.book c.args.account.now c.args.hand.now c.unlodge_all.new.hand c.requires.hand c.unlodge_all.ensures.hand c.unlodge_all.new.file c.migrate-done.new.hand _ c.unlodge_all.ensures.file c.requires.book (ap (λ (b : Ruled Layout). b.book) c.books-2.ensures.books) c.migrate-done.ensures.serves.book }
 
 pub returns-clause-lodged : goal.returns-clause-lodged
 returns-clause-lodged g c =
     let h = c.args.hand.now in
-    lodged_again g.V.Books.BooksName.books.book c.args.account.now c.unlodge_all.new.file c.lodge_all.new.file h c.unlodge_all.new.permit c.migrate-done.new.hand h c.requires.hand
-    g.V.Numbers.GeometryName.geometry c.args.file.now c.migrate-done.new.file c.requires.lodged c.unlodge_all.ensures.file c.lodge_all.ensures.file c.unlodge_all.ensures.permit c.migrate-done.ensures.serves c.migrate-done.ensures.law
+    lodged_again g.V.Books.BooksName.books.book c.args.account.now c.unlodge_all.new.file c.lodge_all.new.file h c.unlodge_all.new.hand c.migrate-done.new.hand h c.requires.hand
+    g.V.Numbers.GeometryName.geometry c.args.file.now c.migrate-done.new.file c.requires.lodged c.unlodge_all.ensures.file c.lodge_all.ensures.file c.unlodge_all.ensures.hand c.migrate-done.ensures.serves c.migrate-done.ensures.law
 
 pub returns-clause-account : goal.returns-clause-account
 returns-clause-account g c =
     let h = c.args.hand.now in
-    account_kept g.V.Books.BooksName.books.book c.args.account.now c.unlodge_all.new.file c.lodge_all.new.file h c.unlodge_all.new.permit c.migrate-done.new.hand h c.requires.hand
+    account_kept g.V.Books.BooksName.books.book c.args.account.now c.unlodge_all.new.file c.lodge_all.new.file h c.unlodge_all.new.hand c.migrate-done.new.hand h c.requires.hand
     c.unlodge_all.ensures.file c.lodge_all.ensures.file
 
 pub returns-clause-hand : goal.returns-clause-hand
 returns-clause-hand g c =
     let h = c.args.hand.now in
-    home_again g.V.Books.BooksName.books.book c.args.account.now c.unlodge_all.new.file c.lodge_all.new.file h c.unlodge_all.new.permit c.migrate-done.new.hand c.lodge_all.new.permit c.requires.hand
-    c.unlodge_all.ensures.permit c.migrate-done.ensures.serves.book c.lodge_all.ensures.permit
+    home_again g.V.Books.BooksName.books.book c.args.account.now c.unlodge_all.new.file c.lodge_all.new.file h c.unlodge_all.new.hand c.migrate-done.new.hand c.lodge_all.new.hand c.requires.hand
+    c.unlodge_all.ensures.hand c.migrate-done.ensures.serves.book c.lodge_all.ensures.hand
 
 pub migrate-done-requires-clause-bytes : goal.migrate-done-requires-clause-bytes
 migrate-done-requires-clause-bytes g c = c.requires.bytes ∙ ap block_bytes (sym c.requires.lodged.shape_is)
@@ -49,9 +49,9 @@ held_again g c =
     let book = g.V.Books.BooksName.books.book in
     let a = c.args.account.now in
     let h = c.args.hand.now in
-    lodged book a c.unlodge_all.new.file c.lodge_all.new.file h c.unlodge_all.new.permit c.migrate-done.new.hand h c.requires.hand
+    lodged book a c.unlodge_all.new.file c.lodge_all.new.file h c.unlodge_all.new.hand c.migrate-done.new.hand h c.requires.hand
     c.migrate-done.new.file c.unlodge_all.ensures.file c.lodge_all.ensures.file
-    (c.migrate-done.ensures.serves.others no_others (lent_all book a h c.unlodge_all.new.permit c.requires.hand c.unlodge_all.ensures.permit c.args.file.now c.requires.lodged.lodged))
+    (c.migrate-done.ensures.serves.others no_others (lent_all book a h c.unlodge_all.new.hand c.requires.hand c.unlodge_all.ensures.hand c.args.file.now c.requires.lodged.lodged))
 
 pub returns-clause-moved : goal.returns-clause-moved
 returns-clause-moved g c =

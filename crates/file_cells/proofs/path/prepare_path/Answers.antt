@@ -2,7 +2,7 @@
 -- file and spares, until none is lacking on the way.
 use Rattle.std.proofs.Common.{◌<◌, ◌∷◌, ap, sym, subst, ◌∙◌, arith}
 use Rattle.rights_books.specs.Accounts.{HandView}
-use Rattle.rights_books.specs.declared.claim.Entry.{Entry}
+use Rattle.rights_books.specs.declared.claim.TakenNumber.{TakenNumber}
 use Rattle.rights_books.specs.Lists.{times}
 use Rattle.rights_books.specs.Sameness.{same_entry}
 use Rattle.geometry.specs.Shape.{block_bytes}
@@ -36,7 +36,7 @@ pub give_node-requires-clause-held : goal.give_node-requires-clause-held
 give_node-requires-clause-held g c =
     let back = c.in-Err.token in
     subst (λ (h : HandView). 0 < times same_entry back h.tokens) (sym c.in_ok-token.ensures.hand)
-    (subst (λ (e : Entry). 0 < times same_entry back (e ∷ c.lacking.hand.tokens)) c.in-Err.ensures.token (first_token back c.lacking.hand.tokens))
+    (subst (λ (e : TakenNumber). 0 < times same_entry back (e ∷ c.lacking.hand.tokens)) c.in-Err.ensures.token (first_token back c.lacking.hand.tokens))
 
 pub give_node-requires-clause-whole : goal.give_node-requires-clause-whole
 give_node-requires-clause-whole g c =

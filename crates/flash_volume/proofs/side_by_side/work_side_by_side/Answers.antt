@@ -1,6 +1,6 @@
 -- The visit does the works: so its promises are theirs, on what the parts held.
 use Rattle.flash_volume.specs.Beside.{AreDoneBeside, HaveFailed}
-use Rattle.flash_volume.proofs.Crewed.{as_worked}
+use Rattle.flash_volume.proofs.Scheduled.{as_worked}
 use Rattle.flash_volume.proofs.Refused.{handed_on}
 use Rattle.flash_volume.proofs.Same.{refused_run}
 use Rattle.flash_volume.proofs.Visiting.{failed, fault_run, given_up, not_closed, not_format, not_mount, run_again, worked}

@@ -1,7 +1,7 @@
 -- The files take what stands in the stock, so its shelves still weigh what the files do.
 use Rattle.std.proofs.Common.{◌≡◌, ℕ, ◌+◌, sym, ap, subst, ◌∙◌, arith}
 use Rattle.rights_books.specs.Weights.{mark_of}
-use Rattle.rights_books.specs.declared.claim.Entry.{Entry}
+use Rattle.rights_books.specs.declared.claim.TakenNumber.{TakenNumber}
 use Rattle.image.specs.View.{image_view}
 use Rattle.mount_blocks.specs.TreeGoods.{Shelves, in_place}
 use Rattle.mount_blocks.specs.Loaded.{of_rights}
@@ -14,7 +14,7 @@ use Rattle.mount.proofs.loading_all.load_all_files.Goals as goal
 pub load_files-requires-clause-marks : goal.load_files-requires-clause-marks
 load_files-requires-clause-marks g c =
     λ h. (let tickets = ap (weigh (in_place (λ (p : Placed). h p.mark))) c.of-stock.ensures.tickets in
-    let tokens = ap (weigh (in_place (λ (e : Entry). h (mark_of e)))) c.of-stock.ensures.tokens in
+    let tokens = ap (weigh (in_place (λ (e : TakenNumber). h (mark_of e)))) c.of-stock.ensures.tokens in
     let marks = c.requires.marks h in
     omega arith)
 

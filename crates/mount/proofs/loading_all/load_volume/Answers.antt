@@ -2,7 +2,7 @@
 -- files take both, and lodging leaves the hand as empty as it came.
 use Rattle.std.proofs.Common.{◌≡◌, ℕ, ◌+◌, ◌<◌, None, length, get_or, sym, ap, subst, ◌∙◌, arith}
 use Rattle.rights_books.specs.Accounts.{FileView, HandView}
-use Rattle.rights_books.specs.declared.claim.Entry.{Entry}
+use Rattle.rights_books.specs.declared.claim.TakenNumber.{TakenNumber}
 use Rattle.geometry.specs.declared.owner.Mark.{Mark}
 use Rattle.image.specs.View.{image_view}
 use Rattle.mount_blocks.specs.TreeGoods.{ArePlaced, Shelves, in_place}
@@ -108,40 +108,40 @@ returns-clause-lodged_tokens g c =
     let none = ap (λ (v : FileView). weigh h v.tokens) was in
     let x = c.lodge_tickets.ensures.lodged.tokens_more k other here h in
     let y = c.lodge_tokens.ensures.lodged.tokens_more k other next h in
-    let z = ap (weigh (in_place (λ (e : Entry). of_file (k + 1) e.inode (h e)))) (ap (λ (s : Shelves Placed). s.tokens) shelves) in
-    let v = ap (weigh (in_place (λ (e : Entry). of_file (k + 1) e.inode (h e)))) c.deref.ensures.value in
+    let z = ap (weigh (in_place (λ (e : TakenNumber). of_file (k + 1) e.inode (h e)))) (ap (λ (s : Shelves Placed). s.tokens) shelves) in
+    let v = ap (weigh (in_place (λ (e : TakenNumber). of_file (k + 1) e.inode (h e)))) c.deref.ensures.value in
     omega arith)
 
-pub returns-clause-permit : goal.returns-clause-permit
-returns-clause-permit g c =
+pub returns-clause-hand : goal.returns-clause-hand
+returns-clause-hand g c =
     let geometry = c.args.geometry.now in
     let image = image_view c.args.image.now in
     let content = g.B.Block.content_of in
     let all = c.args.blocks.now.items in
     let shelves : c.load_all_files-stock.result.all ≡ record { tickets = c.load_nodes.new.tickets.items; tokens = c.load_nodes.new.tokens.items } = c.load_all_files-stock.ensures.shelves ∙ (λ i. record { tickets = c.lodge_tickets.ensures.same i; tokens = c.load_nodes.new.tokens.items }) in
     let one : Mark → ℕ = λ _. 1 in
-    let each : Entry → ℕ = λ _. 1 in
+    let each : TakenNumber → ℕ = λ _. 1 in
     let named = c.load_segments-segments.ensures.named one in
     let hand = c.load_segments-segments.ensures.hand one in
     let trade = c.load_nodes.ensures.hand one in
     let lodged = c.lodge_tickets.ensures.hand one in
-    let none = ap (λ (p : HandView). weigh one p.tickets) c.requires.permit in
+    let none = ap (λ (p : HandView). weigh one p.tickets) c.requires.hand in
     let files = ap (λ n. weigh (in_place (λ (t : Placed). of_some n (file_of image t.mark.owner) 1)) c.load_nodes.new.tickets.items) c.requires.every_file in
     let whole = c.load_all_files-stock.ensures.of_files one in
     let of_all = ap (λ (s : Shelves Placed). weigh (in_place (λ (t : Placed). of_some geometry.files (file_of image t.mark.owner) 1)) s.tickets) shelves in
     let plain = ap (λ (s : Shelves Placed). weigh (in_place (λ (t : Placed). 1)) s.tickets) shelves in
-    let no_tickets : weigh one c.lodge_tickets.new.permit.tickets ≡ 0 = omega arith in
-    let tickets = c.lodge_tokens.ensures.tickets ∙ has_nothing c.lodge_tickets.new.permit.tickets no_tickets in
+    let no_tickets : weigh one c.lodge_tickets.new.hand.tickets ≡ 0 = omega arith in
+    let tickets = c.lodge_tokens.ensures.tickets ∙ has_nothing c.lodge_tickets.new.hand.tickets no_tickets in
     let came = c.load_nodes.ensures.hand_tokens each in
-    let was = ap (weigh each) (c.load_segments-segments.ensures.tokens ∙ ap (λ (p : HandView). p.tokens) c.requires.permit) in
+    let was = ap (weigh each) (c.load_segments-segments.ensures.tokens ∙ ap (λ (p : HandView). p.tokens) c.requires.hand) in
     let same = ap (weigh each) c.lodge_tickets.ensures.tokens in
     let went = c.lodge_tokens.ensures.hand each in
-    let value = ap (weigh (in_place (λ (e : Entry). of_some (length c.lodge_tickets.new.accounts.items) e.inode 1))) c.deref.ensures.value in
-    let count = ap (λ n. weigh (in_place (λ (e : Entry). of_some n e.inode 1)) c.load_nodes.new.tokens.items) (c.lodge_tickets.ensures.lodged.count ∙ c.requires.every_file) in
+    let value = ap (weigh (in_place (λ (e : TakenNumber). of_some (length c.lodge_tickets.new.accounts.items) e.inode 1))) c.deref.ensures.value in
+    let count = ap (λ n. weigh (in_place (λ (e : TakenNumber). of_some n e.inode 1)) c.load_nodes.new.tokens.items) (c.lodge_tickets.ensures.lodged.count ∙ c.requires.every_file) in
     let whole_tokens = c.load_all_files-stock.ensures.tokens_of_files each in
-    let some_tokens = ap (λ (s : Shelves Placed). weigh (in_place (λ (e : Entry). of_some geometry.files e.inode 1)) s.tokens) shelves in
-    let plain_tokens = ap (λ (s : Shelves Placed). weigh (in_place (λ (e : Entry). 1)) s.tokens) shelves in
-    let no_tokens : weigh each c.lodge_tokens.new.permit.tokens ≡ 0 = omega arith in
-    let tokens = has_nothing c.lodge_tokens.new.permit.tokens no_tokens in
-    let book = c.lodge_tokens.ensures.book ∙ (c.lodge_tickets.ensures.book ∙ (c.load_nodes.ensures.book ∙ (c.load_segments-segments.ensures.book ∙ ap (λ (p : HandView). p.book) c.requires.permit))) in
-    (λ i. record { book = book i; tickets = tickets i; tokens = tokens i }) ∙ sym c.requires.permit
+    let some_tokens = ap (λ (s : Shelves Placed). weigh (in_place (λ (e : TakenNumber). of_some geometry.files e.inode 1)) s.tokens) shelves in
+    let plain_tokens = ap (λ (s : Shelves Placed). weigh (in_place (λ (e : TakenNumber). 1)) s.tokens) shelves in
+    let no_tokens : weigh each c.lodge_tokens.new.hand.tokens ≡ 0 = omega arith in
+    let tokens = has_nothing c.lodge_tokens.new.hand.tokens no_tokens in
+    let book = c.lodge_tokens.ensures.book ∙ (c.lodge_tickets.ensures.book ∙ (c.load_nodes.ensures.book ∙ (c.load_segments-segments.ensures.book ∙ ap (λ (p : HandView). p.book) c.requires.hand))) in
+    (λ i. record { book = book i; tickets = tickets i; tokens = tokens i }) ∙ sym c.requires.hand

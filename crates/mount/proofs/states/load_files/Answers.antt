@@ -2,7 +2,7 @@
 -- last one it weighs nothing, and the files have it all.
 use Rattle.std.proofs.Common.{◌≡◌, ◌≢◌, ℕ, ◌+◌, None, Some, length, get_or, set, refl, sym, ap, subst, ◌∙◌, arith}
 use Rattle.std.proofs.lemmas.List.{length-replicate, get_or-set_other}
-use Rattle.rights_books.specs.declared.claim.Entry.{Entry}
+use Rattle.rights_books.specs.declared.claim.TakenNumber.{TakenNumber}
 use Rattle.geometry.specs.declared.owner.Mark.{Mark}
 use Rattle.geometry.specs.declared.owner.Owner.TheVariants.{Node}
 use Rattle.image.specs.declared.image.NodeEntry.{NodeEntry}
@@ -87,7 +87,7 @@ loop-before-preserved g c =
                 let named = w.tell_lawful.ensures.names h in
                 let more = walks_more image h at.before taken in
                 let went = w.load_file-file.ensures.taken h in
-                let is = ap (λ s. goods_weight (λ (t : Placed). h t.mark) (λ (e : Entry). h (record { address = e.address; owner = Node e.number })) s) stock_is in
+                let is = ap (λ s. goods_weight (λ (t : Placed). h t.mark) (λ (e : TakenNumber). h (record { address = e.address; owner = Node e.number })) s) stock_is in
                 omega arith);
             trades = λ ticket token. (let so = before.trades ticket token in
                 let went = w.load_file-file.ensures.trades ticket token in
@@ -109,7 +109,7 @@ loop-before-preserved g c =
             all = ap (λ s. s.all) stock_is ∙ before.all;
             marks = λ h. (let balance = before.marks h in
                 let still = walks_same image h at.before free in
-                let is = ap (λ s. goods_weight (λ (t : Placed). h t.mark) (λ (e : Entry). h (record { address = e.address; owner = Node e.number })) s) stock_is in
+                let is = ap (λ s. goods_weight (λ (t : Placed). h t.mark) (λ (e : TakenNumber). h (record { address = e.address; owner = Node e.number })) s) stock_is in
                 omega arith);
             trades = λ ticket token. (let so = before.trades ticket token in
                 let is = ap (goods_weight ticket token) stock_is in

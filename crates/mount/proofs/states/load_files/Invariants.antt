@@ -1,5 +1,5 @@
 use Rattle.std.proofs.Common.{◌≡◌, ℕ, ◌+◌, ◌<◌, None, get_or}
-use Rattle.rights_books.specs.declared.claim.Entry.{Entry}
+use Rattle.rights_books.specs.declared.claim.TakenNumber.{TakenNumber}
 use Rattle.geometry.specs.declared.owner.Mark.{Mark}
 use Rattle.image.specs.View.{image_view}
 use Rattle.image.specs.Walk.{names}
@@ -21,5 +21,5 @@ invariant-loop-before g l = record {
   files : AreUpTo l.geometry (image_view l.image) (λ i file. IsLoadedFile (image_view l.image) l.geometry.shape l.fn.stock.all i file) l.files.items l.before;
   all : l.stock.all ≡ l.fn.stock.all;
   marks : (h : Mark → ℕ) → marks_weight (λ (t : Placed). t.mark) h l.stock + weigh h (walks_to (image_view l.image) l.before) ≡ weigh h (names l.geometry (image_view l.image));
-  trades : (ticket : Placed → ℕ) (token : Entry → ℕ) → goods_weight ticket token l.stock + weigh (in_place (λ file. weight_of file (of_rights ticket token))) l.files.items ≡ goods_weight ticket token l.fn.stock;
+  trades : (ticket : Placed → ℕ) (token : TakenNumber → ℕ) → goods_weight ticket token l.stock + weigh (in_place (λ file. weight_of file (of_rights ticket token))) l.files.items ≡ goods_weight ticket token l.fn.stock;
 }

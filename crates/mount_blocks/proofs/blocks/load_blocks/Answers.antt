@@ -57,9 +57,9 @@ loop-done-preserved g c =
     × ((k : ℕ) → k ≤ length front → get_or c.match-put.tickets.items k None ≡ None)
     × ((bytes : ℕ → List ℕ) → HaveBytes B.content_of bytes c.args.blocks.now.items → AreTicketsPast geometry image bytes (length c.args.blocks.now.items) c.args.tickets.now.items
     → AreTicketsPast geometry image bytes (length front) c.match-put.tickets.items)
-    × ((h : Mark → ℕ) → weigh h c.put.new.permit.tickets + weigh (in_place (λ (p : Placed). h p.mark)) c.args.tickets.now.items
-    ≡ weigh h c.args.permit.now.tickets + weigh (in_place (λ (p : Placed). h p.mark)) c.match-put.tickets.items)
-    × (c.put.new.permit.tokens ≡ c.args.permit.now.tokens) × (c.put.new.permit.book ≡ c.args.permit.now.book) =
+    × ((h : Mark → ℕ) → weigh h c.put.new.hand.tickets + weigh (in_place (λ (p : Placed). h p.mark)) c.args.tickets.now.items
+    ≡ weigh h c.args.hand.now.tickets + weigh (in_place (λ (p : Placed). h p.mark)) c.match-put.tickets.items)
+    × (c.put.new.hand.tokens ≡ c.args.hand.now.tokens) × (c.put.new.hand.book ≡ c.args.hand.now.book) =
     elim c.match-put.branch [
       | in-Some-put w ↦
           let t = w.in-Some-put.ticket in

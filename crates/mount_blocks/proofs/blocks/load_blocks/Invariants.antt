@@ -28,7 +28,7 @@ invariant-loop-done g l = record {
   tickets : (bytes : ℕ → List ℕ) → HaveBytes g.B.Block.content_of bytes l.fn.blocks.items
       → AreTicketsPast l.geometry (image_view l.image) bytes (length l.fn.blocks.items) l.fn.tickets.items
       → AreTicketsPast l.geometry (image_view l.image) bytes (length l.blocks.items) l.tickets.items;
-  hand : (h : Mark → ℕ) → weigh h l.permit.tickets + weigh (in_place (λ (t : Placed). h t.mark)) l.fn.tickets.items ≡ weigh h l.fn.permit.tickets + weigh (in_place (λ (t : Placed). h t.mark)) l.tickets.items;
-  tokens : l.permit.tokens ≡ l.fn.permit.tokens;
-  account : l.permit.book ≡ l.fn.permit.book;
+  hand : (h : Mark → ℕ) → weigh h l.hand.tickets + weigh (in_place (λ (t : Placed). h t.mark)) l.fn.tickets.items ≡ weigh h l.fn.hand.tickets + weigh (in_place (λ (t : Placed). h t.mark)) l.tickets.items;
+  tokens : l.hand.tokens ≡ l.fn.hand.tokens;
+  account : l.hand.book ≡ l.fn.hand.book;
 }

@@ -3,7 +3,7 @@
 use Rattle.std.proofs.Common.{◌≡◌, ℕ, ◌+◌, ◌<◌, ◌≤◌, None, [], ◌∷◌, Some, ap, sym, subst, ◌∙◌, refl, arith}
 use Rattle.std.specs.Prelude.{slice_index_or, slice_set}
 use Rattle.geometry.specs.declared.owner.Mark.{Mark}
-use Rattle.rights_books.specs.declared.claim.Entry.{Entry}
+use Rattle.rights_books.specs.declared.claim.TakenNumber.{TakenNumber}
 use Rattle.rights_books.specs.Weights.{mark_of}
 use Rattle.tickets.specs.Placed.{Placed}
 use Rattle.image.specs.Image.{Image}
@@ -21,14 +21,14 @@ mark t = t.mark
 -- the token of the inode that is loaded is there, and is of the inode's block
 inode_there : (image : Image) (inode : ℕ) (goods : Goods Placed) → AreLeft goods.tickets goods.all.tickets → AreLeft goods.tokens goods.all.tokens → ArePlaced mark goods.all
     → ((h : Mark → ℕ) → file_names image h inode ≤ marks_weight mark h goods)
-    → (e : Entry) × (slice_index_or goods.tokens inode None ≡ Some e) × (mark_of e ≡ node_name image inode)
+    → (e : TakenNumber) × (slice_index_or goods.tokens inode None ≡ Some e) × (mark_of e ≡ node_name image inode)
 inode_there image inode goods tickets tokens placed there =
     token_there mark goods tickets tokens placed (node_name image inode) inode refl (λ h. let all = there h in omega arith)
 
 -- the inode's token is of its block
 token_named : (image : Image) (inode : ℕ) (goods : Goods Placed) → AreLeft goods.tickets goods.all.tickets → AreLeft goods.tokens goods.all.tokens → ArePlaced mark goods.all
     → ((h : Mark → ℕ) → file_names image h inode ≤ marks_weight mark h goods)
-    → (token : Entry) → slice_index_or goods.tokens inode None ≡ Some token → mark_of token ≡ node_name image inode
+    → (token : TakenNumber) → slice_index_or goods.tokens inode None ≡ Some token → mark_of token ≡ node_name image inode
 token_named image inode goods tickets tokens placed there token at =
     let found = inode_there image inode goods tickets tokens placed there in
     same_one (λ e. mark_of e ≡ node_name image inode) (slice_index_or goods.tokens inode None) found.0 token found.1 at found.2
@@ -36,7 +36,7 @@ token_named image inode goods tickets tokens placed there token at =
 -- the block of the inode goes with its token
 inode_went : (image : Image) (inode : ℕ) (goods left : Goods Placed) → AreLeft goods.tickets goods.all.tickets → AreLeft goods.tokens goods.all.tokens → ArePlaced mark goods.all
     → ((h : Mark → ℕ) → file_names image h inode ≤ marks_weight mark h goods)
-    → (token : Entry) → left ≡ record goods { tokens = slice_set goods.tokens inode None } → slice_index_or goods.tokens inode None ≡ Some token
+    → (token : TakenNumber) → left ≡ record goods { tokens = slice_set goods.tokens inode None } → slice_index_or goods.tokens inode None ≡ Some token
     → (h : Mark → ℕ) → marks_weight mark h left + h (node_name image inode) ≡ marks_weight mark h goods
 inode_went image inode goods left tickets tokens placed there token new at h =
     let name = ap h (token_named image inode goods tickets tokens placed there token at) in

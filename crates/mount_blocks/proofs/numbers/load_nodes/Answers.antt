@@ -3,7 +3,7 @@
 use Rattle.std.proofs.Common.{◌≡◌, ◌≢◌, ℕ, ◌+◌, ◌%◌, ◌<◌, ◌∷◌, List, Option, None, Some, length, get_or, set, if◌then◌else◌, refl, sym, ap, subst, ◌∙◌, arith}
 use Rattle.rights_books.specs.Lists.{times}
 use Rattle.rights_books.specs.Weights.{mark_of}
-use Rattle.rights_books.specs.declared.claim.Entry.{Entry}
+use Rattle.rights_books.specs.declared.claim.TakenNumber.{TakenNumber}
 use Rattle.rights_books.specs.Accounts.{HandView}
 use Rattle.rights_books.proofs.Steps.{without_mark}
 use Rattle.geometry.specs.declared.geometry.Geometry.{Geometry}
@@ -31,7 +31,7 @@ use Rattle.mount_blocks.proofs.numbers.load_nodes.Goals as goal
 use Rattle.mount_blocks.proofs.numbers.load_nodes.Goals.{then-entry-ne0, else-entry-ne0}
 
 -- the ticket of the block of a node that has one
-ticket_there : (geometry : Geometry) (image : Image) → IsLawful geometry image → (bytes : ℕ → List ℕ) (next : ℕ) (tickets : List (Option Placed)) (tokens : List (Option Entry))
+ticket_there : (geometry : Geometry) (image : Image) → IsLawful geometry image → (bytes : ℕ → List ℕ) (next : ℕ) (tickets : List (Option Placed)) (tokens : List (Option TakenNumber))
     → (address : ℕ) → address ≡ (entry_of image next).address → (entry_of image next).address ≢ 0 → ArePassed geometry image bytes next tickets tokens
     → get_or tickets address None ≡ Some (record { mark = record { address = (entry_of image next).address; owner = Node next }; content = bytes (entry_of image next).address })
 ticket_there geometry image lawful bytes next tickets tokens address is some passed =
@@ -46,7 +46,7 @@ loop-before-init g c =
     let geometry = c.args.geometry.now in
     let image = image_view c.args.image.now in
     let none = c.requires.tokens in
-    let no_tokens : (h : Entry → ℕ) → weigh (in_place h) c.args.tokens.now.items ≡ 0 = λ h. ap (weigh (in_place h)) none ∙ nothing_weighs h (geometry.nodes + 1) in
+    let no_tokens : (h : TakenNumber → ℕ) → weigh (in_place h) c.args.tokens.now.items ≡ 0 = λ h. ap (weigh (in_place h)) none ∙ nothing_weighs h (geometry.nodes + 1) in
     record {
       shards = c.requires.shards;
       free = λ k other low number past. ap (entries_of number) (c.requires.free k other low);
@@ -137,15 +137,15 @@ loop-before-preserved g c =
             own = w.load_node-token.ensures.own;
           } in
           let more : shard.taken ≡ token ∷ (get_or at.shards.items place k).taken = ap (λ (x : ShardNodes). x.taken) changed ∙ ap (λ (x : ShardNodes). token ∷ x.taken) value in
-          let token_number : token.number ≡ next = ap (λ (e : Entry). e.number) w.load_node-token.ensures.token in
-          let token_address : token.address ≡ t.mark.address = ap (λ (e : Entry). e.address) w.load_node-token.ensures.token in
+          let token_number : token.number ≡ next = ap (λ (e : TakenNumber). e.number) w.load_node-token.ensures.token in
+          let token_address : token.address ≡ t.mark.address = ap (λ (e : TakenNumber). e.address) w.load_node-token.ensures.token in
           let shards_are : c.if-entry-ne0.shards.items ≡ set at.shards.items place shard = ap (λ v. v.items) w.shards-is in
           let tickets_are : c.if-entry-ne0.tickets.items ≡ set at.tickets.items entry.address None = ap (λ v. v.items) w.tickets-is ∙ w.take_at-ticket.ensures.table in
           let tokens_are : c.if-entry-ne0.tokens.items ≡ set at.tokens.items next (Some token) = ap (λ v. v.items) w.tokens-is ∙ w.put_at.ensures in
-          let permit_is = w.permit-is ∙ w.load_node-token.ensures.hand in
+          let permit_is = w.hand-is ∙ w.load_node-token.ensures.hand in
           let within = token_within geometry image c.requires.lawful bytes next at.tickets.items at.tokens.items some passed in
           let empty = token_misses geometry image c.requires.lawful bytes next at.tickets.items at.tokens.items some passed in
-          let some_held : 0 < times same_mark t.mark at.permit.tickets = omega arith in
+          let some_held : 0 < times same_mark t.mark at.hand.tickets = omega arith in
           record {
             shards = subst (AreShards c.args.books.now.book geometry.nodes) (sym shards_are) (shards_next c.args.books.now.book geometry.nodes at.shards.items place shard low before.shards is);
             free = subst (λ ss. (j : ℕ) (other : ShardNodes) → j < length ss → (number : ℕ) → next < number → entries_of number (get_or ss j other).taken ≡ 0) (sym shards_are)
@@ -171,7 +171,7 @@ loop-before-preserved g c =
             hand = λ f. (let out = ap (weigh (in_place (λ (p : Placed). f p.mark))) tickets_are in
                 let gone = goes (λ (p : Placed). f p.mark) at.tickets.items entry.address t w.take_at-ticket.ensures.right in
                 let less = ap (λ (v : HandView). weigh f v.tickets) permit_is in
-                let spent = without_mark f t.mark at.permit.tickets some_held in
+                let spent = without_mark f t.mark at.hand.tickets some_held in
                 let so = before.hand f in
                 omega arith);
             hand_tokens = λ f. (let came = ap (weigh (in_place f)) tokens_are ∙ comes f at.tokens.items next token within empty in
@@ -198,14 +198,14 @@ loop-before-preserved g c =
                 let so = before.marks f in
                 omega arith);
             hand = λ f. (let one = ap (weigh (in_place (λ (p : Placed). f p.mark))) tickets_are in
-                let held = ap (λ (v : HandView). weigh f v.tickets) w.permit-is in
+                let held = ap (λ (v : HandView). weigh f v.tickets) w.hand-is in
                 let so = before.hand f in
                 omega arith);
             hand_tokens = λ f. (let one = ap (weigh (in_place f)) tokens_are in
-                let held = ap (λ (v : HandView). weigh f v.tokens) w.permit-is in
+                let held = ap (λ (v : HandView). weigh f v.tokens) w.hand-is in
                 let so = before.hand_tokens f in
                 omega arith);
-            book = ap (λ (v : HandView). v.book) w.permit-is ∙ before.book;
+            book = ap (λ (v : HandView). v.book) w.hand-is ∙ before.book;
           }
     ]
 

@@ -59,10 +59,10 @@ load_blocks-requires-clause-books g c =
     let begun = c.load-loading.ensures ∙ begun_is c.in-Some.ensures.right in
     (sym (ap (λ (l : Loaded). l.book) begun), c.requires.layout ∙ ap (λ (l : Loaded). segment_blocks l.shape) (sym begun))
 
-pub load_blocks-requires-clause-permit : goal.load_blocks-requires-clause-permit
-load_blocks-requires-clause-permit g c =
+pub load_blocks-requires-clause-hand : goal.load_blocks-requires-clause-hand
+load_blocks-requires-clause-hand g c =
     let begun = c.load-loading.ensures ∙ begun_is c.in-Some.ensures.right in
-    c.rights.invariant.account ∙ (c.requires.permit ∙ ap (λ (l : Loaded). l.book) (sym begun))
+    c.rights.invariant.account ∙ (c.requires.hand ∙ ap (λ (l : Loaded). l.book) (sym begun))
 
 pub load_blocks-requires-clause-shape : goal.load_blocks-requires-clause-shape
 load_blocks-requires-clause-shape g c =

@@ -28,9 +28,9 @@ invariant-rights g l = record {
   bytes : (bytes : ℕ → List ℕ) → HaveBytes g.B.Block.content_of bytes l.initial.blocks.items → HaveBytes g.B.Block.content_of bytes l.blocks.items;
   tickets : (bytes : ℕ → List ℕ) → HaveBytes g.B.Block.content_of bytes l.initial.blocks.items
       → AreTicketsPast l.geometry (image_view l.image) bytes (length l.blocks.items) l.tickets.items;
-  hand : (h : Mark → ℕ) → weigh h l.permit.tickets ≡ weigh h l.initial.permit.tickets + weigh (in_place (λ (t : Placed). h t.mark)) l.tickets.items;
-  tokens : l.permit.tokens ≡ l.initial.permit.tokens;
-  account : l.permit.book ≡ l.initial.permit.book;
+  hand : (h : Mark → ℕ) → weigh h l.hand.tickets ≡ weigh h l.initial.hand.tickets + weigh (in_place (λ (t : Placed). h t.mark)) l.tickets.items;
+  tokens : l.hand.tokens ≡ l.initial.hand.tokens;
+  account : l.hand.book ≡ l.initial.hand.book;
 }
 
 abbrev pub decreases-rights : goal.decreases-rights

@@ -17,14 +17,14 @@ returns-clause-hand g c = λ h.
       | then-inode-ne0+then-inode-len w ↦
           let count = w.len.ensures in
           let claimed = c.into_parts-claimed.ensures.mark in
-          let permit = ap (λ (v : HandView). weigh h v.tickets) (w.permit-is ∙ w.lodge.ensures.permit) in
-          let held = subst (λ k. 0 < times same_mark k c.args.permit.now.tickets) (sym claimed) c.requires.held in
-          let spent = without_mark h c.into_parts-claimed.result.0 c.args.permit.now.tickets held in
+          let hand = ap (λ (v : HandView). weigh h v.tickets) (w.hand-is ∙ w.lodge.ensures.hand) in
+          let held = subst (λ k. 0 < times same_mark k c.args.hand.now.tickets) (sym claimed) c.requires.held in
+          let spent = without_mark h c.into_parts-claimed.result.0 c.args.hand.now.tickets held in
           let its = ap h claimed in
           let all = some_in files c.args.inode (h m) (omega arith) (omega arith) in
           omega arith
       | else-inode-ne0 w ↦
-          let permit = ap (λ (v : HandView). weigh h v.tickets) w.permit-is in
+          let hand = ap (λ (v : HandView). weigh h v.tickets) w.hand-is in
           elim w.else-inode-ne0.branch [
             | else-inode-ne0-via-then-inode-ne0+else-inode-len v ↦
                 let count = v.len.ensures in

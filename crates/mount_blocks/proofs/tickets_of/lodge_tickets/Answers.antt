@@ -54,7 +54,7 @@ loop-place-preserved g c =
           let there : get_or all place None ≡ Some t = sym (ap (λ ts. get_or ts place None) before.same) ∙ stood in
           let inode_is : w.file_of-inode.result ≡ file_of image t.mark.owner = w.file_of-inode.ensures ∙ ap (file_of image) w.owner.ensures in
           let accounts = ap (λ v. v.items) w.accounts-is in
-          let permit = w.permit-is in
+          let hand = w.hand-is in
           let back : c.match-take_out.tickets.items ≡ all = ap (λ v. v.items) w.tickets-is ∙ (w.put_back.ensures ∙ (ap (λ ts. set ts place (Some w.lodge_ticket-ticket.result)) taken
           ∙ (ap (λ p. set (set at.tickets.items place None) place (Some p)) w.lodge_ticket-ticket.ensures.ticket ∙ (back_again at.tickets.items place t stood ∙ before.same)))) in
           let same_count = before.lodged.count in
@@ -69,20 +69,20 @@ loop-place-preserved g c =
                 next ∙ ap (λ x. weigh (in_place (λ (p : Placed). of_file (k + 1) (file_of image p.mark.owner) (h p.mark))) (take place all) + x)
                 (ap (in_place (λ (p : Placed). of_file (k + 1) (file_of image p.mark.owner) (h p.mark))) there ∙ ap (λ i. of_file (k + 1) i (h t.mark)) (sym inode_is)))) (λ k h. refl));
             hand = λ h. (let so_far = before.hand h in
-                let less = ap (λ (v : HandView). weigh h v.tickets) permit in
+                let less = ap (λ (v : HandView). weigh h v.tickets) hand in
                 let went = w.lodge_ticket-ticket.ensures.hand h in
                 let next = weigh-take (in_place (λ (p : Placed). of_some files (file_of image p.mark.owner) (h p.mark))) all place None within in
                 let here : in_place (λ (p : Placed). of_some files (file_of image p.mark.owner) (h p.mark)) (get_or all place None) ≡ of_some files (file_of image t.mark.owner) (h t.mark) = ap (in_place (λ (p : Placed). of_some files (file_of image p.mark.owner) (h p.mark))) there in
                 let its : of_some (length at.accounts.items) w.file_of-inode.result (h t.mark) ≡ of_some files (file_of image t.mark.owner) (h t.mark) = ap (λ n. of_some n w.file_of-inode.result (h t.mark)) same_count ∙ ap (λ i. of_some files i (h t.mark)) inode_is in
                 omega arith);
-            tokens = ap (λ (v : HandView). v.tokens) permit ∙ (w.lodge_ticket-ticket.ensures.tokens ∙ before.tokens);
-            book = ap (λ (v : HandView). v.book) permit ∙ (w.lodge_ticket-ticket.ensures.book ∙ before.book);
+            tokens = ap (λ (v : HandView). v.tokens) hand ∙ (w.lodge_ticket-ticket.ensures.tokens ∙ before.tokens);
+            book = ap (λ (v : HandView). v.book) hand ∙ (w.lodge_ticket-ticket.ensures.book ∙ before.book);
           }
       | in-None w ↦
           let stood : get_or at.tickets.items place None ≡ None = sym c.take_out.ensures.right ∙ w.in-None.is in
           let there : get_or all place None ≡ None = sym (ap (λ ts. get_or ts place None) before.same) ∙ stood in
           let accounts = ap (λ v. v.items) w.accounts-is in
-          let permit = w.permit-is in
+          let hand = w.hand-is in
           record {
             same = ap (λ v. v.items) w.tickets-is ∙ (taken ∙ (left_none at.tickets.items place stood ∙ before.same));
             of_book = subst (AreOfBook book) (sym accounts) before.of_book;
@@ -94,11 +94,11 @@ loop-place-preserved g c =
                 (λ k h. weigh-take (in_place (λ (p : Placed). of_file (k + 1) (file_of image p.mark.owner) (h p.mark))) all place None within
                 ∙ ap (λ x. weigh (in_place (λ (p : Placed). of_file (k + 1) (file_of image p.mark.owner) (h p.mark))) (take place all) + x) (ap (in_place (λ (p : Placed). of_file (k + 1) (file_of image p.mark.owner) (h p.mark))) there)) (λ k h. refl));
             hand = λ h. (let so_far = before.hand h in
-                let same = ap (λ (v : HandView). weigh h v.tickets) permit in
+                let same = ap (λ (v : HandView). weigh h v.tickets) hand in
                 let next = weigh-take (in_place (λ (p : Placed). of_some files (file_of image p.mark.owner) (h p.mark))) all place None within in
                 let here : in_place (λ (p : Placed). of_some files (file_of image p.mark.owner) (h p.mark)) (get_or all place None) ≡ 0 = ap (in_place (λ (p : Placed). of_some files (file_of image p.mark.owner) (h p.mark))) there in
                 omega arith);
-            tokens = ap (λ (v : HandView). v.tokens) permit ∙ before.tokens;
-            book = ap (λ (v : HandView). v.book) permit ∙ before.book;
+            tokens = ap (λ (v : HandView). v.tokens) hand ∙ before.tokens;
+            book = ap (λ (v : HandView). v.book) hand ∙ before.book;
           }
     ]

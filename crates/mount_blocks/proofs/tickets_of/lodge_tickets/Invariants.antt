@@ -12,7 +12,7 @@ invariant-loop-place g l = record {
   same : l.tickets.items ≡ l.fn.tickets.items;
   of_book : AreOfBook l.books.book l.accounts.items;
   lodged : Lodges l.fn.accounts.items l.accounts.items (λ k h. weigh (in_place (λ (t : Placed). of_file (k + 1) (file_of (image_view l.image) t.mark.owner) (h t.mark))) (take l.place l.fn.tickets.items)) (λ _ _. 0);
-  hand : (h : Mark → ℕ) → weigh h l.permit.tickets + weigh (in_place (λ (t : Placed). of_some (length l.fn.accounts.items) (file_of (image_view l.image) t.mark.owner) (h t.mark))) (take l.place l.fn.tickets.items) ≡ weigh h l.fn.permit.tickets;
-  tokens : l.permit.tokens ≡ l.fn.permit.tokens;
-  book : l.permit.book ≡ l.fn.permit.book;
+  hand : (h : Mark → ℕ) → weigh h l.hand.tickets + weigh (in_place (λ (t : Placed). of_some (length l.fn.accounts.items) (file_of (image_view l.image) t.mark.owner) (h t.mark))) (take l.place l.fn.tickets.items) ≡ weigh h l.fn.hand.tickets;
+  tokens : l.hand.tokens ≡ l.fn.hand.tokens;
+  book : l.hand.book ≡ l.fn.hand.book;
 }

@@ -11,7 +11,7 @@ returns-then-inode-len-clause-hand c = λ h.
     let long = c.args.accounts.now.ok.0 in
     let count = c.len.ensures in
     let inode = c.inode-inode.ensures in
-    let less = ap (λ (v : HandView). weigh h v.tokens) c.lodge_token.ensures.permit in
-    let spent = without_entry h token c.args.permit.now.tokens c.requires.held in
+    let less = ap (λ (v : HandView). weigh h v.tokens) c.lodge_token.ensures.hand in
+    let spent = without_entry h token c.args.hand.now.tokens c.requires.held in
     let all = some_in (length c.args.accounts.now.items) token.inode (h token) (omega arith) (omega arith) in
     omega arith

@@ -2,7 +2,7 @@
 -- it the bytes are no rows at all.
 use Rattle.std.proofs.Common.{◌≡◌, sym, ◌∙◌, ℕ, ◌-◌, ◌^◌, ◌<◌, List, [], ◌∷◌, Option, Some, None, arith}
 use Rattle.std.specs.Prelude.{IfSome}
-use Rattle.image.specs.declared.image.Place.{Place}
+use Rattle.image.specs.declared.image.LogHead.{LogHead}
 use Rattle.image.specs.Node.{numbers}
 use Rattle.image.specs.Pack.{log_bytes}
 use Rattle.pack_tables.specs.Grammar.{IsPlaceRow}
@@ -11,12 +11,12 @@ use Rattle.pack_tables.proofs.Widths.{log_long}
 use Rattle.pack_tables.proofs.Fronts.{front_next, front_all, front_not}
 use Rattle.pack_tables.proofs.rows.decode_logs.Goals as goal
 
-abbrev IsLog : Option Place → Type 0
+abbrev IsLog : Option LogHead → Type 0
 IsLog log = IfSome log IsPlaceRow
 
 -- an offset beside the number that stands for none
 no_log : (row : List ℕ) (segment next : ℕ) → numbers (segment ∷ next ∷ []) ≡ row → segment < 2 ^ 32 → next < 2 ^ 32
-    → ((segment ≡ 2 ^ 32 - 1 → next ≡ 0) → ⊥) → (log : Option Place) → IsLog log → log_bytes log ≡ row → ⊥
+    → ((segment ≡ 2 ^ 32 - 1 → next ≡ 0) → ⊥) → (log : Option LogHead) → IsLog log → log_bytes log ≡ row → ⊥
 no_log row segment next is low small apart None fits same =
     apart (λ _. sym ((pair_same (2 ^ 32 - 1) 0 segment next (omega arith) (omega arith) low small (same ∙ sym is)).1))
 no_log row segment next is low small apart (Some place) fits same =

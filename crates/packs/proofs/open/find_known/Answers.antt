@@ -2,7 +2,7 @@ use Rattle.std.proofs.Common.{◌≡◌, sym, ◌∙◌, ap, subst, ℕ, true, f
 use Rattle.packs.specs.Parts.{body_bytes as bytes_of_body}
 use Rattle.packs.proofs.Sizes.{is_paged}
 use Rattle.packs.proofs.Knowing.{known_pages, none_out}
-use Rattle.packs_journal.specs.Places.{IsArea, page_count}
+use Rattle.packs_journal.specs.Places.{IsArea, page_count, map_pages}
 use Rattle.packs_journal.specs.Journal.{names_pages, is_head, map_of}
 use Rattle.packs_journal.specs.Reading.{head_in}
 use Rattle.packs_journal.proofs.Heads.{head_names}
@@ -20,7 +20,7 @@ returns-in-Some-clause-known g c =
     let found = rw c.in-Some.is at c.in_ok-map-in-Pages.ensures.map in
     let has : is_head (bytes_of_body geometry) head ≡ true = subst (λ (n : ℕ). is_head n head ≡ true) c.body_bytes.ensures found.0 in
     known_pages geometry c.args.slot _ (g.M.Meta.seen c.args.meta.now) c.in-Pages.is (λ _. sym found.1)
-    (ap (λ (m : List ℕ). names_pages (page_count (bytes_of_body geometry)) m 4352) found.1 ∙ head_names (bytes_of_body geometry) head has)
+    (ap (λ (m : List ℕ). names_pages (page_count (bytes_of_body geometry)) m map_pages) found.1 ∙ head_names (bytes_of_body geometry) head has)
     (λ k below out. absurd (none_out geometry c.nothing-known.result.pages.noted c.nothing-known.ensures.noted k below out))
 
 pub returns-in_default-clause-known : goal.returns-in_default-clause-known
@@ -30,5 +30,5 @@ returns-in_default-clause-known g c =
     let found = rw c.in_default.is at c.in_ok-map-in-Pages.ensures.map in
     let none : is_head (bytes_of_body geometry) head ≡ false = subst (λ (n : ℕ). is_head n head ≡ false) c.body_bytes.ensures found in
     known_pages geometry c.args.slot c.nothing-known.result (g.M.Meta.seen c.args.meta.now) c.in-Pages.is (λ is. absurd (let no : false ≡ true = sym none ∙ is in cc))
-    (ap (λ (m : List ℕ). names_pages (page_count (bytes_of_body geometry)) m 4352) c.nothing-known.ensures.pages ∙ zeros_named (page_count (bytes_of_body geometry)))
+    (ap (λ (m : List ℕ). names_pages (page_count (bytes_of_body geometry)) m map_pages) c.nothing-known.ensures.pages ∙ zeros_named (page_count (bytes_of_body geometry)))
     (λ k below out. absurd (none_out geometry c.nothing-known.result.pages.noted c.nothing-known.ensures.noted k below out))

@@ -1,5 +1,6 @@
 -- A word that differs is noted behind those before it; one that is the same needs no change.
 use Rattle.std.proofs.Common.{◌≡◌, refl, sym, ◌∙◌, ap, subst, inl, inr, ◌⊎◌, ⊎_elim, ℕ, suc, ◌+◌, ◌-◌, ◌*◌, ◌/◌, ◌<◌, ◌≤◌, List, length, take, drop, arith, length-drop}
+use Rattle.packs_journal.specs.Places.{most_changes}
 use Rattle.std.specs.Prelude.{min}
 use Rattle.std.proofs.lemmas.Bool.{cases_lt}
 use Rattle.std.proofs.lemmas.List.{length-take-le}
@@ -69,7 +70,7 @@ loop-w-preserved c =
                 subst (λ (x : Changes). AreRising words x.bytes x.count (512 * k + (w + 1))) (sym v.changes-is)
                 (subst (λ (m : ℕ). AreRising words now.bytes m (512 * k + (w + 1))) (sym count)
                 (rising_on words now.bytes (suc was.count) (suc (512 * k + w)) (512 * k + (w + 1)) (omega arith) more));
-            few = subst (λ (x : Changes). x.count ≤ 248) (sym v.changes-is) e.few;
+            few = subst (λ (x : Changes). x.count ≤ most_changes) (sym v.changes-is) e.few;
             pages = ap (λ (x : Changes). x.pages) v.changes-is ∙ e.pages ∙ inv.pages;
           }
       | else-not-are_same-via-else-not-are_same v ↦
@@ -82,7 +83,7 @@ loop-w-preserved c =
             rises = λ words enough first.
                 subst (λ (x : Changes). AreRising words x.bytes x.count (512 * k + (w + 1))) (sym v.changes-is)
                 (rising_on words was.bytes was.count (512 * k + w) (512 * k + (w + 1)) (omega arith) (inv.rises words enough first));
-            few = subst (λ (x : Changes). x.count ≤ 248) (sym v.changes-is) inv.few;
+            few = subst (λ (x : Changes). x.count ≤ most_changes) (sym v.changes-is) inv.few;
             pages = ap (λ (x : Changes). x.pages) v.changes-is ∙ inv.pages;
           }
     ]

@@ -1,5 +1,6 @@
 -- Each of the pieces is put behind the one before, so none reaches another.
 use Rattle.std.proofs.Common.{◌≡◌, sym, ◌∙◌, ap, ℕ, ◌+◌, ◌≤◌, List, length, take, replicate, arith}
+use Rattle.packs_journal.specs.Places.{changes_at, head_bytes, map_bytes}
 use Rattle.byteorder.specs.Endian.{little_bytes}
 use Rattle.byteorder.specs.Numbers.{length-bytes_low_first}
 use Rattle.device.specs.Disk.{part}
@@ -24,7 +25,7 @@ module _ (c : goal.After-head-8-1) where
   -- the front that ends where the map begins
   fronts : (p k : ℕ) → p + k ≤ 64 → part p k four ≡ part p k two
   fronts p k le =
-      put_before 608 c.bytes.result.now three four c.put_bytes-3.ensures.within c.put_bytes-3.ensures.put p k (omega (arith, le))
+      put_before changes_at c.bytes.result.now three four c.put_bytes-3.ensures.within c.put_bytes-3.ensures.put p k (omega (arith, le))
       ∙ put_before 64 c.args.map.now two three c.put_bytes-2.ensures.within c.put_bytes-2.ensures.put p k le
 
   number_within : 56 + length (little_bytes 4 c.args.changes.now.count) ≤ length one
@@ -34,10 +35,10 @@ pub returns-clause-front : goal.returns-clause-front
 returns-clause-front c =
     let body = take 56 c.args.body.now in
     let long : length body ≡ 56 = length-take-le 56 c.args.body.now c.requires.body in
-    put_front 608 c.bytes.result.now (three c) (four c) c.put_bytes-3.ensures.within c.put_bytes-3.ensures.put 56 (omega arith)
+    put_front changes_at c.bytes.result.now (three c) (four c) c.put_bytes-3.ensures.within c.put_bytes-3.ensures.put 56 (omega arith)
     ∙ put_front 64 c.args.map.now (two c) (three c) c.put_bytes-2.ensures.within c.put_bytes-2.ensures.put 56 (omega arith)
     ∙ put_front 56 (little_bytes 4 c.args.changes.now.count) (one c) (two c) (number_within c) c.put_number.ensures.put 56 (omega arith)
-    ∙ ap (λ (n : ℕ). take n (one c)) (sym long) ∙ holds_part 0 body (replicate 3584 0) (one c) c.put_bytes.ensures.within c.put_bytes.ensures.put
+    ∙ ap (λ (n : ℕ). take n (one c)) (sym long) ∙ holds_part 0 body (replicate head_bytes 0) (one c) c.put_bytes.ensures.within c.put_bytes.ensures.put
 
 pub returns-clause-count : goal.returns-clause-count
 returns-clause-count c = number_by_part 56 (four c) (two c) (fronts c 56 4 (omega arith))
@@ -45,16 +46,16 @@ returns-clause-count c = number_by_part 56 (four c) (two c) (fronts c 56 4 (omeg
 
 pub returns-clause-zeros : goal.returns-clause-zeros
 returns-clause-zeros c =
-    number_by_part 60 (four c) (replicate 3584 0)
+    number_by_part 60 (four c) (replicate head_bytes 0)
     (fronts c 60 4 (omega arith)
     ∙ put_after 56 (little_bytes 4 c.args.changes.now.count) (one c) (two c) (number_within c) c.put_number.ensures.put 60 4 (omega (arith, length-bytes_low_first 0 4 c.args.changes.now.count))
-    ∙ put_after 0 (take 56 c.args.body.now) (replicate 3584 0) (one c) c.put_bytes.ensures.within c.put_bytes.ensures.put 60 4 (omega (arith, length-take-le 56 c.args.body.now c.requires.body)))
+    ∙ put_after 0 (take 56 c.args.body.now) (replicate head_bytes 0) (one c) c.put_bytes.ensures.within c.put_bytes.ensures.put 60 4 (omega (arith, length-take-le 56 c.args.body.now c.requires.body)))
 
 pub returns-clause-map : goal.returns-clause-map
 returns-clause-map c =
-    put_before 608 c.bytes.result.now (three c) (four c) c.put_bytes-3.ensures.within c.put_bytes-3.ensures.put 64 544 (omega arith)
+    put_before changes_at c.bytes.result.now (three c) (four c) c.put_bytes-3.ensures.within c.put_bytes-3.ensures.put 64 map_bytes (omega arith)
     ∙ ap (λ (n : ℕ). part 64 n (three c)) (sym c.told-map) ∙ holds_part 64 c.args.map.now (two c) (three c) c.put_bytes-2.ensures.within c.put_bytes-2.ensures.put
 
 pub returns-clause-changes : goal.returns-clause-changes
 returns-clause-changes c =
-    ap (λ (n : ℕ). part 608 n (four c)) (sym c.bytes.ensures.long) ∙ holds_part 608 c.bytes.result.now (three c) (four c) c.put_bytes-3.ensures.within c.put_bytes-3.ensures.put ∙ c.bytes.ensures.bytes
+    ap (λ (n : ℕ). part changes_at n (four c)) (sym c.bytes.ensures.long) ∙ holds_part changes_at c.bytes.result.now (three c) (four c) c.put_bytes-3.ensures.within c.put_bytes-3.ensures.put ∙ c.bytes.ensures.bytes

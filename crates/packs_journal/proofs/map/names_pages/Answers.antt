@@ -1,4 +1,5 @@
 use Rattle.std.proofs.Common.{refl, sym, ◌∙◌, ap, ℕ, arith, add-one}
+use Rattle.packs_journal.specs.Places.{map_pages}
 use Rattle.std.specs.Prelude.{◌||◌, ◌==◌}
 use Rattle.std.proofs.lemmas.Bool.{lt-ltb, le-ltb, ne_eqb}
 use Rattle.packs_journal.specs.Journal.{copy_in, names_pages as names_pages_of}
@@ -14,7 +15,7 @@ pub returns-then-copy_of-ne0 : goal.returns-then-copy_of-ne0
 returns-then-copy_of-ne0 c =
     let k = c.loop-k.k in
     let map = c.args.map.now in
-    sym (named_not c.args.pages map k 4352 c.loop-k-test.true
+    sym (named_not c.args.pages map k map_pages c.loop-k-test.true
     (ap (λ b. b || (copy_in map k == 0)) (le-ltb k c.args.pages c.if-k-pages.true)
     ∙ ne_eqb (copy_in map k) 0 (λ is. c.if-copy_of-ne0.true (c.copy_of.ensures.copy ∙ is))))
 

@@ -1,14 +1,14 @@
 use Rattle.std.proofs.Common.{◌≡◌, sym, ◌∙◌, ap, ℕ, ◌*◌, ◌≤◌, true, false, List, ◌++◌, length, take, arith}
 use Rattle.std.proofs.lemmas.List.{length-take}
 use Rattle.image.specs.Reading.{number_at}
-use Rattle.packs_journal.specs.Places.{page_count as pages_of}
+use Rattle.packs_journal.specs.Places.{page_count as pages_of, changes_at, changes_bytes, most_changes}
 use Rattle.packs_journal.specs.Journal.{map_of as map_in, changes_of, patched, is_head as is_head_of}
 use Rattle.packs_journal.specs.Reading.{head_in, gathered, assembled}
 use Rattle.packs_journal.proofs.Pieces.{part_long}
 use Rattle.packs_journal.proofs.Heads.{head_few, assembled_none, assembled_some}
 use Rattle.packs_journal.proofs.reading.read_body.Goals as goal
 
-room : (n : ℕ) (xs : List ℕ) → length xs ≡ 2976 → n ≤ 248 → 12 * n ≤ length xs
+room : (n : ℕ) (xs : List ℕ) → length xs ≡ changes_bytes → n ≤ most_changes → 12 * n ≤ length xs
 room n xs long few = omega (arith, long, few)
 
 pub returns-then-not-is_head-clause-none : goal.returns-then-not-is_head-clause-none
@@ -25,7 +25,7 @@ patch-requires g c =
     let head = c.read_head.new.head in
     let has : is_head_of (length c.args.out.now) head ≡ true = sym c.is_head.ensures ∙ c.if-not-is_head.false in
     let few = head_few (length c.args.out.now) head has in
-    room c.count_of.result _ (part_long 608 2976 head (omega (arith, c.read_head.array_long))) (omega (arith, few, c.count_of.ensures))
+    room c.count_of.result _ (part_long changes_at changes_bytes head (omega (arith, c.read_head.array_long))) (omega (arith, few, c.count_of.ensures))
 
 pub returns-clause-body : goal.returns-clause-body
 returns-clause-body g c = λ _.

@@ -2,7 +2,7 @@ use Rattle.std.proofs.Common.{◌≡◌, subst, inr, ℕ, ◌+◌, ◌-◌, ◌*
 use Rattle.std.proofs.lemmas.Result.{on_ok_weaker}
 use Rattle.std.proofs.lemmas.List.{length-take-le}
 use Rattle.device.specs.Disk.{Torn, Holds}
-use Rattle.packs_journal.specs.Places.{head_at as place_of_head, page_at, page_size}
+use Rattle.packs_journal.specs.Places.{head_at as place_of_head, page_at, page_size, changes_at, head_bytes, most_changes}
 use Rattle.packs_journal.specs.Journal.{map_of, copy_in, is_head}
 use Rattle.packs_journal.specs.Reading.{head_in, assembled}
 use Rattle.packs_journal.specs.Staging.{IsBeside}
@@ -28,12 +28,12 @@ module _ (g : given.Over) (c : goal.After-write g) where
   new = g.M.Meta.seen c.write.new.self
 
   abbrev Written : Type 0
-  Written = Holds old c.head_at.result (take (608 + 12 * count) c.spell_head-head.result) new
+  Written = Holds old c.head_at.result (take (changes_at + 12 * count) c.spell_head-head.result) new
 
-  put : Written → Holds old (place_of_head other) (take (608 + 12 * count) c.spell_head-head.result) new
-  put holds = subst (λ (a : ℕ). Holds old a (take (608 + 12 * count) c.spell_head-head.result) new) c.head_at.ensures holds
+  put : Written → Holds old (place_of_head other) (take (changes_at + 12 * count) c.spell_head-head.result) new
+  put holds = subst (λ (a : ℕ). Holds old a (take (changes_at + 12 * count) c.spell_head-head.result) new) c.head_at.ensures holds
 
-  within : place_of_head other + 3584 ≤ length old
+  within : place_of_head other + head_bytes ≤ length old
   within = omega (arith, c.requires.area.long)
 
   other_le : other ≤ 1
@@ -55,14 +55,14 @@ module _ (g : given.Over) (c : goal.After-write g) where
       s.front s.count s.zeros s.map s.changes (put holds) c.requires.named c.requires.rises c.requires.patched
 
   -- the bytes that were written
-  long : length (take (608 + 12 * count) c.spell_head-head.result) ≡ 608 + 12 * count
-  long = length-take-le (608 + 12 * count) c.spell_head-head.result (omega (arith, c.spell_head-head.ensures.long, c.requires.few))
+  long : length (take (changes_at + 12 * count) c.spell_head-head.result) ≡ changes_at + 12 * count
+  long = length-take-le (changes_at + 12 * count) c.spell_head-head.result (omega (arith, c.spell_head-head.ensures.long, c.requires.few))
 
-  torn_head : (x y : List ℕ) → Torn c.head_at.result (length (take (608 + 12 * count) c.spell_head-head.result)) x y → Torn (place_of_head other) (608 + 12 * count) x y
-  torn_head x y torn = subst (λ (a : ℕ). Torn a (608 + 12 * count) x y) c.head_at.ensures (subst (λ (n : ℕ). Torn c.head_at.result n x y) long torn)
+  torn_head : (x y : List ℕ) → Torn c.head_at.result (length (take (changes_at + 12 * count) c.spell_head-head.result)) x y → Torn (place_of_head other) (changes_at + 12 * count) x y
+  torn_head x y torn = subst (λ (a : ℕ). Torn a (changes_at + 12 * count) x y) c.head_at.ensures (subst (λ (n : ℕ). Torn c.head_at.result n x y) long torn)
 
-  step : (x y : List ℕ) → Torn c.head_at.result (length (take (608 + 12 * count) c.spell_head-head.result)) x y → IsBeside len c.args.slot x y
-  step x y torn = head_beside len c.args.slot (608 + 12 * count) x y c.requires.slot (omega (arith, c.requires.few)) (torn_head x y torn)
+  step : (x y : List ℕ) → Torn c.head_at.result (length (take (changes_at + 12 * count) c.spell_head-head.result)) x y → IsBeside len c.args.slot x y
+  step x y torn = head_beside len c.args.slot (changes_at + 12 * count) x y c.requires.slot (omega (arith, c.requires.few)) (torn_head x y torn)
 
 pub returns-clause-staged : goal.returns-clause-staged
 returns-clause-staged g c = on_ok_weaker c.write.result (staged g c) c.write.ensures.written
@@ -74,13 +74,13 @@ pub returns-clause-map : goal.returns-clause-map
 returns-clause-map g c = on_ok_weaker c.write.result (mapped g c) c.write.ensures.written
 
 -- heads lie before the pages
-before_pages : (slot n k a : ℕ) → slot ≤ 1 → n ≤ 248 → place_of_head slot + (608 + 12 * n) ≤ page_at k a
+before_pages : (slot n k a : ℕ) → slot ≤ 1 → n ≤ most_changes → place_of_head slot + (changes_at + 12 * n) ≤ page_at k a
 before_pages slot n k a le few = omega (arith, le, few)
 
 pub returns-clause-pages : goal.returns-clause-pages
 returns-clause-pages g c = λ k below.
     let copy = copy_in c.args.map.now k in
-    apart_same (place_of_head (other g c)) (608 + 12 * count g c) (page_at k copy) (page_size (len g c) k) (old g c) (new g c)
+    apart_same (place_of_head (other g c)) (changes_at + 12 * count g c) (page_at k copy) (page_size (len g c) k) (old g c) (new g c)
     (inr (before_pages (other g c) (count g c) k copy (other_le g c) c.requires.few)) (torn_head g c (old g c) (new g c) c.write.ensures.others)
 
 pub returns-clause-beside : goal.returns-clause-beside

@@ -1,6 +1,6 @@
 use Rattle.std.proofs.Common.{map}
 use Rattle.std.specs.Vec.Iter.{into_iter_items}
-use Rattle.program_run.specs.Duties.{IsMade}
+use Rattle.program_run.specs.PartJobs.{IsMade}
 use Rattle.program_run.proofs.Zipping.{ZippedSo}
 use Rattle.program_run.proofs.part.all_done.Given as goal
 

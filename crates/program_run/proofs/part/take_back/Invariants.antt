@@ -1,6 +1,6 @@
 use Rattle.std.proofs.Common.{◌≡◌, All, length, map, vec_len}
 use Rattle.program_run.specs.Files.{AreInOrder, Files}
-use Rattle.program_run.specs.Duties.{AreBack}
+use Rattle.program_run.specs.PartJobs.{AreBack}
 use Rattle.program_run.proofs.part.take_back.Given as goal
 
 abbrev pub invariant-loop-made : goal.invariant-loop-made

@@ -1,6 +1,6 @@
 use Rattle.std.proofs.Common.{map, take}
 use Rattle.std.specs.Io.KnownBytes.{Appends}
-use Rattle.program_run.specs.Duties.{told_text}
+use Rattle.program_run.specs.PartJobs.{told_text}
 use Rattle.program_run.proofs.part.tell_all.Given as goal
 
 abbrev pub invariant-loop-number : goal.invariant-loop-number

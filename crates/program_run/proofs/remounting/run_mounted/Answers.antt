@@ -1,8 +1,8 @@
--- The crew began with the files of the image that the parts hold, and the door left the volume as it asked. The writer that comes
+-- The scheduler began with the files of the image that the parts hold, and the door left the volume as it asked. The writer that comes
 -- back is the one that was lent, so what it holds is what `out` holds in the end.
 use Rattle.std.proofs.Common.{rules, refl, subst, IfOk}
 use Rattle.image_codec.specs.Blocks.{bytes_at}
-use Rattle.program_run.specs.Crew.{RanScript}
+use Rattle.program_run.specs.Scheduler.{RanScript}
 use Rattle.program_run.specs.Ending.{WentOn}
 use Rattle.program_run.specs.declared.remounting.Left.{Left}
 use Rattle.program_run.proofs.Leaving.{went_with_script}
@@ -10,8 +10,8 @@ use Rattle.program_run.proofs.Loans.{ends_as}
 use Rattle.program_run.proofs.Shown.{in_order}
 use Rattle.program_run.proofs.remounting.run_mounted.Goals as goal
 
-pub visit_by_turns-requires-clause-fits : goal.visit_by_turns-requires-clause-fits
-visit_by_turns-requires-clause-fits g c κs within geometry image blocks before are = in_order geometry image blocks before are
+pub visit_by_rounds-requires-clause-fits : goal.visit_by_rounds-requires-clause-fits
+visit_by_rounds-requires-clause-fits g c κs within geometry image blocks before are = in_order geometry image blocks before are
 
 pub returns-in_ok-run-in-Ok-left-clause-done : goal.returns-in_ok-run-in-Ok-left-clause-done
 returns-in_ok-run-in-Ok-left-clause-done g c =

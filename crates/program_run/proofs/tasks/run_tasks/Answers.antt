@@ -1,6 +1,6 @@
 use Rattle.std.proofs.Common.{◌∙◌, get_or, subst}
-use Rattle.program_script.specs.declared.command.Work.TheVariants.{Write}
-use Rattle.program_script.specs.declared.script.Task.{Task}
+use Rattle.program_script.specs.declared.command.WorkerDeed.TheVariants.{Write}
+use Rattle.program_script.specs.declared.script.WorkerTask.{WorkerTask}
 use Rattle.program_run.specs.Work.{Wrote}
 use Rattle.program_run.specs.Tasks.{TaskWrites}
 use Rattle.program_run.proofs.Doing.{wrote_more}
@@ -11,7 +11,7 @@ loop-task-preserved g c =
     let contents = g.W.Write.contents in
     let tasks = c.args.tasks.now in
     let place = c.loop-task.task-index in
-    let none : Task = record { line = 0; work = Write 0 0 0 } in
+    let none : WorkerTask = record { line = 0; work = Write 0 0 0 } in
     let before = c.loop-task.invariant in
     let number = c.args.calls.now.worker in
     let told = subst (λ n. Wrote (TaskWrites n (get_or tasks place none).work c.loop-task.share c.run_task.new.share) (contents c.loop-task.out) (contents c.run_task.new.out))

@@ -2,13 +2,13 @@ use Rattle.std.proofs.Common.{rules, ap, ap₂, true, ◌≡◌, ◌∙◌}
 use Rattle.std.proofs.lemmas.Result.{IfOk-weaker}
 use Rattle.clap.specs.Words.{App, app_of, rule_of, with_rule, with_subcommand}
 use Rattle.clap.specs.Simple.{app_of_fields}
-use Rattle.program_script.specs.Call.{bare, run, save, threading}
+use Rattle.program_script.specs.Call.{bare, run, save, hole_reuse}
 use Rattle.program_script.proofs.words.with_run.Goals as goal
 
 pub returns : goal.returns
 returns c =
     let save_is : rule_of c.long-save.result ≡ save = search rules in
-    let rule_is : rule_of c.long-threading.result ≡ threading = search rules in
+    let rule_is : rule_of c.long-hole_reuse.result ≡ hole_reuse = search rules in
     let saving_is = c.in_ok-run.ensures.shape (search rules) ∙ ap₂ with_rule c.new-3.ensures.app save_is in
     let run_is : app_of c.in_ok-run-2.run' ≡ run = c.in_ok-run-2.ensures.shape (search rules) ∙ ap₂ with_rule saving_is rule_is in
     let bare_is : app_of c.subcommand_required.result ≡ bare

@@ -8,7 +8,7 @@ use Rattle.atomic_table.specs.Seated.{TableId}
 use Rattle.atomic_table.specs.contracts.shared.Shared as table
 use Rattle.atomic_table.proofs.Fields.{HandData}
 use Rattle.rights_books.specs.Shown.{shown_shares, Tells}
-use Rattle.rights_books.specs.contracts.shown.Shown as shown
+use Rattle.rights_books.specs.contracts.shown.RestingSeat as shown
 use Rattle.rights_books.proofs.Fields.{Pin}
 use Rattle.rights_books.proofs.Looking.{agreed}
 use Rattle.rights_books.specs.contracts.compare.agree.{ended, clauses}

@@ -1,5 +1,5 @@
 use Rattle.std.proofs.Common.{◌≡◌, ◌-◌, ◌+◌, [], ◌∷◌, ◌++◌, replicate, ap, sym, ◌∙◌}
-use Rattle.words.specs.declared.claim.Claim.TheVariants.{Checkpoint, Reads}
+use Rattle.words.specs.declared.claim.SeatClaim.TheVariants.{Checkpoint, Reads}
 use Rattle.words.specs.Claims.{fresh_pins, pins_of, second, without_second}
 use Rattle.words.specs.Tokens.{Holder, fresh_holder}
 use Rattle.words.proofs.Dealing.{replicate_less, replicate_more}

@@ -1,15 +1,15 @@
 -- What the seat has left are the standings and slips from the next segment on, and the readers: so each turn splits off
 -- the next segment's two, and at the end the readers are left.
 use Rattle.std.proofs.Common.{◌≡◌, ℕ, ◌<◌, ◌-◌, ◌+◌, List, [], ◌∷◌, ◌++◌, replicate, ap, sym, ◌∙◌, arith}
-use Rattle.words.specs.declared.claim.Claim.{Claim}
-use Rattle.words.specs.declared.claim.Claim.TheVariants.{Checkpoint, Stands, Slip, Reads}
+use Rattle.words.specs.declared.claim.SeatClaim.{SeatClaim}
+use Rattle.words.specs.declared.claim.SeatClaim.TheVariants.{Checkpoint, Stands, Slip, Reads}
 use Rattle.words.specs.Claims.{fresh_life, fresh_pins, fresh_segments, life_of, second, without_second}
 use Rattle.words.specs.Tokens.{Post, FreeSegment, fresh_post, fresh_slip}
 use Rattle.words.proofs.Dealing.{segments_less, posts_more, slips_more}
 use Rattle.words.proofs.deal.deal_segments.Goals as goal
 
 -- what the seat has before the next segment's claims are split off
-dealt_next : (version k n : ℕ) (rest had : List Claim) → had ≡ Checkpoint version ∷ (fresh_segments k (n - k) ++ rest) → k < n
+dealt_next : (version k n : ℕ) (rest had : List SeatClaim) → had ≡ Checkpoint version ∷ (fresh_segments k (n - k) ++ rest) → k < n
     → had ≡ Checkpoint version ∷ Stands (fresh_life k) ∷ Slip k ∷ (fresh_segments (k + 1) (n - (k + 1)) ++ rest)
 dealt_next version k n rest had is low = is ∙ ap (λ r. Checkpoint version ∷ (r ++ rest)) (segments_less k n low)
 

@@ -3,7 +3,7 @@
 use Rattle.std.proofs.Common.{◌≡◌, ℕ, ◌<◌, ◌≤◌, Bool, None, Some, List, ap, sym, subst, ◌∙◌, refl, arith}
 use Rattle.std.specs.Prelude.{slice_index, slice_index_or}
 use Rattle.geometry.specs.declared.owner.Mark.{Mark}
-use Rattle.rights_books.specs.declared.claim.Entry.{Entry}
+use Rattle.rights_books.specs.declared.claim.TakenNumber.{TakenNumber}
 use Rattle.rights_books.specs.Weights.{mark_of}
 use Rattle.image.specs.Image.{Image, node_of}
 use Rattle.image.specs.Walk.{node_name}
@@ -17,7 +17,7 @@ use Rattle.mount_blocks.proofs.load.BranchLoad.load.Goals as goal
 token_named : {L : Type 0} (mark : L → Mark) (is_leaf : Bool) (names : (Mark → ℕ) → ℕ → ℕ → ℕ → ℕ) (image : Image) (n : ℕ) (goods : Goods L)
     → AreLeft goods.tickets goods.all.tickets → AreLeft goods.tokens goods.all.tokens → ArePlaced mark goods.all
     → ((h : Mark → ℕ) → names_below is_leaf (names h) image h n ≤ marks_weight mark h goods) → 0 < n
-    → (e : Entry) × (slice_index_or goods.tokens n None ≡ Some e) × (mark_of e ≡ node_name image n)
+    → (e : TakenNumber) × (slice_index_or goods.tokens n None ≡ Some e) × (mark_of e ≡ node_name image n)
 token_named mark is_leaf names image n goods tickets tokens placed there positive =
     token_there mark goods tickets tokens placed (node_name image n) n refl
     (λ h. let all = there h in let parts = node_names is_leaf (names h) image h n positive in omega arith)
@@ -26,7 +26,7 @@ token_named mark is_leaf names image n goods tickets tokens placed there positiv
 token_is : {L : Type 0} (mark : L → Mark) (is_leaf : Bool) (names : (Mark → ℕ) → ℕ → ℕ → ℕ → ℕ) (image : Image) (n : ℕ) (goods : Goods L)
     → AreLeft goods.tickets goods.all.tickets → AreLeft goods.tokens goods.all.tokens → ArePlaced mark goods.all
     → ((h : Mark → ℕ) → names_below is_leaf (names h) image h n ≤ marks_weight mark h goods) → 0 < n
-    → (t : Entry) → slice_index_or goods.tokens n None ≡ Some t → mark_of t ≡ node_name image n
+    → (t : TakenNumber) → slice_index_or goods.tokens n None ≡ Some t → mark_of t ≡ node_name image n
 token_is mark is_leaf names image n goods tickets tokens placed there positive t taken =
     let found = token_named mark is_leaf names image n goods tickets tokens placed there positive in
     same_one (λ e. mark_of e ≡ node_name image n) (slice_index_or goods.tokens n None) found.0 t found.1 taken found.2

@@ -3,7 +3,7 @@
 use Rattle.std.proofs.Common.{◌/◌, length, ap, sym, ◌∙◌, subst, arith}
 use Rattle.std.proofs.lemmas.Result.{on_ok_weaker}
 use Rattle.rights_books.specs.Accounts.{ShardView}
-use Rattle.rights_books.specs.declared.claim.Entry.{Entry}
+use Rattle.rights_books.specs.declared.claim.TakenNumber.{TakenNumber}
 use Rattle.nat.specs.Shard.{HasOwnNodes}
 use Rattle.nat.proofs.Shards.{own_nodes, read_at, stands_within, not_none, slot_spells}
 use Rattle.nat.proofs.shard.Shard.read.Goals as goal
@@ -26,7 +26,7 @@ read-requires g c =
     let w = stands_within s.nodes s.number s.slots.items s.account c.self.invariant.0 c.args.token.now c.number.result c.number.ensures c.find.ensures.taken in
     let at = read_at s.slots.items (c.number.result / 16) c.index_mut.result.now c.index_mut.ensures.value w ∙ c.in-Some.is in
     let spells = slot_spells s.nodes s.number s.slots.items s.account c.self.invariant.0 c.args.token.now c.number.result c.number.ensures c.find.ensures.taken c.in-Some.slot at in
-    c.requires.out ∙ ap (λ (e : Entry). length e.bytes) spells
+    c.requires.out ∙ ap (λ (e : TakenNumber). length e.bytes) spells
 
 pub returns-clause-bytes : goal.returns-clause-bytes
 returns-clause-bytes g c =
@@ -34,7 +34,7 @@ returns-clause-bytes g c =
     let w = stands_within s.nodes s.number s.slots.items s.account c.self.invariant.0 c.args.token.now c.number.result c.number.ensures c.find.ensures.taken in
     let at = read_at s.slots.items (c.number.result / 16) c.index_mut.result.now c.index_mut.ensures.value w ∙ c.in-Some.is in
     let spells = slot_spells s.nodes s.number s.slots.items s.account c.self.invariant.0 c.args.token.now c.number.result c.number.ensures c.find.ensures.taken c.in-Some.slot at in
-    on_ok_weaker c.read.result (λ bytes. bytes ∙ sym (ap (λ (e : Entry). e.bytes) spells)) c.read.ensures.bytes
+    on_ok_weaker c.read.result (λ bytes. bytes ∙ sym (ap (λ (e : TakenNumber). e.bytes) spells)) c.read.ensures.bytes
 
 pub returns-clause-own : goal.returns-clause-own
 returns-clause-own g c =

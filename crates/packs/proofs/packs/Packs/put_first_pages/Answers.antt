@@ -11,7 +11,7 @@ use Rattle.packs.proofs.Sizes.{is_paged}
 use Rattle.packs.proofs.Keeping.{torn_area, area_joined}
 use Rattle.packs.proofs.Paging.{beside_area}
 use Rattle.packs.proofs.Knowing.{known_pages, none_out}
-use Rattle.packs_journal.specs.Places.{IsArea, head_at, footer_at, page_count}
+use Rattle.packs_journal.specs.Places.{IsArea, head_at, footer_at, page_count, head_bytes, map_bytes, map_pages}
 use Rattle.packs_journal.specs.Journal.{map_of, names_pages, is_head}
 use Rattle.packs_journal.specs.Reading.{head_in, footer_in, assembled}
 use Rattle.packs_journal.specs.Pages.{DiffersIn}
@@ -20,17 +20,17 @@ use Rattle.packs_journal.proofs.Maps.{zeros_named}
 use Rattle.packs.proofs.packs.Packs.put_first_pages.Goals as goal
 
 -- a head's write leaves the footers
-feet_stay : (n : ℕ) (c d : List ℕ) → n ≤ 3584 → Torn (head_at 0) n c d → (slot : ℕ) → slot < 2 → footer_in slot d ≡ footer_in slot c
+feet_stay : (n : ℕ) (c d : List ℕ) → n ≤ head_bytes → Torn (head_at 0) n c d → (slot : ℕ) → slot < 2 → footer_in slot d ≡ footer_in slot c
 feet_stay n c d few torn slot below = ap (little_number 4) (apart_same (head_at 0) n (footer_at slot) 4 c d (inr (omega (arith, few))) torn)
 
-zeros_are : length (replicate {A = ℕ} 3584 0) ≡ 3584
-zeros_are = length-replicate {A = ℕ} 3584 0
+zeros_are : length (replicate {A = ℕ} head_bytes 0) ≡ head_bytes
+zeros_are = length-replicate {A = ℕ} head_bytes 0
 
-zeros_long : length (replicate {A = ℕ} 3584 0) ≤ 3584
+zeros_long : length (replicate {A = ℕ} head_bytes 0) ≤ head_bytes
 zeros_long = omega (arith, zeros_are)
 
-no_map : map_of (replicate 3584 0) ≡ replicate 544 0
-no_map = ap (take 544) (drop-replicate 64 3584 0) ∙ take-replicate 544 3520 0 (omega arith)
+no_map : map_of (replicate head_bytes 0) ≡ replicate map_bytes 0
+no_map = ap (take map_bytes) (drop-replicate 64 head_bytes 0) ∙ take-replicate map_bytes 3520 0 (omega arith)
 
 head_torn : (n : ℕ) (at : ℕ) (c d : List ℕ) → at ≡ head_at 0 → Torn at n c d → Torn (head_at 0) n c d
 head_torn n at c d is torn = subst (λ (a : ℕ). Torn a n c d) is torn
@@ -55,14 +55,14 @@ stage-requires-clause-mapped g c =
     let p = c.args.self.now in
     let whole = is_paged p.geometry (seen p.meta) c.requires.pages c.requires.area in
     let was : IsArea (length c.args.body.now) (seen p.meta) = subst (λ (n : ℕ). IsArea n (seen p.meta)) (sym c.requires.len) whole in
-    let holds = subst (λ (a : ℕ). Holds (seen p.meta) a (replicate 3584 0) (seen c.write.new.self)) c.head_at.ensures c.in_ok-write.ensures.written in
-    let head : head_in 0 (seen c.write.new.self) ≡ replicate 3584 0
-    = ap (λ (n : ℕ). part (head_at 0) n (seen c.write.new.self)) (sym zeros_are) ∙ holds_part (head_at 0) (replicate 3584 0) (seen p.meta) (seen c.write.new.self) (omega (arith, zeros_are, whole.long)) holds in
+    let holds = subst (λ (a : ℕ). Holds (seen p.meta) a (replicate head_bytes 0) (seen c.write.new.self)) c.head_at.ensures c.in_ok-write.ensures.written in
+    let head : head_in 0 (seen c.write.new.self) ≡ replicate head_bytes 0
+    = ap (λ (n : ℕ). part (head_at 0) n (seen c.write.new.self)) (sym zeros_are) ∙ holds_part (head_at 0) (replicate head_bytes 0) (seen p.meta) (seen c.write.new.self) (omega (arith, zeros_are, whole.long)) holds in
     record {
       area = record { body = was.body; long = ap length c.sync.ensures.quiet.same ∙ c.write.ensures.others.long ∙ was.long };
       one = omega arith;
       mapped = λ d left is. ap (λ (l : List ℕ). map_of (head_in 0 l)) (c.in_ok-sync.ensures.durable d left) ∙ ap map_of head ∙ no_map ∙ sym c.nothing-pages.ensures.map;
-      named = ap (λ (m : List ℕ). names_pages (page_count (length c.args.body.now)) m 4352) c.nothing-pages.ensures.map ∙ zeros_named (page_count (length c.args.body.now));
+      named = ap (λ (m : List ℕ). names_pages (page_count (length c.args.body.now)) m map_pages) c.nothing-pages.ensures.map ∙ zeros_named (page_count (length c.args.body.now));
     }
 
 pub stage-requires-clause-differs : goal.stage-requires-clause-differs
@@ -97,7 +97,7 @@ returns-clause-known g c =
     let next = c.stage.new.pages in
     let now = g.M.Meta.seen c.stage.new.meta in
     let noted = subst (λ (b : List ℕ). DiffersIn next.noted (length c.args.body.now) next.map b now) (sym e.staged) e.noted in
-    known_pages p.geometry 1 (record { map = None; pages = next }) now c.requires.pages (λ _. e.map) (subst (λ (n : ℕ). names_pages (page_count n) next.map 4352 ≡ true) len c.stage.ensures.named)
+    known_pages p.geometry 1 (record { map = None; pages = next }) now c.requires.pages (λ _. e.map) (subst (λ (n : ℕ). names_pages (page_count n) next.map map_pages ≡ true) len c.stage.ensures.named)
     (subst (λ (n : ℕ). DiffersIn next.noted n next.map (assembled n 1 now) now) len noted)
 
 pub returns-clause-staged : goal.returns-clause-staged

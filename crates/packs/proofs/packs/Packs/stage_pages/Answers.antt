@@ -8,7 +8,7 @@ use Rattle.packs.specs.Area.{pages_reading}
 use Rattle.packs.specs.Device.{body_of}
 use Rattle.packs.proofs.Sizes.{is_paged}
 use Rattle.packs.proofs.Paging.{known_map, known_names, known_noted, paged_moments, paged_staged, beside_area}
-use Rattle.packs_journal.specs.Places.{page_count}
+use Rattle.packs_journal.specs.Places.{page_count, map_pages}
 use Rattle.packs_journal.specs.Journal.{names_pages}
 use Rattle.packs_journal.specs.Reading.{page_in, assembled as paged}
 use Rattle.packs_journal.specs.Staging.{IsMapped, IsBeside, IsBesideOne, body_page}
@@ -66,5 +66,5 @@ returns-clause-staged g c =
     (record { map = None; pages = next })
     (subst (λ (n : ℕ). IsBeside n (slot_of p.version) (seen p.meta) (seen c.stage.new.meta)) len c.stage.ensures.beside) e.durable
     (subst (λ (n : ℕ). paged n (1 - slot_of p.version) (seen c.stage.new.meta) ≡ c.args.body.now) len e.staged) e.map
-    (subst (λ (n : ℕ). names_pages (page_count n) next.map 4352 ≡ true) len c.stage.ensures.named)
+    (subst (λ (n : ℕ). names_pages (page_count n) next.map map_pages ≡ true) len c.stage.ensures.named)
     (subst (λ (n : ℕ). DiffersIn next.noted n next.map c.args.body.now (seen c.stage.new.meta)) len e.noted)

@@ -1,4 +1,5 @@
 use Rattle.std.proofs.Common.{◌≡◌, refl, sym, ◌∙◌, ap, ⊎_elim, ℕ, ◌+◌, ◌<◌, ◌≤◌, length, get_or, set, bit_or, arith}
+use Rattle.packs_journal.specs.Places.{map_bytes}
 use Rattle.std.proofs.lemmas.Bool.{cases_eq}
 use Rattle.std.proofs.lemmas.List.{get_or-set_same, get_or-set_other}
 use Rattle.packs_journal.proofs.Sets.{both_bits}
@@ -33,6 +34,6 @@ loop-i-preserved c =
 
 pub returns : goal.returns
 returns c =
-    let end : c.loop-i.i ≡ 544 = omega (arith, c.loop-i-test.false, c.loop-i.auto.i-end) in
+    let end : c.loop-i.i ≡ map_bytes = omega (arith, c.loop-i-test.false, c.loop-i.auto.i-end) in
     both_bits c.loop-i.self.bits c.args.self.now.bits c.args.other.now.bits
     (λ i less. c.loop-i.invariant.done i (omega (arith, end, less))) (λ i more. c.loop-i.invariant.rest i (omega (arith, end, more))) (omega arith)

@@ -1,7 +1,7 @@
 -- The session is made of what is lent, and ended into what is handed back; the text was empty, so it is what the tasks told.
 use Rattle.std.proofs.Common.{◌≡◌, ◌∙◌, ◌++◌, ap, subst, sym, IfOk}
 use Rattle.program_run.specs.Files.{Lends}
-use Rattle.program_run.specs.Duties.{Hand, IsDone}
+use Rattle.program_run.specs.PartJobs.{Hand, IsDone}
 use Rattle.program_run.specs.Tasks.{TasksWrite}
 use Rattle.program_run.proofs.hand.Hand.work.Goals as goal
 

@@ -8,5 +8,5 @@ use Rattle.rights_books.proofs.books.Books.locate.Goals as goal
 
 pub look-requires-clause-rule : goal.look-requires-clause-rule
 look-requires-clause-rule c =
-    let w = hand_view c.permit.inside.holder in
-    rw c.permit.invariant (located c.args.self.now.key w.tickets w.tokens c.args.mark (subst (λ (ts : List Mark). 0 < times same_mark c.args.mark ts) (sym (ap (λ (x : HandView). x.tickets) c.permit.view_is)) c.requires.held))
+    let w = hand_view c.hand.inside.holder in
+    rw c.hand.invariant (located c.args.self.now.key w.tickets w.tokens c.args.mark (subst (λ (ts : List Mark). 0 < times same_mark c.args.mark ts) (sym (ap (λ (x : HandView). x.tickets) c.hand.view_is)) c.requires.held))

@@ -7,6 +7,6 @@ use Rattle.rights_books.proofs.books.Books.lodge_all.Goals as goal
 pub exchange-requires-clause-rule : goal.exchange-requires-clause-rule
 exchange-requires-clause-rule c =
     let v = file_view c.file.inside.holder in
-    let w = hand_view c.permit.inside.holder in
-    rw (c.file.invariant, c.permit.invariant) (lodges_all c.args.self.now.key v.inode v.tickets w.tickets (v.tickets ++ w.tickets) [] v.tokens w.tokens (v.tokens ++ w.tokens) [] v.content
+    let w = hand_view c.hand.inside.holder in
+    rw (c.file.invariant, c.hand.invariant) (lodges_all c.args.self.now.key v.inode v.tickets w.tickets (v.tickets ++ w.tickets) [] v.tokens w.tokens (v.tokens ++ w.tokens) [] v.content
     (λ h. let both = weigh-append h v.tickets w.tickets in omega arith) (λ h. let both = weigh-append h v.tokens w.tokens in omega arith))

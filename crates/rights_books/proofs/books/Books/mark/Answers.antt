@@ -6,5 +6,5 @@ use Rattle.rights_books.proofs.books.Books.mark.Goals as goal
 pub exchange-requires-clause-rule : goal.exchange-requires-clause-rule
 exchange-requires-clause-rule c =
     let v = segment_view c.segment.inside.holder in
-    let w = hand_view c.permit.inside.holder in
-    rw (c.segment.invariant, c.permit.invariant) (marks c.args.self.now.key v.segment v.marks w.tickets w.tokens c.args.mark c.requires.address (c.requires.home ∙ sym (ap (λ (x : SegmentView). x.segment) c.segment.view_is)))
+    let w = hand_view c.hand.inside.holder in
+    rw (c.segment.invariant, c.hand.invariant) (marks c.args.self.now.key v.segment v.marks w.tickets w.tokens c.args.mark c.requires.address (c.requires.home ∙ sym (ap (λ (x : SegmentView). x.segment) c.segment.view_is)))

@@ -13,7 +13,7 @@ ghosts-exchange g a =
     let v = shard_view a.one.now in
     let w = hand_view a.other.now in
     let old = a.about.now.0.value in
-    let new = moved_to a.about.now.1 g.N.Written.bytes old in
+    let new = moved_to a.about.now.1 g.N.NewBytes.bytes old in
     record {
       one = Shard v.shard (new ∷ without same_entry old v.taken);
       other = Hand (with_lodged old (without same_mark (mark_of new) w.tickets)) (new ∷ without same_entry old w.tokens);

@@ -9,5 +9,5 @@ use Rattle.rights_books.proofs.books.Books.unlodge.Goals as goal
 pub exchange-requires-clause-rule : goal.exchange-requires-clause-rule
 exchange-requires-clause-rule c =
     let v = file_view c.file.inside.holder in
-    let w = hand_view c.permit.inside.holder in
-    rw (c.file.invariant, c.permit.invariant) (unlodges c.args.self.now.key v.inode v.tickets w.tickets v.tokens w.tokens v.content c.ticket.inside.mark (subst (λ (z : Mark × List Mark). 0 < times same_mark z.0 z.1) (λ i. (sym c.ticket.view_is i, sym (ap (λ (x : FileView). x.tickets) c.file.view_is) i)) c.requires.lodged))
+    let w = hand_view c.hand.inside.holder in
+    rw (c.file.invariant, c.hand.invariant) (unlodges c.args.self.now.key v.inode v.tickets w.tickets v.tokens w.tokens v.content c.ticket.inside.mark (subst (λ (z : Mark × List Mark). 0 < times same_mark z.0 z.1) (λ i. (sym c.ticket.view_is i, sym (ap (λ (x : FileView). x.tickets) c.file.view_is) i)) c.requires.lodged))

@@ -1,7 +1,7 @@
 use Rattle.std.proofs.Common.{List, ◌<◌, sym, ap, subst}
 use Rattle.rights_books.specs.Lists.{times}
 use Rattle.rights_books.specs.Sameness.{same_entry}
-use Rattle.rights_books.specs.declared.claim.Entry.{Entry}
+use Rattle.rights_books.specs.declared.claim.TakenNumber.{TakenNumber}
 use Rattle.rights_books.specs.Accounts.{FileView, hand_view, file_view}
 use Rattle.rights_books.proofs.Steps.{unlodges_token}
 use Rattle.rights_books.proofs.books.Books.unlodge_token.Goals as goal
@@ -9,5 +9,5 @@ use Rattle.rights_books.proofs.books.Books.unlodge_token.Goals as goal
 pub exchange-requires-clause-rule : goal.exchange-requires-clause-rule
 exchange-requires-clause-rule c =
     let v = file_view c.file.inside.holder in
-    let w = hand_view c.permit.inside.holder in
-    rw (c.file.invariant, c.permit.invariant) (unlodges_token c.args.self.now.key v.inode v.tickets w.tickets v.tokens w.tokens v.content c.args.token.now (subst (λ (ks : List Entry). 0 < times same_entry c.args.token.now ks) (sym (ap (λ (x : FileView). x.tokens) c.file.view_is)) c.requires.lodged))
+    let w = hand_view c.hand.inside.holder in
+    rw (c.file.invariant, c.hand.invariant) (unlodges_token c.args.self.now.key v.inode v.tickets w.tickets v.tokens w.tokens v.content c.args.token.now (subst (λ (ks : List TakenNumber). 0 < times same_entry c.args.token.now ks) (sym (ap (λ (x : FileView). x.tokens) c.file.view_is)) c.requires.lodged))

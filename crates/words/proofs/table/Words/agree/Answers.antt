@@ -1,7 +1,7 @@
 use Rattle.std.proofs.Common.{rules, ◌≡◌, [], ◌∷◌, ◌++◌, ap, ◌∙◌}
 use Rattle.words.specs.declared.claim.Life.{Life}
 use Rattle.words.specs.declared.claim.Pins.{Pins}
-use Rattle.words.specs.declared.claim.Claim.TheVariants.{Stands, Reads}
+use Rattle.words.specs.declared.claim.SeatClaim.TheVariants.{Stands, Reads}
 use Rattle.words.specs.Claims.{life_of, pins_of}
 use Rattle.words.proofs.Calls.{agree_call}
 use Rattle.words.proofs.table.Words.agree.Goals as goal

@@ -1,5 +1,5 @@
 use Rattle.std.proofs.Common.{rules, ◌≡◌, ◌<◌, [], ◌∷◌, ◌++◌, ap, ◌∙◌}
-use Rattle.words.specs.declared.claim.Claim.TheVariants.{Appends}
+use Rattle.words.specs.declared.claim.SeatClaim.TheVariants.{Appends}
 use Rattle.words.proofs.Apart.{apart_call}
 use Rattle.words.proofs.table.Words.differ.Goals as goal
 

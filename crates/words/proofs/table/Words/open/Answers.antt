@@ -1,6 +1,6 @@
 use Rattle.std.proofs.Common.{rules, ◌≡◌, [], ◌∷◌, ◌++◌, ap, sym, ◌∙◌}
 use Rattle.words.specs.declared.claim.Life.{Life}
-use Rattle.words.specs.declared.claim.Claim.TheVariants.{Stands, Slip}
+use Rattle.words.specs.declared.claim.SeatClaim.TheVariants.{Stands, Slip}
 use Rattle.words.specs.Claims.{life_of}
 use Rattle.words.proofs.Calls.{open_call}
 use Rattle.words.proofs.table.Words.open.Goals as goal

@@ -1,7 +1,7 @@
 use Rattle.std.proofs.Common.{rules, ◌≡◌, ◌%◌, [], ◌∷◌, ◌++◌, ap, sym, ◌∙◌, arith, subst}
 use Rattle.words.specs.declared.claim.Life.{Life}
 use Rattle.words.specs.declared.claim.Pins.{Pins}
-use Rattle.words.specs.declared.claim.Claim.TheVariants.{Stands, Reads}
+use Rattle.words.specs.declared.claim.SeatClaim.TheVariants.{Stands, Reads}
 use Rattle.words.specs.Claims.{life_of, pins_of, times, without_second}
 use Rattle.words.specs.Tokens.{IsPinnable}
 use Rattle.words.specs.Steps.{life_counted}

@@ -1,7 +1,7 @@
 use Rattle.std.proofs.Common.{rules, ◌≡◌, ◌%◌, [], ◌∷◌, ◌++◌, ap, sym, ◌∙◌}
 use Rattle.geometry.specs.declared.state.State.TheVariants.{Open}
 use Rattle.words.specs.declared.claim.Life.{Life}
-use Rattle.words.specs.declared.claim.Claim.TheVariants.{Stands, Appends}
+use Rattle.words.specs.declared.claim.SeatClaim.TheVariants.{Stands, Appends}
 use Rattle.words.specs.Claims.{life_of}
 use Rattle.words.specs.Steps.{life_sealed}
 use Rattle.words.proofs.Calls.{seal_call}

@@ -1,5 +1,0 @@
-use Rattle.rights_permits.proofs.Turns.{comes, most}
-use Rattle.rights_permits.proofs.token.Token.receive.Goals as goal
-
-pub recv_as-requires-clause-rule : goal.recv_as-requires-clause-rule
-recv_as-requires-clause-rule g c = (comes _ _, most _ _)
