@@ -1,4 +1,4 @@
-"""Plays the steps of crates/tool_runs on a program as a process of its own, and compares what each says with what the gate wants."""
+"""Plays the steps of trials/tool_runs on a program as a process of its own, and compares what each says with what the gate wants."""
 import fcntl
 import os
 import shutil
@@ -7,7 +7,7 @@ import tempfile
 from pathlib import Path
 
 TOP = os.path.dirname(os.path.dirname(os.path.realpath(__file__)))
-RUNS = f"{TOP}/crates/tool_runs"
+RUNS = f"{TOP}/trials/tool_runs"
 SIGNS = (("_", " "), ("''", ""), ("\\n", "\n"), ("\\u{9b}", "\u009b"), ("\\u{202e}", "\u202e"), ("\\u{200b}", "\u200b"))
 # What binds root too: files' permissions do not.
 NOBODY = 65534

@@ -1,8 +1,8 @@
 //! The words that the program is called with.
 mod syntax;
 
-use clap::{ArgMatches, Error};
-use std::alloc::Global;
+use clap::{ArgMatches, Command, Error};
+use std::alloc::{AllocError, Global};
 use std::convert::AsStr;
 pub use syntax::program;
 
@@ -156,21 +156,41 @@ impl<'a> Task<'a> {
 /// Reads the words; the first is the program's own name. An error is to be printed: it may be the help that was asked for.
 pub fn read_words<'a, S: AsStr>(alloc: Global, words: &'a [S]) -> Result<ArgumentWords<'a>, Error> {
     let mut program = program(alloc)?;
-    let matches = program.try_get_matches_from_mut(words)?;
-    let Some((command, found)) = matches.subcommand() else {
-        return Err(program.error(clap::error::ErrorKind::MissingSubcommand, "no command")?);
-    };
-    let Some(task) = task_of(command, found) else {
-        return Err(program.error(
+    let read = read_by(&mut program, alloc, words)?;
+    match read {
+        Some(words) => Ok(words),
+        None => Err(program.error(
             clap::error::ErrorKind::MissingRequiredArgument,
             "give NAME, or --number N",
-        )?);
+        )?),
+    }
+}
+
+// None where what is asked for lacks a word that the library can't ask for.
+fn read_by<'a, S: AsStr>(
+    program: &mut Command<'a>,
+    alloc: Global,
+    words: &'a [S],
+) -> Result<Option<ArgumentWords<'a>>, Error> {
+    let matches = program.try_get_matches_from_mut(words)?;
+    Ok(words_of(alloc, &matches)?)
+}
+
+fn words_of<'a>(
+    alloc: Global,
+    matches: &ArgMatches<'a>,
+) -> Result<Option<ArgumentWords<'a>>, AllocError> {
+    let Some((command, found)) = matches.subcommand() else {
+        return Ok(None);
+    };
+    let Some(task) = task_of(command, found) else {
+        return Ok(None);
     };
     let mut names = Vec::new(alloc);
     if let Some(found) = found.get_strs("names") {
         names.extend_from_slice(found)?;
     }
-    Ok(ArgumentWords {
+    Ok(Some(ArgumentWords {
         image: ImageFile {
             path: text_of(found, "image"),
             wait: number_of(found, "wait"),
@@ -178,7 +198,7 @@ pub fn read_words<'a, S: AsStr>(alloc: Global, words: &'a [S]) -> Result<Argumen
         quiet: found.get_flag("quiet"),
         names,
         task,
-    })
+    }))
 }
 
 fn task_of<'a>(command: &str, found: &ArgMatches<'a>) -> Option<Task<'a>> {

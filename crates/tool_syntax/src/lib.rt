@@ -4,12 +4,8 @@
 
 mod command_line;
 mod completing;
-mod fault;
-mod manual;
 
 pub use command_line::{
     ArgumentWords, ImageFile, Portion, ServeWords, Task, VolumeSizes, read_words,
 };
-pub use completing::write_completions;
-pub use fault::Unwritten;
-pub use manual::write_manual;
+pub use completing::{write_completions, write_manual};

@@ -68,8 +68,8 @@ pub fn obey<P: Opener, R: Machine, I: Read + Send, O: Write + Send, E: Write>(
         }
         Task::Map { svg, json } => map(rt, screen, image, svg, json, out)?,
         Task::Serve(words) => serve(rt, opener, screen, image, words, input, out, errors)?,
-        Task::Complete { shell } => write_completions(rt.alloc(), shell, out)?,
-        Task::Describe => write_manual(rt.alloc(), out)?,
+        Task::Complete { shell } => write_completions(shell, out)?,
+        Task::Describe => write_manual(out)?,
     }
     Ok(0)
 }

@@ -7,7 +7,6 @@ use named_reading::NameRefusal;
 use std::alloc::{AllocError, AllocFailed, Global};
 use std::io;
 use tool_disk::DiskFault;
-use tool_syntax::Unwritten;
 
 /// Why the program stops.
 #[derive(Debug, Drop)]
@@ -97,15 +96,6 @@ impl From<NameRefusal> for Fault {
 impl From<io::Error> for Fault {
     fn from(error: io::Error) -> Fault {
         Fault::Output(error)
-    }
-}
-
-impl From<Unwritten> for Fault {
-    fn from(fault: Unwritten) -> Fault {
-        match fault {
-            Unwritten::Output(error) => Fault::Output(error),
-            Unwritten::NoMemory => Fault::Volume(Error::NoMemory),
-        }
     }
 }
 

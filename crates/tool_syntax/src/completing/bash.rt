@@ -1,97 +1,45 @@
-//! What bash reads.
-use super::{has_choices, write_choices, write_commands};
-use crate::fault::Unwritten;
-use clap::{Arg, Command};
-use std::io::Write;
+//! Completions for bash, as release/texts makes it.
 
-/// Writes a function, and that bash calls it.
-pub fn write<O: Write>(program: &Command<'_>, out: &mut O) -> Result<(), Unwritten> {
-    write_start(program, out)?;
-    write_command_options(program, out)?;
-    writeln!(out, "    case ${{COMP_WORDS[COMP_CWORD-1]}} in")?;
-    for command in program.get_subcommands() {
-        write_word_choices(command, out)?;
-    }
-    writeln!(out, "    esac")?;
-    write_end(out)
+pub const TEXT: &str = r##"# Completions of rusziveg for bash: rusziveg completions bash
+_rusziveg() {
+    local word=${COMP_WORDS[COMP_CWORD]} options i
+    local commands='help format put append get cat rm mv cp ls clean check stat df map upgrade serve dump import completions manual'
+    options='--quiet --wait --help --version'
+    for ((i = 1; i < COMP_CWORD; i++)); do
+        case ${COMP_WORDS[i]} in
+            format) commands= options='--quiet --wait --shape --segments --per-section --files --nodes --help'; break ;;
+            put) commands= options='--quiet --wait --no-clobber --help'; break ;;
+            append) commands= options='--quiet --wait --help'; break ;;
+            get) commands= options='--quiet --wait --number --offset --length --help'; break ;;
+            cat) commands= options='--quiet --wait --help'; break ;;
+            rm) commands= options='--quiet --wait --help'; break ;;
+            mv) commands= options='--quiet --wait --help'; break ;;
+            cp) commands= options='--quiet --wait --no-clobber --help'; break ;;
+            ls) commands= options='--quiet --wait --json --help'; break ;;
+            clean) commands= options='--quiet --wait --background --help'; break ;;
+            check) commands= options='--quiet --wait --json --help'; break ;;
+            stat) commands= options='--quiet --wait --json --help'; break ;;
+            df) commands= options='--quiet --wait --json --help'; break ;;
+            map) commands= options='--quiet --wait --svg --json --help'; break ;;
+            upgrade) commands= options='--quiet --wait --help'; break ;;
+            serve) commands= options='--quiet --wait --disk --size --read-only --workers --flush-every --stats --help'; break ;;
+            dump) commands= options='--quiet --wait --help'; break ;;
+            import) commands= options='--quiet --wait --help'; break ;;
+            completions) commands= options='--quiet --wait --help'; break ;;
+            manual) commands= options='--quiet --wait --help'; break ;;
+        esac
+    done
+    case ${COMP_WORDS[COMP_CWORD-1]} in
+        --shape) COMPREPLY=($(compgen -W 'kernel tiny' -- "$word")); return ;;
+        completions) COMPREPLY=($(compgen -W 'bash zsh fish' -- "$word")); return ;;
+    esac
+    if [[ $word == -* ]]; then
+        COMPREPLY=($(compgen -W "$options" -- "$word"))
+    elif [[ -n $commands ]]; then
+        COMPREPLY=($(compgen -W "$commands" -- "$word"))
+    else
+        COMPREPLY=($(compgen -f -- "$word"))
+    fi
 }
-
-// Writes what comes in front of a command: the commands, and the options of the program.
-fn write_start<O: Write>(program: &Command<'_>, out: &mut O) -> Result<(), Unwritten> {
-    writeln!(
-        out,
-        "# Completions of rusziveg for bash: rusziveg completions bash"
-    )?;
-    writeln!(out, "_rusziveg() {{")?;
-    writeln!(out, "    local word=${{COMP_WORDS[COMP_CWORD]}} options i")?;
-    write!(out, "    local commands='help ")?;
-    write_commands(program, out)?;
-    writeln!(out, "'")?;
-    write!(out, "    options='")?;
-    write_options(program.get_arguments(), out)?;
-    writeln!(out, "--help --version'")?;
-    Ok(())
-}
-
-// Writes which options there are behind each command.
-fn write_command_options<O: Write>(program: &Command<'_>, out: &mut O) -> Result<(), Unwritten> {
-    writeln!(out, "    for ((i = 1; i < COMP_CWORD; i++)); do")?;
-    writeln!(out, "        case ${{COMP_WORDS[i]}} in")?;
-    for command in program.get_subcommands() {
-        write!(
-            out,
-            "            {}) commands= options='",
-            command.get_name()
-        )?;
-        write_options(program.get_arguments(), out)?;
-        write_options(command.get_arguments(), out)?;
-        writeln!(out, "--help'; break ;;")?;
-    }
-    writeln!(out, "        esac")?;
-    writeln!(out, "    done")?;
-    Ok(())
-}
-
-// Writes the words that may follow an option of a command, or the command.
-fn write_word_choices<O: Write>(command: &Command<'_>, out: &mut O) -> Result<(), Unwritten> {
-    for argument in command.get_arguments() {
-        if has_choices(argument) {
-            match argument.get_long() {
-                Some(long) => write!(out, "        --{long}")?,
-                None => write!(out, "        {}", command.get_name())?,
-            }
-            write!(out, ") COMPREPLY=($(compgen -W '")?;
-            write_choices(argument, out)?;
-            writeln!(out, "' -- \"$word\")); return ;;")?;
-        }
-    }
-    Ok(())
-}
-
-// What follows the words of the commands.
-fn write_end<O: Write>(out: &mut O) -> Result<(), Unwritten> {
-    for line in [
-        "    if [[ $word == -* ]]; then",
-        "        COMPREPLY=($(compgen -W \"$options\" -- \"$word\"))",
-        "    elif [[ -n $commands ]]; then",
-        "        COMPREPLY=($(compgen -W \"$commands\" -- \"$word\"))",
-        "    else",
-        "        COMPREPLY=($(compgen -f -- \"$word\"))",
-        "    fi",
-        "}",
-        "complete -o filenames -F _rusziveg rusziveg",
-    ] {
-        writeln!(out, "{line}")?;
-    }
-    Ok(())
-}
-
-// Writes the long words of options, each with a blank behind it.
-fn write_options<O: Write>(arguments: &[Arg<'_>], out: &mut O) -> Result<(), Unwritten> {
-    for argument in arguments {
-        if let Some(long) = argument.get_long() {
-            write!(out, "--{long} ")?;
-        }
-    }
-    Ok(())
-}
+complete -o filenames -F _rusziveg rusziveg
+"##;

@@ -1,99 +1,55 @@
-//! What fish reads.
-use super::{
-    HELP, VERSION, has_choices, quoted, takes_path, word_of, write_choices, write_commands,
-};
-use crate::fault::Unwritten;
-use clap::{Arg, Command};
-use std::alloc::Global;
-use std::io::Write;
+//! Completions for fish, as release/texts makes it.
 
-/// Writes a line for each command, option and named value.
-pub fn write<O: Write>(alloc: Global, program: &Command<'_>, out: &mut O) -> Result<(), Unwritten> {
-    writeln!(
-        out,
-        "# Completions of rusziveg for fish: rusziveg completions fish"
-    )?;
-    for command in program.get_subcommands() {
-        let about = quoted(alloc, command.get_about())?;
-        writeln!(
-            out,
-            "complete -c rusziveg -f -n __fish_use_subcommand -a {} -d '{about}'",
-            command.get_name()
-        )?;
-    }
-    writeln!(
-        out,
-        "complete -c rusziveg -f -n __fish_use_subcommand -a help -d '{HELP}'"
-    )?;
-    writeln!(
-        out,
-        "complete -c rusziveg -n __fish_use_subcommand -s V -l version -d '{VERSION}'"
-    )?;
-    writeln!(out, "complete -c rusziveg -s h -l help -d '{HELP}'")?;
-    write_options(alloc, "", program.get_arguments(), out)?;
-    for command in program.get_subcommands() {
-        write_options(alloc, command.get_name(), command.get_arguments(), out)?;
-        write_words(command, out)?;
-    }
-    write!(
-        out,
-        "complete -c rusziveg -f -n '__fish_seen_subcommand_from help' -a '"
-    )?;
-    write_commands(program, out)?;
-    writeln!(out, "'")?;
-    Ok(())
-}
-
-// Writes the words of a command that are no options where they are named, or that it has none.
-fn write_words<O: Write>(command: &Command<'_>, out: &mut O) -> Result<(), Unwritten> {
-    let word = word_of(command);
-    if word.is_some_and(|argument| !has_choices(argument)) {
-        return Ok(());
-    }
-    write!(
-        out,
-        "complete -c rusziveg -f -n '__fish_seen_subcommand_from {}'",
-        command.get_name()
-    )?;
-    if let Some(argument) = word {
-        write!(out, " -a '")?;
-        write_choices(argument, out)?;
-        write!(out, "'")?;
-    }
-    writeln!(out)?;
-    Ok(())
-}
-
-// Writes the options of a command, or of all where none is named.
-fn write_options<O: Write>(
-    alloc: Global,
-    command: &str,
-    arguments: &[Arg<'_>],
-    out: &mut O,
-) -> Result<(), Unwritten> {
-    for argument in arguments {
-        let Some(long) = argument.get_long() else {
-            continue;
-        };
-        write!(out, "complete -c rusziveg")?;
-        if !command.is_empty() {
-            write!(out, " -n '__fish_seen_subcommand_from {command}'")?;
-        }
-        if let Some(short) = argument.get_short() {
-            write!(out, " -s {short}")?;
-        }
-        write!(out, " -l {long}")?;
-        if has_choices(argument) {
-            write!(out, " -x -a '")?;
-            write_choices(argument, out)?;
-            write!(out, "'")?;
-        } else if takes_path(argument) {
-            write!(out, " -r")?;
-        } else if argument.get_action().takes_values() {
-            write!(out, " -x")?;
-        }
-        let help = quoted(alloc, argument.get_help())?;
-        writeln!(out, " -d '{help}'")?;
-    }
-    Ok(())
-}
+pub const TEXT: &str = r##"# Completions of rusziveg for fish: rusziveg completions fish
+complete -c rusziveg -f -n __fish_use_subcommand -a format -d 'Makes a new image file with an empty volume'
+complete -c rusziveg -f -n __fish_use_subcommand -a put -d 'Reads standard input, or FILE, to its end, and makes it the file NAME'
+complete -c rusziveg -f -n __fish_use_subcommand -a append -d 'Reads standard input, or FILE, to its end, and puts it behind what the file NAME has'
+complete -c rusziveg -f -n __fish_use_subcommand -a get -d 'Writes the bytes of a file to standard output, or to FILE'
+complete -c rusziveg -f -n __fish_use_subcommand -a cat -d 'Writes the bytes of files to standard output, one after the other'
+complete -c rusziveg -f -n __fish_use_subcommand -a rm -d 'Removes files'
+complete -c rusziveg -f -n __fish_use_subcommand -a mv -d 'Gives the file NAME another name'
+complete -c rusziveg -f -n __fish_use_subcommand -a cp -d 'Copies the file NAME, as it is now, to another name'
+complete -c rusziveg -f -n __fish_use_subcommand -a ls -d 'Lists the files, by name and by number'
+complete -c rusziveg -f -n __fish_use_subcommand -a clean -d 'Cleans sections, so that their segments come free'
+complete -c rusziveg -f -n __fish_use_subcommand -a check -d 'Tells whether the image is sound, or its exact fault'
+complete -c rusziveg -f -n __fish_use_subcommand -a stat -d 'Tells the numbers of the volume'
+complete -c rusziveg -f -n __fish_use_subcommand -a df -d 'Tells how many bytes can be used, are used and are free, and how many are kept for cleaning'
+complete -c rusziveg -f -n __fish_use_subcommand -a map -d 'Draws each segment: how full it is, its log, its age'
+complete -c rusziveg -f -n __fish_use_subcommand -a upgrade -d 'Writes the volume, of any format, into a new image file of format 3; IMAGE stays as it is'
+complete -c rusziveg -f -n __fish_use_subcommand -a serve -d 'Serves a disk to a client by the NBD protocol, over standard input and output, and closes when it leaves'
+complete -c rusziveg -f -n __fish_use_subcommand -a dump -d 'Writes each file into FOLDER, under its name or number'
+complete -c rusziveg -f -n __fish_use_subcommand -a import -d 'Puts each ordinary file of FOLDER under its name; folders in it, links and pipes are left out, with status 1'
+complete -c rusziveg -f -n __fish_use_subcommand -a completions -d 'Writes completions for a shell, which reads them from its folder of completions'
+complete -c rusziveg -f -n __fish_use_subcommand -a manual -d 'Writes the manual page, which man reads'
+complete -c rusziveg -f -n __fish_use_subcommand -a help -d 'Prints help'
+complete -c rusziveg -n __fish_use_subcommand -s V -l version -d 'Prints the version'
+complete -c rusziveg -s h -l help -d 'Prints help'
+complete -c rusziveg -s q -l quiet -d 'Tells nothing of work that goes well, and no progress'
+complete -c rusziveg -l wait -x -d 'How long to wait for an image that another program has open'
+complete -c rusziveg -n '__fish_seen_subcommand_from format' -l shape -x -a 'kernel tiny' -d 'kernel: segments of 512 blocks of 4096 bytes; tiny: of 8 of 64'
+complete -c rusziveg -n '__fish_seen_subcommand_from format' -l segments -x -d 'Segments, 16 to 4096'
+complete -c rusziveg -n '__fish_seen_subcommand_from format' -l per-section -x -d 'Segments a section, 1 to 16'
+complete -c rusziveg -n '__fish_seen_subcommand_from format' -l files -x -d 'The most files, 1 to 1024'
+complete -c rusziveg -n '__fish_seen_subcommand_from format' -l nodes -x -d 'The most nodes, as many as files to 65536'
+complete -c rusziveg -n '__fish_seen_subcommand_from put' -l no-clobber -d 'Refuses a name that is there; else its file is replaced'
+complete -c rusziveg -n '__fish_seen_subcommand_from get' -l number -x -d 'The file'\''s number, in place of a name: all its blocks are written'
+complete -c rusziveg -n '__fish_seen_subcommand_from get' -l offset -x -d 'Leaves out so many bytes at the front'
+complete -c rusziveg -n '__fish_seen_subcommand_from get' -l length -x -d 'Writes so many bytes at most'
+complete -c rusziveg -n '__fish_seen_subcommand_from cp' -l no-clobber -d 'Refuses a name that is there; else its file is replaced'
+complete -c rusziveg -n '__fish_seen_subcommand_from ls' -l json -d 'Writes JSON'
+complete -c rusziveg -n '__fish_seen_subcommand_from clean' -l background -d 'Chooses by cost and benefit, for one section that is not urgent'
+complete -c rusziveg -n '__fish_seen_subcommand_from check' -l json -d 'Writes JSON'
+complete -c rusziveg -n '__fish_seen_subcommand_from stat' -l json -d 'Writes JSON'
+complete -c rusziveg -n '__fish_seen_subcommand_from df' -l json -d 'Writes JSON'
+complete -c rusziveg -n '__fish_seen_subcommand_from map' -l svg -r -d 'Writes a picture (SVG) to a new file'
+complete -c rusziveg -n '__fish_seen_subcommand_from map' -l json -d 'Writes JSON'
+complete -c rusziveg -n '__fish_seen_subcommand_from serve' -l disk -r -d 'The disk'\''s name: its parts are the files NAME.00, NAME.01 and so on'
+complete -c rusziveg -n '__fish_seen_subcommand_from serve' -l size -x -d 'The disk'\''s size; where there is no such disk it is made'
+complete -c rusziveg -n '__fish_seen_subcommand_from serve' -l read-only -d 'Refuses what would change the disk, and writes nothing'
+complete -c rusziveg -n '__fish_seen_subcommand_from serve' -l workers -x -d 'How many threads do requests, 1 to 16'
+complete -c rusziveg -n '__fish_seen_subcommand_from serve' -l flush-every -x -d 'After so long a checkpoint has what was written, asked for or not; 0: only where the client asks'
+complete -c rusziveg -n '__fish_seen_subcommand_from serve' -l stats -r -d 'Writes to a new file, as JSON, what was done'
+complete -c rusziveg -f -n '__fish_seen_subcommand_from completions' -a 'bash zsh fish'
+complete -c rusziveg -f -n '__fish_seen_subcommand_from manual'
+complete -c rusziveg -f -n '__fish_seen_subcommand_from help' -a 'format put append get cat rm mv cp ls clean check stat df map upgrade serve dump import completions manual'
+"##;

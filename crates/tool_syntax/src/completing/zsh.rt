@@ -1,134 +1,169 @@
-//! What zsh reads.
-use super::{HELP, VERSION, has_choices, quoted, takes_path, word_of, write_choices};
-use crate::fault::Unwritten;
-use clap::{Arg, Command};
-use std::alloc::Global;
-use std::io::Write;
+//! Completions for zsh, as release/texts makes it.
 
-/// Writes a function, and that zsh calls it: at once where it is read out of a folder of completions, later where a start file has it.
-pub fn write<O: Write>(alloc: Global, program: &Command<'_>, out: &mut O) -> Result<(), Unwritten> {
-    writeln!(out, "#compdef rusziveg")?;
-    writeln!(
-        out,
-        "# Completions of rusziveg for zsh: rusziveg completions zsh"
-    )?;
-    writeln!(out, "_rusziveg() {{")?;
-    writeln!(out, "    local state")?;
-    writeln!(out, "    local -a line commands=(")?;
-    for command in program.get_subcommands() {
-        let about = quoted(alloc, command.get_about())?;
-        writeln!(out, "        '{}:{about}'", command.get_name())?;
-    }
-    writeln!(out, "        'help:{HELP}'")?;
-    writeln!(out, "    )")?;
-    write_first_words(alloc, program, out)?;
-    write_arguments(alloc, program, out)?;
-    writeln!(out, "}}")?;
-    writeln!(
-        out,
-        "if [[ ${{funcstack[1]}} = _rusziveg ]]; then _rusziveg \"$@\"; else compdef _rusziveg rusziveg; fi"
-    )?;
-    Ok(())
+pub const TEXT: &str = r##"#compdef rusziveg
+# Completions of rusziveg for zsh: rusziveg completions zsh
+_rusziveg() {
+    local state
+    local -a line commands=(
+        'format:Makes a new image file with an empty volume'
+        'put:Reads standard input, or FILE, to its end, and makes it the file NAME'
+        'append:Reads standard input, or FILE, to its end, and puts it behind what the file NAME has'
+        'get:Writes the bytes of a file to standard output, or to FILE'
+        'cat:Writes the bytes of files to standard output, one after the other'
+        'rm:Removes files'
+        'mv:Gives the file NAME another name'
+        'cp:Copies the file NAME, as it is now, to another name'
+        'ls:Lists the files, by name and by number'
+        'clean:Cleans sections, so that their segments come free'
+        'check:Tells whether the image is sound, or its exact fault'
+        'stat:Tells the numbers of the volume'
+        'df:Tells how many bytes can be used, are used and are free, and how many are kept for cleaning'
+        'map:Draws each segment: how full it is, its log, its age'
+        'upgrade:Writes the volume, of any format, into a new image file of format 3; IMAGE stays as it is'
+        'serve:Serves a disk to a client by the NBD protocol, over standard input and output, and closes when it leaves'
+        'dump:Writes each file into FOLDER, under its name or number'
+        'import:Puts each ordinary file of FOLDER under its name; folders in it, links and pipes are left out, with status 1'
+        'completions:Writes completions for a shell, which reads them from its folder of completions'
+        'manual:Writes the manual page, which man reads'
+        'help:Prints help'
+    )
+    _arguments -C \
+            '--quiet[Tells nothing of work that goes well, and no progress]' \
+            '--wait[How long to wait for an image that another program has open]:wait:()' \
+            '--help[Prints help]' \
+            '--version[Prints the version]' \
+            ':command:->command' '*::argument:->argument'
+    case $state in
+        command) _describe command commands; return ;;
+        argument) ;;
+        *) return ;;
+    esac
+    case ${words[1]} in
+        format) _arguments \
+            '--quiet[Tells nothing of work that goes well, and no progress]' \
+            '--wait[How long to wait for an image that another program has open]:wait:()' \
+            '--help[Prints help]' \
+            '--shape[kernel: segments of 512 blocks of 4096 bytes; tiny: of 8 of 64]:shape:(kernel tiny)' \
+            '--segments[Segments, 16 to 4096]:segments:()' \
+            '--per-section[Segments a section, 1 to 16]:per-section:()' \
+            '--files[The most files, 1 to 1024]:files:()' \
+            '--nodes[The most nodes, as many as files to 65536]:nodes:()' \
+            '*:file:_files' ;;
+        put) _arguments \
+            '--quiet[Tells nothing of work that goes well, and no progress]' \
+            '--wait[How long to wait for an image that another program has open]:wait:()' \
+            '--help[Prints help]' \
+            '--no-clobber[Refuses a name that is there; else its file is replaced]' \
+            '*:file:_files' ;;
+        append) _arguments \
+            '--quiet[Tells nothing of work that goes well, and no progress]' \
+            '--wait[How long to wait for an image that another program has open]:wait:()' \
+            '--help[Prints help]' \
+            '*:file:_files' ;;
+        get) _arguments \
+            '--quiet[Tells nothing of work that goes well, and no progress]' \
+            '--wait[How long to wait for an image that another program has open]:wait:()' \
+            '--help[Prints help]' \
+            '--number[The file'\''s number, in place of a name: all its blocks are written]:number:()' \
+            '--offset[Leaves out so many bytes at the front]:offset:()' \
+            '--length[Writes so many bytes at most]:length:()' \
+            '*:file:_files' ;;
+        cat) _arguments \
+            '--quiet[Tells nothing of work that goes well, and no progress]' \
+            '--wait[How long to wait for an image that another program has open]:wait:()' \
+            '--help[Prints help]' \
+            '*:file:_files' ;;
+        rm) _arguments \
+            '--quiet[Tells nothing of work that goes well, and no progress]' \
+            '--wait[How long to wait for an image that another program has open]:wait:()' \
+            '--help[Prints help]' \
+            '*:file:_files' ;;
+        mv) _arguments \
+            '--quiet[Tells nothing of work that goes well, and no progress]' \
+            '--wait[How long to wait for an image that another program has open]:wait:()' \
+            '--help[Prints help]' \
+            '*:file:_files' ;;
+        cp) _arguments \
+            '--quiet[Tells nothing of work that goes well, and no progress]' \
+            '--wait[How long to wait for an image that another program has open]:wait:()' \
+            '--help[Prints help]' \
+            '--no-clobber[Refuses a name that is there; else its file is replaced]' \
+            '*:file:_files' ;;
+        ls) _arguments \
+            '--quiet[Tells nothing of work that goes well, and no progress]' \
+            '--wait[How long to wait for an image that another program has open]:wait:()' \
+            '--help[Prints help]' \
+            '--json[Writes JSON]' \
+            '*:file:_files' ;;
+        clean) _arguments \
+            '--quiet[Tells nothing of work that goes well, and no progress]' \
+            '--wait[How long to wait for an image that another program has open]:wait:()' \
+            '--help[Prints help]' \
+            '--background[Chooses by cost and benefit, for one section that is not urgent]' \
+            '*:file:_files' ;;
+        check) _arguments \
+            '--quiet[Tells nothing of work that goes well, and no progress]' \
+            '--wait[How long to wait for an image that another program has open]:wait:()' \
+            '--help[Prints help]' \
+            '--json[Writes JSON]' \
+            '*:file:_files' ;;
+        stat) _arguments \
+            '--quiet[Tells nothing of work that goes well, and no progress]' \
+            '--wait[How long to wait for an image that another program has open]:wait:()' \
+            '--help[Prints help]' \
+            '--json[Writes JSON]' \
+            '*:file:_files' ;;
+        df) _arguments \
+            '--quiet[Tells nothing of work that goes well, and no progress]' \
+            '--wait[How long to wait for an image that another program has open]:wait:()' \
+            '--help[Prints help]' \
+            '--json[Writes JSON]' \
+            '*:file:_files' ;;
+        map) _arguments \
+            '--quiet[Tells nothing of work that goes well, and no progress]' \
+            '--wait[How long to wait for an image that another program has open]:wait:()' \
+            '--help[Prints help]' \
+            '--svg[Writes a picture (SVG) to a new file]:svg:_files' \
+            '--json[Writes JSON]' \
+            '*:file:_files' ;;
+        upgrade) _arguments \
+            '--quiet[Tells nothing of work that goes well, and no progress]' \
+            '--wait[How long to wait for an image that another program has open]:wait:()' \
+            '--help[Prints help]' \
+            '*:file:_files' ;;
+        serve) _arguments \
+            '--quiet[Tells nothing of work that goes well, and no progress]' \
+            '--wait[How long to wait for an image that another program has open]:wait:()' \
+            '--help[Prints help]' \
+            '--disk[The disk'\''s name: its parts are the files NAME.00, NAME.01 and so on]:disk:_files' \
+            '--size[The disk'\''s size; where there is no such disk it is made]:size:()' \
+            '--read-only[Refuses what would change the disk, and writes nothing]' \
+            '--workers[How many threads do requests, 1 to 16]:workers:()' \
+            '--flush-every[After so long a checkpoint has what was written, asked for or not; 0: only where the client asks]:flush-every:()' \
+            '--stats[Writes to a new file, as JSON, what was done]:stats:_files' \
+            '*:file:_files' ;;
+        dump) _arguments \
+            '--quiet[Tells nothing of work that goes well, and no progress]' \
+            '--wait[How long to wait for an image that another program has open]:wait:()' \
+            '--help[Prints help]' \
+            '*:file:_files' ;;
+        import) _arguments \
+            '--quiet[Tells nothing of work that goes well, and no progress]' \
+            '--wait[How long to wait for an image that another program has open]:wait:()' \
+            '--help[Prints help]' \
+            '*:file:_files' ;;
+        completions) _arguments \
+            '--quiet[Tells nothing of work that goes well, and no progress]' \
+            '--wait[How long to wait for an image that another program has open]:wait:()' \
+            '--help[Prints help]' \
+            ':word:(bash zsh fish)' ;;
+        manual) _arguments \
+            '--quiet[Tells nothing of work that goes well, and no progress]' \
+            '--wait[How long to wait for an image that another program has open]:wait:()' \
+            '--help[Prints help]' \
+            ;;
+        help) _describe command commands ;;
+    esac
 }
-
-// Writes what comes in front of a command, and the commands.
-fn write_first_words<O: Write>(
-    alloc: Global,
-    program: &Command<'_>,
-    out: &mut O,
-) -> Result<(), Unwritten> {
-    writeln!(out, "    _arguments -C \\")?;
-    write_general_options(alloc, program, out)?;
-    writeln!(out, "            '--version[{VERSION}]' \\")?;
-    writeln!(
-        out,
-        "            ':command:->command' '*::argument:->argument'"
-    )?;
-    writeln!(out, "    case $state in")?;
-    writeln!(
-        out,
-        "        command) _describe command commands; return ;;"
-    )?;
-    writeln!(out, "        argument) ;;")?;
-    writeln!(out, "        *) return ;;")?;
-    writeln!(out, "    esac")?;
-    Ok(())
-}
-
-// Writes what comes behind each command.
-fn write_arguments<O: Write>(
-    alloc: Global,
-    program: &Command<'_>,
-    out: &mut O,
-) -> Result<(), Unwritten> {
-    writeln!(out, "    case ${{words[1]}} in")?;
-    for command in program.get_subcommands() {
-        writeln!(out, "        {}) _arguments \\", command.get_name())?;
-        write_general_options(alloc, program, out)?;
-        write_options(alloc, command.get_arguments(), out)?;
-        write_words(command, out)?;
-    }
-    writeln!(out, "        help) _describe command commands ;;")?;
-    writeln!(out, "    esac")?;
-    Ok(())
-}
-
-// Writes what the words of a command that are no options are: named ones, files, or none.
-fn write_words<O: Write>(command: &Command<'_>, out: &mut O) -> Result<(), Unwritten> {
-    match word_of(command) {
-        Some(argument) if has_choices(argument) => {
-            write!(out, "            ':word:(")?;
-            write_choices(argument, out)?;
-            writeln!(out, ")' ;;")?;
-        }
-        Some(_) => writeln!(out, "            '*:file:_files' ;;")?,
-        None => writeln!(out, "            ;;")?,
-    }
-    Ok(())
-}
-
-// Writes the options that stand in front of a command and behind it.
-fn write_general_options<O: Write>(
-    alloc: Global,
-    program: &Command<'_>,
-    out: &mut O,
-) -> Result<(), Unwritten> {
-    write_options(alloc, program.get_arguments(), out)?;
-    writeln!(out, "            '--help[{HELP}]' \\")?;
-    Ok(())
-}
-
-fn write_options<O: Write>(
-    alloc: Global,
-    arguments: &[Arg<'_>],
-    out: &mut O,
-) -> Result<(), Unwritten> {
-    for argument in arguments {
-        if let Some(long) = argument.get_long() {
-            let help = quoted(alloc, argument.get_help())?;
-            write_option(argument, long, help.as_str(), out)?;
-        }
-    }
-    Ok(())
-}
-
-// Writes an option with its help, and what its value may be.
-fn write_option<O: Write>(
-    argument: &Arg<'_>,
-    long: &str,
-    help: &str,
-    out: &mut O,
-) -> Result<(), Unwritten> {
-    write!(out, "            '--{long}[{help}]")?;
-    if has_choices(argument) {
-        write!(out, ":{long}:(")?;
-        write_choices(argument, out)?;
-        write!(out, ")")?;
-    } else if takes_path(argument) {
-        write!(out, ":{long}:_files")?;
-    } else if argument.get_action().takes_values() {
-        write!(out, ":{long}:()")?;
-    }
-    writeln!(out, "' \\")?;
-    Ok(())
-}
+if [[ ${funcstack[1]} = _rusziveg ]]; then _rusziveg "$@"; else compdef _rusziveg rusziveg; fi
+"##;
