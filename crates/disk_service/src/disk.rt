@@ -21,7 +21,7 @@ use std::time::Clock;
 use volume::Volume;
 
 /// How a disk is served.
-#[derive(Clone, Copy, Debug, PartialEq, Eq)]
+#[derive(Clone, Copy, PartialEq, Eq)]
 pub struct DiskSettings {
     /// Requests that would change the disk are refused, nothing is cleaned, and no checkpoint is written.
     pub read_only: bool,

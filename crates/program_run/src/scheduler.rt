@@ -36,7 +36,7 @@ pub struct RunningScript<'s, 'g, 'o, G: Gate, O> {
 
 /// Where the steps of a script halted: how many were run, and what the script carries on. All were run, or the next one mounts the
 /// volume again.
-#[derive(Clone, Copy, Debug, PartialEq, Eq)]
+#[derive(Clone, Copy)]
 pub struct Halt {
     pub run: usize,
     pub carried: Carried,

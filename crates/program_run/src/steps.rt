@@ -20,7 +20,7 @@ use std::sync::Wait;
 
 /// What a script carries from one volume to the next: whether the device was just formatted, the time that was set, and how many
 /// readers were taken.
-#[derive(Clone, Copy, Debug, PartialEq, Eq)]
+#[derive(Clone, Copy)]
 pub struct Carried {
     pub formatted: bool,
     pub time: u64,
@@ -28,7 +28,7 @@ pub struct Carried {
 }
 
 /// How a volume came to be under a script: the version that was mounted, if it was not formatted.
-#[derive(Clone, Copy, Debug, PartialEq, Eq)]
+#[derive(Clone, Copy)]
 pub struct Opening {
     pub mounted: Option<u32>,
     pub carried: Carried,

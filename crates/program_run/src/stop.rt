@@ -12,7 +12,7 @@ use std::io;
 use std::io::Write;
 
 /// Why a run ends before all was done.
-#[derive(Clone, Copy, Debug, PartialEq, Eq)]
+#[derive(Clone, Copy)]
 pub enum Stop {
     /// The volume was refused.
     Refused(Error),
