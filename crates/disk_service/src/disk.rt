@@ -9,16 +9,12 @@ use crate::layout::DiskLayout;
 use crate::progress::Progress;
 use crate::request_reader::{Farewell, MOST_BYTES, take_requests};
 use crate::room::Cleaner;
-use device::{Block, Meta};
-use flash_volume::{PassTable, Service, flush};
-use geometry::Error;
+use flash_volume::{Block, Error, Meta, PassTable, Service, Volume, VolumeName, flush};
 use nbd_words::Disk;
-use rights_permits::VolumeName;
 use std::alloc::Global;
 use std::io::{Read, Write};
 use std::sync::{Mutex, Wait};
 use std::time::Clock;
-use volume::Volume;
 
 /// How a disk is served.
 #[derive(Clone, Copy, PartialEq, Eq)]

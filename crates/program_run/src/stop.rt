@@ -5,7 +5,7 @@ ghost use Rattle.program_run.specs.Run.{names_line};
 
 use crate::lines::tell_refusal;
 use crate::status::{BAD_LINE, FAILED, REFUSED};
-use geometry::Error;
+use flash_volume::Error;
 use program_script::ScriptError;
 use std::alloc::AllocError;
 use std::io;
