@@ -1,4 +1,4 @@
-"""Plays the steps of trials/tool_runs on a program as a process of its own, and compares what each says with what the gate wants."""
+"""Plays the steps of trials/tests_tool on a program as a process of its own, and compares what each says with what the gate wants."""
 import errno
 import fcntl
 import os
@@ -9,7 +9,7 @@ from collections import Counter
 from pathlib import Path
 
 TOP = os.path.dirname(os.path.dirname(os.path.realpath(__file__)))
-RUNS = f"{TOP}/trials/tool_runs"
+RUNS = f"{TOP}/trials/tests_tool"
 SIGNS = (("_", " "), ("''", ""), ("\\n", "\n"), ("\\u{9b}", "\u009b"), ("\\u{202e}", "\u202e"), ("\\u{200b}", "\u200b"))
 # What binds root too: files' permissions do not.
 NOBODY = 65534
@@ -47,7 +47,7 @@ def can_become_nobody():
 
 
 def words_of(line):
-    """The words of a line, as tool_runs reads them."""
+    """The words of a line, as tests_tool reads them."""
     words = []
     for word in line.split():
         for sign, meant in SIGNS:
@@ -61,7 +61,7 @@ def blocks_of(steps, told):
     place, blocks = 0, []
     for number, step in enumerate(steps):
         if told[place] != step:
-            raise AssertionError(f"tool_runs/stdout has no line for the step: {step}")
+            raise AssertionError(f"tests_tool/stdout has no line for the step: {step}")
         place += 1
         begin, after = place, steps[number + 1] if number + 1 < len(steps) else None
         while place < len(told) and told[place] != after and not (after is None and told[place].startswith("with packs in ")):
@@ -71,7 +71,7 @@ def blocks_of(steps, told):
 
 
 def lines_of(data):
-    """What was told, as tool_runs prints it."""
+    """What was told, as tests_tool prints it."""
     try:
         text = data.decode()
     except UnicodeDecodeError:
@@ -87,7 +87,7 @@ def in_library_words(lines):
 
 
 class Play:
-    """A folder with the files of tool_runs, and what the next words are given. `streams` has streams fail, and `tests` leaves a removal half
+    """A folder with the files of tests_tool, and what the next words are given. `streams` has streams fail, and `tests` leaves a removal half
     done: what needs one that is None is left out."""
 
     def __init__(self, program, folder, environment, streams=None, tests=None):
@@ -174,7 +174,7 @@ class Play:
                     os.chown(f"{at}/{name}", NOBODY, NOBODY, follow_symlinks=False)
 
     def prepare(self, words):
-        """Does what tool_runs does between words. A heading begins what can be played again."""
+        """Does what tests_tool does between words. A heading begins what can be played again."""
         verb, first, other = (words + ["", "", ""])[:3]
         if verb in ("input", "many", "taken", *FAILURES):
             self.take(verb, first)
