@@ -83,9 +83,9 @@ class F2fsim:
         return told
 
     def usage(self, words):
-        """Tells `Usage` where words are refused, with nothing on standard output, or the help is what is told."""
+        """Tells `usage` where words are refused, with nothing on standard output, or the help is what is told."""
         told = call([self.program, *words])
-        return ["Usage"] if told == [f"| {USAGE}", "status 2"] or told[0] == USAGE and not told[-1].startswith("status") else told
+        return ["usage"] if told == [f"| {USAGE}", "status 2"] or told[0] == USAGE and not told[-1].startswith("status") else told
 
     def ask_endless(self, word, image):
         """Asks of an image with zeros behind it that never end, through a pipe, and tells how many bytes were read of it."""

@@ -6,13 +6,12 @@ import shutil
 import subprocess
 import tempfile
 from collections import Counter
-from pathlib import Path
+
+from nobody import become_nobody, binds_permissions, give_away
 
 TOP = os.path.dirname(os.path.dirname(os.path.realpath(__file__)))
 RUNS = f"{TOP}/trials/tests_tool"
 SIGNS = (("_", " "), ("''", ""), ("\\n", "\n"), ("\\u{9b}", "\u009b"), ("\\u{202e}", "\u202e"), ("\\u{200b}", "\u200b"))
-# What binds root too: files' permissions do not.
-NOBODY = 65534
 # How streams fail behind so many bytes, the error and the texts by which the system and the library name it.
 FAILURES = {
     "failing": ("RZ_INPUT", errno.ETIMEDOUT, "timed out"),
@@ -30,20 +29,6 @@ def build_streams(folder):
     path = f"{folder}/streams.so"
     subprocess.run(["cc", *FLAGS, f"{TOP}/trials/streams.c", "-o", path, "-ldl"], stdin=subprocess.DEVNULL, check=True)
     return path
-
-
-def become_nobody():
-    os.setgroups([])
-    os.setgid(NOBODY)
-    os.setuid(NOBODY)
-
-
-def can_become_nobody():
-    """Whether root can: in some containers it can't."""
-    try:
-        return subprocess.run(["true"], preexec_fn=become_nobody, stdin=subprocess.DEVNULL, check=False).returncode == 0
-    except (subprocess.SubprocessError, OSError):
-        return False
 
 
 def words_of(line):
@@ -95,8 +80,7 @@ class Play:
         # What there is not, and must be for steps up to the next heading.
         self.input, self.failing, self.lack, self.locked = b"", {}, None, None
         # Whether a user whom permissions bind gets there.
-        above = [folder, *(str(it) for it in Path(folder).parents), os.path.dirname(program)]
-        self.is_bound = os.geteuid() != 0 or can_become_nobody() and all(os.stat(it).st_mode & 1 for it in above)
+        self.is_bound = binds_permissions(folder, os.path.dirname(program))
 
     def lacks(self):
         """What the next words lack, so that what they say can't be compared; None where nothing."""
@@ -169,9 +153,7 @@ class Play:
     def give_away(self):
         """Gives all files to the user as whom the program is run."""
         if os.geteuid() == 0 and self.is_bound:
-            for at, folders, files in os.walk(self.folder):
-                for name in [*folders, *files, "."]:
-                    os.chown(f"{at}/{name}", NOBODY, NOBODY, follow_symlinks=False)
+            give_away(self.folder)
 
     def prepare(self, words):
         """Does what tests_tool does between words. A heading begins what can be played again."""
