@@ -1,9 +1,4 @@
-#!/usr/bin/env python3
-"""prove PROGRAM: proves and builds what is missing of a program in crates/, and of what it stands on. It runs nothing.
-
-A line on standard error says when a crate is begun and when it is done, and one a minute what is under way and how long the rest may
-take. crates/PROGRAM/out/first-run.log has what the provers say, as they say it.
-"""
+"""Proves and builds a program of crates/ and what it stands on, and says on standard error how far that is."""
 import os
 import re
 import subprocess
@@ -12,17 +7,14 @@ import tempfile
 import threading
 import time
 
-sys.dont_write_bytecode = True
-TOP = os.path.dirname(os.path.realpath(__file__))
-sys.path.insert(0, f"{TOP}/release")
-from sources import Checkout
+from sources import TOP, Checkout
 
 HERE = Checkout()
 MINUTE = 60
 
 
 def say(text):
-    print(f"prove: {text}", file=sys.stderr, flush=True)
+    print(f"build: {text}", file=sys.stderr, flush=True)
 
 
 def modules_of(crate):
@@ -31,7 +23,7 @@ def modules_of(crate):
 
 
 def under_way():
-    """The crates that provers of this folder are at, by what the system tells of its processes."""
+    """The crates that provers of this folder are at, as the list of processes shows."""
     found = set()
     for number in filter(str.isdigit, os.listdir("/proc")):
         try:
@@ -92,14 +84,14 @@ class Run:
                 self.done[name] = time.time()
                 say(f"{len(self.done)} of {len(self.size)} crates done: {name}")
 
-    def tell_begun(self):
+    def show_begun(self):
         for name in sorted(under_way() & self.size.keys() - self.begun.keys()):
             # The program's own sources are read before anything is proved: that is not its proof.
             if name != self.program or len(self.done) == len(self.size) - 1:
                 self.begun[name] = time.time()
                 say(f"begins {name}")
 
-    def tell_under_way(self):
+    def show_under_way(self):
         now = time.time()
         at = [f"{it} ({modules_of(it)} modules, {(now - self.begun[it]) / MINUTE:.0f} min)" for it in self.begun if it not in self.done]
         proved = sum(self.size[it] for it in self.done if it in self.begun)
@@ -112,41 +104,33 @@ def prove_all(program, folder):
     os.makedirs(f"{folder}/out", exist_ok=True)
     lanes = jobs()
     run = Run(program)
-    say(f"the first run proves up to {len(run.size)} crates, {lanes} at a time; for a whole program that takes some two hours of processor time.")
-    say(f"crates/{program}/out/first-run.log has what the provers say. ./try proves nothing, and takes one to two minutes.")
+    say(f"the first run proves up to {len(run.size)} crates, {lanes} at a time, which takes hours")
+    say(f"crates/{program}/out/first-run.log has what the provers say")
     words = ["rt", "all", "check", "--jobs", str(lanes)]
     with subprocess.Popen(words, cwd=folder, stdin=subprocess.DEVNULL, stdout=subprocess.PIPE, stderr=subprocess.STDOUT, text=True) as rt:
         log = Log(f"{folder}/out/first-run.log", rt.pid)
         reader = threading.Thread(target=run.read, args=(rt.stdout,))
         reader.start()
-        told = time.time()
+        shown = time.time()
         while reader.is_alive():
-            run.tell_begun()
+            run.show_begun()
             log.follow()
-            if time.time() - told >= MINUTE:
-                told = time.time()
-                run.tell_under_way()
+            if time.time() - shown >= MINUTE:
+                shown = time.time()
+                run.show_under_way()
             reader.join(2)
 
 
-def main(words):
-    if len(words) != 1 or not os.path.isdir(f"{TOP}/crates/{words[0]}"):
-        sys.exit(__doc__.strip())
-    program, folder = words[0], f"{TOP}/crates/{words[0]}"
-    built = HERE.built(program)
+def prove(program):
+    """Proves and builds what is missing of a program, and returns its path. Ends this program where a proof fails."""
+    folder, built = f"{TOP}/crates/{program}", HERE.built(program)
     if not os.path.exists(built):
         prove_all(program, folder)
-    # What is not proved yet, or has changed since, this proves, one crate at a time, or says what is wrong with it.
+    # What is not proved yet, or has changed since, this proves, one crate at a time, or prints what is wrong with it.
     if not HERE.is_present(program):
         ran = subprocess.run(["rt", "run", "--", "--help"], cwd=folder, stdin=subprocess.DEVNULL, capture_output=True, text=True, check=False)
         # `rt` leaves this file where the program is of the present sources, and removes it before it proves anew.
         if not os.path.exists(f"{built}.stamp"):
             sys.exit(ran.stdout + ran.stderr)
         os.utime(built)
-
-
-if __name__ == "__main__":
-    try:
-        main(sys.argv[1:])
-    except FileNotFoundError as error:
-        sys.exit("prove: there is no command rt: it is of the Rattle kit" if error.filename == "rt" else f"prove: {error}")
+    return built

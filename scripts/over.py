@@ -1,4 +1,4 @@
-"""Builds of crates over the libraries that the gate, or ./prove, has proved in a checkout, so that nothing is proved twice."""
+"""Builds of crates over the libraries that the gate, or ./build --proved, has proved in a checkout, so that nothing is proved twice."""
 import os
 import subprocess
 

@@ -12,10 +12,10 @@ TOP = os.path.realpath(f"{os.path.dirname(os.path.realpath(__file__))}/../..")
 
 
 def find_program():
-    """The words that run the tool: those of the variable RUSZIVEG, else the release's program, else ./tool."""
+    """The words that run the tool: those of the variable RUSZIVEG, else the release's program, else ./rusziveg."""
     if words := os.environ.get("RUSZIVEG"):
         return words.split()
-    for place in ("release/rusziveg", "tool"):
+    for place in ("release/rusziveg", "rusziveg"):
         if os.access(f"{TOP}/{place}", os.X_OK):
             return [f"{TOP}/{place}"]
     raise SystemExit("clients: no program: set RUSZIVEG to the words that run the tool")

@@ -1,4 +1,4 @@
-"""What the programs of crates/ are made of, and sums of it: for ./prove, ./try and the scripts of this folder."""
+"""What the programs of crates/ are made of, and sums of it: for ./build and the scripts of release/."""
 import hashlib
 import os
 import subprocess

@@ -1,1 +1,0 @@
-"""What measure/clients is made of: a module for each of its parts, and what they share (server, wire, table)."""
