@@ -395,7 +395,7 @@ Store each regular file of a folder.
 .B rusziveg check disk.img \-\-quiet && cp disk.img copy.img
 Copy the image if it is sound. Never copy an image while a program has it open: the copy may be of no one moment.
 .TP
-.B systemd\-socket\-activate \-\-accept \-\-inetd \-l disk.sock rusziveg serve disk.img \-\-size 16777216
+.B systemd\-socket\-activate \-\-accept \-\-inetd \-l $PWD/disk.sock rusziveg serve disk.img \-\-size 16777216
 Serve a disk of 16 MB to NBD clients, one after the other, on the socket disk.sock in the present folder.
 .SH FILES
 .TP
