@@ -1,9 +1,7 @@
 //! A volume in use.
-use device::{Block, Meta};
-use rights_permits::VolumeName;
+use flash_volume::{Block, Meta, Volume, VolumeName};
 use std::alloc::Global;
 use std::sync::Wait;
-use volume::Volume;
 
 /// A volume in use: who waits, who allocates, the volume. It is lent by `&`.
 #[derive(Drop)]

@@ -8,11 +8,7 @@ ghost use Rattle.image_reading.specs.Content.{all_bytes};
 
 use crate::open::Open;
 use crate::parts::part_at;
-use device::{Block, Meta};
-use file_cells::FilePass;
-use flash_volume::read_part;
-use geometry::Error;
-use rights_permits::VolumeName;
+use flash_volume::{Block, Error, FilePass, Meta, VolumeName, read_part};
 use std::sync::Wait;
 
 impl<V: VolumeName, M: Meta, B: Block + Drop, R: Wait> Open<'_, V, M, B, R> {

@@ -9,11 +9,7 @@ ghost use Rattle.geometry.specs.declared.error.Error.TheVariants.{Wounded};
 
 use crate::open::Open;
 use crate::parts::end_of;
-use device::{Block, Meta};
-use file_cells::FilePass;
-use flash_volume::read_block;
-use geometry::Error;
-use rights_permits::VolumeName;
+use flash_volume::{Block, Error, FilePass, Meta, VolumeName, read_block};
 use std::sync::Wait;
 
 impl<V: VolumeName, M: Meta, B: Block + Drop, R: Wait> Open<'_, V, M, B, R> {

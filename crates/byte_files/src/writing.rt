@@ -8,11 +8,7 @@ ghost use Rattle.geometry.specs.Shape.{block_bytes};
 use crate::laws::{append_law, write_law};
 use crate::open::Open;
 use crate::parts::part_at;
-use device::{Block, Meta};
-use file_cells::FilePass;
-use flash_volume::write_part;
-use geometry::Error;
-use rights_permits::VolumeName;
+use flash_volume::{Block, Error, FilePass, Meta, VolumeName, write_part};
 use std::sync::Wait;
 
 impl<V: VolumeName, M: Meta, B: Block + Drop, R: Wait> Open<'_, V, M, B, R> {

@@ -3,7 +3,7 @@ use crate::room::Cleaner;
 use std::sync::atomic::{AtomicU64, Ordering};
 
 /// What a served disk has done since it was made.
-#[derive(Clone, Copy, Debug, PartialEq, Eq)]
+#[derive(Clone, Copy, PartialEq, Eq)]
 pub struct Counts {
     /// READ requests that were done.
     pub reads: u64,

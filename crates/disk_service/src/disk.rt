@@ -9,19 +9,15 @@ use crate::layout::DiskLayout;
 use crate::progress::Progress;
 use crate::request_reader::{Farewell, MOST_BYTES, take_requests};
 use crate::room::Cleaner;
-use device::{Block, Meta};
-use flash_volume::{PassTable, Service, flush};
-use geometry::Error;
+use flash_volume::{Block, Error, Meta, PassTable, Service, Volume, VolumeName, flush};
 use nbd_words::Disk;
-use rights_permits::VolumeName;
 use std::alloc::Global;
 use std::io::{Read, Write};
 use std::sync::{Mutex, Wait};
 use std::time::Clock;
-use volume::Volume;
 
 /// How a disk is served.
-#[derive(Clone, Copy, Debug, PartialEq, Eq)]
+#[derive(Clone, Copy, PartialEq, Eq)]
 pub struct DiskSettings {
     /// Requests that would change the disk are refused, nothing is cleaned, and no checkpoint is written.
     pub read_only: bool,

@@ -5,14 +5,9 @@ ghost use Rattle.geometry.specs.Shape.{block_bytes};
 
 use crate::layout::{Stripe, first_index};
 use crate::writing::{Writing, write_zeros};
-use device::{Block, Meta};
-use file_cells::FilePass;
-use flash_volume::{PassTable, erase_in_room};
-use geometry::Error;
-use rights_permits::VolumeName;
+use flash_volume::{Block, Error, FilePass, Meta, PassTable, Volume, VolumeName, erase_in_room};
 use std::alloc::Global;
 use std::sync::Wait;
-use volume::Volume;
 
 /// Gives back each block of a disk that lies whole in an access: it reads as zeros then. What of the access lies in other blocks stays as
 /// it is.

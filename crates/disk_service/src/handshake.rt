@@ -24,7 +24,7 @@ pub const LONGEST_NAME: usize = 4096;
 const MOST_DATA: u32 = 65_536;
 
 /// A disk as a client is told of it.
-#[derive(Clone, Copy, Debug)]
+#[derive(Clone, Copy)]
 pub struct Export<'a> {
     /// Its name, of at most `LONGEST_NAME` bytes.
     pub name: &'a str,
@@ -37,7 +37,7 @@ pub struct Export<'a> {
 }
 
 /// How a handshake ended.
-#[derive(Clone, Copy, Debug, PartialEq, Eq)]
+#[derive(Clone, Copy, PartialEq, Eq)]
 pub enum Greeted {
     /// The client is to be served: from here on come requests.
     Served,

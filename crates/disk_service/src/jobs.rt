@@ -6,7 +6,7 @@ ghost use Rattle.nbd_words.specs.Request.{data_bytes};
 
 use crate::counts::Counter;
 use crossbeam_channel::{Receiver, Sender, bounded};
-use geometry::Error;
+use flash_volume::Error;
 use nbd_words::Request;
 use std::alloc::Global;
 use std::sync::Wait;

@@ -1,13 +1,10 @@
 //! The background cleaner: cleans where few segments are free, and writes a checkpoint of what none has for long.
 use crate::disk::DiskService;
 use crate::room::Thresholds;
-use device::{Block, Meta};
-use flash_volume::{Ending, PassTable};
-use rights_permits::VolumeName;
+use flash_volume::{Block, Ending, Meta, PassTable, Volume, VolumeName};
 use std::io::{Read, Write};
 use std::sync::Wait;
 use std::time::{Clock, Duration};
-use volume::Volume;
 
 // The time between two looks.
 const PAUSE_MILLISECONDS: u64 = 10;

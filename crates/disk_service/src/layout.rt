@@ -16,14 +16,14 @@ pub struct DiskLayout {
 }
 
 /// Where a block of a disk lies: in the file of a number, at an index.
-#[derive(Clone, Copy, Debug, PartialEq, Eq)]
+#[derive(Clone, Copy, PartialEq, Eq)]
 pub struct BlockPlace {
     pub number: u32,
     pub index: u32,
 }
 
 /// The blocks of a range that lie in one file: the number of the file, and the first of their indices and the end of them.
-#[derive(Clone, Copy, Debug, PartialEq, Eq)]
+#[derive(Clone, Copy, PartialEq, Eq)]
 pub struct Stripe {
     pub number: u32,
     pub from: u64,

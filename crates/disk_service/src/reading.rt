@@ -5,14 +5,11 @@ ghost use Rattle.geometry.specs.Shape.{block_bytes};
 
 use crate::layout::DiskLayout;
 use crate::parts::{BlockPart, part_at};
-use device::{Block, Meta};
-use file_cells::FilePass;
-use flash_volume::{PassTable, read_block, read_part};
-use geometry::Error;
-use rights_permits::VolumeName;
+use flash_volume::{
+    Block, Error, FilePass, Meta, PassTable, Volume, VolumeName, read_block, read_part,
+};
 use std::alloc::Global;
 use std::sync::Wait;
-use volume::Volume;
 
 /// Reads bytes of a disk from an offset on, part by part, each under the lock of its file.
 ///

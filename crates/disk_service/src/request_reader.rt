@@ -18,7 +18,7 @@ pub const MOST_BYTES: u32 = 33_554_432;
 const SKIPPED: usize = 4096;
 
 /// Why no more requests are taken.
-#[derive(Clone, Copy, Debug, PartialEq, Eq)]
+#[derive(Clone, Copy, PartialEq, Eq)]
 pub enum Farewell {
     /// The client said that it goes.
     Left,

@@ -2,13 +2,8 @@
 ghost use Rattle.std.specs.Prelude.{◌≡◌, ◌≤◌, ◌<◌, true, false};
 
 use crate::counts::Counter;
-use cleaning::Policy;
-use device::{Block, Meta};
-use flash_volume::{Ending, make_room};
-use geometry::{Error, Geometry};
-use rights_permits::VolumeName;
+use flash_volume::{Block, Ending, Error, Geometry, Meta, Policy, Volume, VolumeName, make_room};
 use std::sync::{RwLock, RwLockReadGuard, RwLockWriteGuard, Wait};
-use volume::Volume;
 
 // The segments that are kept free for checkpoints and cleaning.
 const RESERVE: u32 = 4;

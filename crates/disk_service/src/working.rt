@@ -9,15 +9,11 @@ use crate::erasing::{erase_blocks, zero_bytes};
 use crate::jobs::{Job, ReceivedRequest};
 use crate::reading::read_bytes;
 use crate::writing::{Writing, write_bytes, write_zeros};
-use device::{Block, Meta};
-use flash_volume::PassTable;
-use geometry::Error;
+use flash_volume::{Block, Error, Meta, PassTable, Volume, VolumeName};
 use nbd_words::{Access, ErrorNumber, REPLY_BYTES, judge};
-use rights_permits::VolumeName;
 use std::io::{Read, Write};
 use std::sync::Wait;
 use std::time::Clock;
-use volume::Volume;
 
 impl<C: Clock + Drop, I: Read + Drop, O: Write + Drop> DiskService<C, I, O> {
     // Does requests and answers them, until no more come.

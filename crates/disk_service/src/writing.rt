@@ -6,13 +6,9 @@ use crate::layout::DiskLayout;
 use crate::parts::{BlockPart, part_at};
 use crate::progress::Progress;
 use crate::room::Cleaner;
-use device::{Block, Meta};
-use flash_volume::{PassTable, write_part};
-use geometry::Error;
-use rights_permits::VolumeName;
+use flash_volume::{Block, Error, Meta, PassTable, Volume, VolumeName, write_part};
 use std::alloc::Global;
 use std::sync::Wait;
-use volume::Volume;
 
 // How often a write that is alone is tried while there is no room for it.
 const ATTEMPTS: u32 = 16;

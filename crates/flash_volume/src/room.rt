@@ -102,7 +102,7 @@ fn other(policy: Policy) -> Policy {
 /// How many blocks the files of a volume may have, with their nodes and the folder, so that writing goes on for good: where a write finds
 /// no room, `make_room` wins some. The other segments are kept: six are open, and the fellows of each in its section can't be cleaned
 /// meanwhile; three more are for the cleaner, which moves blocks before their places come free. That it is enough was tried with users
-/// by chance (`program_runs users`), and is not proved.
+/// by chance (`tests_runs users`), and is not proved.
 pub fn usable_blocks(geometry: &Geometry) -> u32 {
     let fellows = geometry.per_section.saturating_sub(1);
     let kept = fellows.saturating_mul(OPEN).saturating_add(OPEN + 3);

@@ -9,13 +9,9 @@ ghost use Rattle.image_reading.specs.Content.{all_bytes};
 ghost use Rattle.byte_files.specs.Bytes.{HasBytes};
 ghost use Rattle.named_files.specs.Content.{IsBlockSet};
 
-use device::{Block, Meta};
-use file_cells::FilePass;
-use geometry::Error;
-use rights_permits::VolumeName;
+use flash_volume::{Block, Error, FilePass, Meta, Volume, VolumeName};
 use std::alloc::Global;
 use std::sync::Wait;
-use volume::Volume;
 
 /// All bytes of the blocks of a file. Answers NoMemory, or Device where the device failed.
 pub(crate) fn read_all<V: VolumeName, M: Meta, B: Block + Drop, R: Wait>(

@@ -15,7 +15,7 @@ ghost use Rattle.named_files.specs.Kept.{HasNamed, IsOrderly, IsRunOn};
 ghost use Rattle.named_files.specs.Left.{IsLeftIn};
 ghost use Rattle.named_reading.specs.Named.{HasFile};
 
-use device::{Block, Meta};
+use flash_volume::{Block, Meta};
 
 /// Of the parts that a close left (`AreClosed`, of `work_on`), and of the bytes of the image file in which they are kept, at once or
 /// after a crash (`IsLeftIn`): the file holds a volume, and whatever image is read out of it (`HoldsVolume`, of `OpenVolume::open`)

@@ -3,9 +3,9 @@ ghost use Rattle.std.specs.Prelude.{ℕ, IfOk, IfErr};
 ghost use Rattle.device.specs.Parts.{IsBlockRun};
 
 use crate::room::MakeRoom;
-use device::{Block, Meta, Parts};
-use flash_volume::{Done, Leave, LeaveFault as VolumeFault, Work, work_on};
-use geometry::Error;
+use flash_volume::{
+    Block, Done, Error, Leave, LeaveFault as VolumeFault, Meta, Parts, Work, work_on,
+};
 use std::sync::Wait;
 
 /// Does work, and closes. Where there is no room, it is made for a file of so many bytes, and where some was won, the work is tried once

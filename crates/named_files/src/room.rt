@@ -1,14 +1,12 @@
 //! Room is made for a file.
 use crate::walk::place_of;
-use cleaning::Policy;
-use device::{Block, Meta};
-use flash_volume::{Ending, Rights, Room, Work, make_room, usable_blocks};
-use geometry::{Error, Geometry, Shape};
+use flash_volume::{
+    Block, Ending, Error, Geometry, Meta, Policy, Rights, Room, Shape, Volume, VolumeName, Work,
+    make_room, usable_blocks,
+};
 use named_folder::FOLDER;
-use rights_permits::VolumeName;
 use std::alloc::Global;
 use std::sync::Wait;
-use volume::Volume;
 
 /// The segments that are kept free for checkpoints.
 const RESERVE: u32 = 4;

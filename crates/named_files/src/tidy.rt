@@ -1,12 +1,7 @@
 //! Sections are cleaned.
-use cleaning::Policy;
-use device::{Block, Meta};
-use flash_volume::{Rights, Work};
-use geometry::Error;
-use rights_permits::VolumeName;
+use flash_volume::{Block, Error, Meta, Policy, Rights, Volume, VolumeName, Work};
 use std::alloc::Global;
 use std::sync::Wait;
-use volume::Volume;
 
 /// How many sections were cleaned, and how many blocks were moved.
 #[derive(Clone, Copy, Debug, PartialEq, Eq)]

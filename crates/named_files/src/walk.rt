@@ -8,15 +8,11 @@ ghost use Rattle.named_folder.specs.Folder.{Row, IsRow};
 ghost use Rattle.named_folder.specs.Rows.{row_of};
 
 use crate::content::{Blocks, read_all, write_all};
-use device::{Block, Meta};
-use file_cells::FilePass;
-use geometry::Error;
+use flash_volume::{Block, Error, FilePass, Meta, Volume, VolumeName};
 use named_folder::{FOLDER, FolderRow, decode, encode, row_at};
 use named_reading::NameRefusal;
-use rights_permits::VolumeName;
 use std::alloc::Global;
 use std::sync::Wait;
-use volume::Volume;
 
 /// Where the first pass of a number is.
 pub(crate) fn place_of<V: VolumeName>(passes: &[FilePass<V>], number: u32) -> Option<usize>

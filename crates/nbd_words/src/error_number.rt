@@ -3,7 +3,7 @@ ghost use Rattle.std.specs.Prelude.{◌≡◌};
 ghost use Rattle.nbd_words.specs.Errors.{error_number};
 
 /// Why a request was not done, as the answer tells it ("Error values" of the protocol's document). The numbers are those that Linux has.
-#[derive(Clone, Copy, Debug, PartialEq, Eq)]
+#[derive(Clone, Copy, PartialEq, Eq)]
 pub enum ErrorNumber {
     /// EPERM: the disk is read only.
     NotPermitted,

@@ -13,7 +13,7 @@ pub const GREETING: &[u8; 18] = b"NBDMAGICIHAVEOPT\x00\x03";
 pub const CLIENT_FLAGS_BYTES: usize = 4;
 
 /// What the client answers to the greeting.
-#[derive(Clone, Copy, Debug, PartialEq, Eq)]
+#[derive(Clone, Copy, PartialEq, Eq)]
 pub struct ClientFlags {
     /// It speaks the fixed newstyle too.
     pub fixed_newstyle: bool,

@@ -9,7 +9,7 @@ use crate::error_number::ErrorNumber;
 use crate::request::Request;
 
 /// A disk, of which requests ask.
-#[derive(Clone, Copy, Debug, PartialEq, Eq)]
+#[derive(Clone, Copy, PartialEq, Eq)]
 pub struct Disk {
     /// How many bytes it has.
     pub bytes: u64,
@@ -19,7 +19,7 @@ pub struct Disk {
 }
 
 /// What is done on a disk. Offsets and lengths are in bytes. `through`: the answer waits until what was changed is safe.
-#[derive(Clone, Copy, Debug, PartialEq, Eq)]
+#[derive(Clone, Copy, PartialEq, Eq)]
 pub enum Access {
     Read {
         offset: u64,
@@ -50,7 +50,7 @@ pub enum Access {
 }
 
 /// Why a request is refused.
-#[derive(Clone, Copy, Debug, PartialEq, Eq)]
+#[derive(Clone, Copy, PartialEq, Eq)]
 pub enum Refusal {
     /// There is no request of this number.
     Unknown,

@@ -14,7 +14,7 @@ const OPTION_MARK: u64 = 0x4948_4156_454F_5054;
 const OPTION_REPLY_MARK: u64 = 0x0003_E889_0455_65A9;
 
 /// What an option asks ("Option types").
-#[derive(Clone, Copy, Debug, PartialEq, Eq)]
+#[derive(Clone, Copy, PartialEq, Eq)]
 pub enum OptionKind {
     /// The disk of the name that follows is to be served. It is answered with no head, and refused by an end of the connection alone.
     ExportName,
@@ -61,14 +61,14 @@ impl OptionKind {
 }
 
 /// The head of an option: what the client asks, and how many bytes of data lie behind it.
-#[derive(Clone, Copy, Debug, PartialEq, Eq)]
+#[derive(Clone, Copy, PartialEq, Eq)]
 pub struct OptionHead {
     pub kind: OptionKind,
     pub length: u32,
 }
 
 /// How an option is answered ("Option reply types").
-#[derive(Clone, Copy, Debug, PartialEq, Eq)]
+#[derive(Clone, Copy, PartialEq, Eq)]
 pub enum ReplyKind {
     /// It is done, and no other answer to it follows.
     Acknowledged,

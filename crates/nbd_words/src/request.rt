@@ -16,7 +16,7 @@ const LEAVE: u16 = 2;
 
 /// A request ("Request message"): what is to be done, where, and the cookie by which its answer is told from others. Offset and length are
 /// in bytes. A WRITE (kind 1) has as many bytes of data behind it.
-#[derive(Clone, Copy, Debug, PartialEq, Eq)]
+#[derive(Clone, Copy, PartialEq, Eq)]
 pub struct Request {
     pub flags: u16,
     pub kind: u16,

@@ -4,11 +4,8 @@ ghost use Rattle.program_run.specs.Work.{IsCut, IsFilled, IsFound, IsSynced, IsT
 
 use crate::gate::Gate;
 use crate::{Content, Session, Synced, policy_of};
-use cleaning::Cleaned;
-use device::{Block, Meta};
-use geometry::Error;
+use flash_volume::{Block, Cleaned, Error, Meta, VolumeName};
 use program_script::Cleaning;
-use rights_permits::VolumeName;
 use std::sync::Wait;
 
 /// A worker with the number of the calls that it has made.

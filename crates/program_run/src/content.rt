@@ -8,7 +8,7 @@ use std::io;
 use std::io::Write;
 
 /// The byte that all of a block's bytes are, or that they are not equal.
-#[derive(Clone, Copy, Debug, PartialEq, Eq)]
+#[derive(Clone, Copy)]
 pub enum Content {
     Equal(u8),
     Mixed,

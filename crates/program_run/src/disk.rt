@@ -4,8 +4,8 @@ ghost use Rattle.device.specs.Parts.{HasSize};
 ghost use Rattle.program_run.specs.declared.stop.Stop.TheVariants.{NoMemory};
 
 use crate::stop::Stop;
-use device::{Block, Faulty, Fuse, MemBlock, MemDevice, MemMeta, Meta, Parts};
-use geometry::Geometry;
+use device::{Faulty, Fuse};
+use flash_volume::{Block, Geometry, MemBlock, MemDevice, MemMeta, Meta, Parts};
 use program_script::Failure;
 use std::alloc::{AllocError, Global};
 use std::sync::Arc;

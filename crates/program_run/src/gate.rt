@@ -12,7 +12,7 @@ pub trait Gate {
 }
 
 /// No call waits.
-#[derive(Clone, Copy, Debug)]
+#[derive(Clone, Copy)]
 pub struct OpenGate;
 
 impl Gate for OpenGate {

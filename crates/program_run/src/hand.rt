@@ -7,17 +7,13 @@ use crate::Session;
 use crate::calls::Calls;
 use crate::gate::Gate;
 use crate::tasks::run_tasks;
-use device::{Block, Meta};
-use flash_volume::{Lent, ScheduledPart};
-use geometry::Error;
+use flash_volume::{Block, Error, Lent, Meta, ScheduledPart, Volume, VolumeName};
 use program_script::WorkerTask;
-use rights_permits::VolumeName;
 use std::alloc::Global;
 use std::io;
 use std::io::ErrorKind;
 use std::marker::Model;
 use std::sync::Wait;
-use volume::Volume;
 
 /// A worker's number, its tasks, the time, and the gate of its calls.
 #[derive(Drop)]

@@ -5,9 +5,7 @@ ghost use Rattle.program_run.specs.Lines.{cleaned_line, created_line, done_line,
 
 use crate::content::Content;
 use crate::synced::Synced;
-use cleaning::Cleaned;
-use file_cells::Status;
-use geometry::Error;
+use flash_volume::{Cleaned, Error, Status};
 use std::io;
 use std::io::Write;
 

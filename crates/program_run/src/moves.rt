@@ -5,7 +5,7 @@ ghost use Rattle.std.specs.Option.{option_or};
 ghost use Rattle.geometry.specs.declared.error.Error.TheVariants.{NoMemory};
 ghost use Rattle.program_run.specs.Share.{AreJoined, AreMoved, file_named, files_named, reader_named, readers_named};
 
-use geometry::Error;
+use flash_volume::Error;
 use program_script::{WorkerDeed, WorkerTask};
 use std::alloc::Global;
 

@@ -4,10 +4,7 @@ ghost use Rattle.std.specs.List.{filter_map};
 ghost use Rattle.geometry.specs.declared.error.Error.TheVariants.{NoFile, NoMemory};
 ghost use Rattle.program_run.specs.Files.{AreAllTaken, AreInOrder, IsFirstFree, StandInPlace, passes_among};
 
-use device::Block;
-use file_cells::{FilePass, Reader, Seat};
-use geometry::Error;
-use rights_permits::VolumeName;
+use flash_volume::{Block, Error, FilePass, Reader, Seat, VolumeName};
 use std::alloc::Global;
 
 /// Closes the readers that are open, and adds their seats to these. The only error is NoMemory.

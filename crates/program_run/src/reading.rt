@@ -4,7 +4,8 @@ ghost use Rattle.std.specs.Io.KnownBytes.{Consumes, IsAtEnd, Keeps};
 ghost use Rattle.pack_tables.specs.Grammar.{HasSuper};
 ghost use Rattle.program_run.specs.Reading.{IsEnoughOf};
 
-use geometry::{Geometry, SUPER_BYTES};
+use flash_volume::Geometry;
+use geometry::SUPER_BYTES;
 use pack_tables::{file_bytes, read_super};
 use std::alloc::Global;
 use std::io;

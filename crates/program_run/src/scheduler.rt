@@ -13,16 +13,14 @@ use crate::setting::Setting;
 use crate::steps::{Carried, run_commands};
 use crate::stop::Stop;
 use crate::{Session, close_readers, no_items};
-use device::{Block, Meta};
-use flash_volume::{Ended, Leave, Lent, PartJob, Scheduler, SchedulerRound};
-use geometry::Error;
+use flash_volume::{
+    Block, Ended, Error, Leave, Lent, Meta, PartJob, Scheduler, SchedulerRound, Volume, VolumeName,
+};
 use program_script::{Step, Worker};
-use rights_permits::VolumeName;
 use std::alloc::Global;
 use std::io::Write;
 use std::sync::Wait;
 use std::{io, mem};
-use volume::Volume;
 
 /// The steps that are to be run on a volume. Once some are begun, the next one is a part whose workers are at work.
 #[derive(Drop)]
@@ -36,7 +34,7 @@ pub struct RunningScript<'s, 'g, 'o, G: Gate, O> {
 
 /// Where the steps of a script halted: how many were run, and what the script carries on. All were run, or the next one mounts the
 /// volume again.
-#[derive(Clone, Copy, Debug, PartialEq, Eq)]
+#[derive(Clone, Copy)]
 pub struct Halt {
     pub run: usize,
     pub carried: Carried,

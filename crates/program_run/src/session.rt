@@ -17,16 +17,13 @@ use crate::places::{
     reader_place,
 };
 use crate::synced::Synced;
-use cleaning::{Cleaned, Policy};
-use device::{Block, Meta};
-use file_cells::{FilePass, Reader, Seat, Status};
-use flash_volume::{Lent, Rights};
-use geometry::{Error, Kind};
-use rights_permits::VolumeName;
+use flash_volume::{
+    Block, Cleaned, Error, FilePass, Kind, Lent, Meta, Policy, Reader, Rights, Seat, Status,
+    Volume, VolumeName,
+};
 use std::alloc::Global;
 use std::marker::Model;
 use std::sync::Wait;
-use volume::Volume;
 use words::SEATS;
 
 /// A volume with the passes of its files, the readers that were taken, and the time that a script has set. A caller

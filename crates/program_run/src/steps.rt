@@ -10,17 +10,15 @@ use crate::disk::Faults;
 use crate::lines::{tell_created, tell_done, tell_refusal, tell_status, tell_taken};
 use crate::stop::Stop;
 use crate::{Session, run_work};
-use device::{Block, Meta};
-use geometry::Error;
+use flash_volume::{Block, Error, Meta, VolumeName};
 use program_script::{Command, Step};
-use rights_permits::VolumeName;
 use std::io;
 use std::io::Write;
 use std::sync::Wait;
 
 /// What a script carries from one volume to the next: whether the device was just formatted, the time that was set, and how many
 /// readers were taken.
-#[derive(Clone, Copy, Debug, PartialEq, Eq)]
+#[derive(Clone, Copy)]
 pub struct Carried {
     pub formatted: bool,
     pub time: u64,
@@ -28,7 +26,7 @@ pub struct Carried {
 }
 
 /// How a volume came to be under a script: the version that was mounted, if it was not formatted.
-#[derive(Clone, Copy, Debug, PartialEq, Eq)]
+#[derive(Clone, Copy)]
 pub struct Opening {
     pub mounted: Option<u32>,
     pub carried: Carried,

@@ -5,14 +5,14 @@ ghost use Rattle.program_run.specs.Run.{names_line};
 
 use crate::lines::tell_refusal;
 use crate::status::{BAD_LINE, FAILED, REFUSED};
-use geometry::Error;
+use flash_volume::Error;
 use program_script::ScriptError;
 use std::alloc::AllocError;
 use std::io;
 use std::io::Write;
 
 /// Why a run ends before all was done.
-#[derive(Clone, Copy, Debug, PartialEq, Eq)]
+#[derive(Clone, Copy)]
 pub enum Stop {
     /// The volume was refused.
     Refused(Error),

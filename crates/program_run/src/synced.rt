@@ -1,7 +1,7 @@
 //! What a checkpoint wrote.
 
 /// The numbers of the image that a checkpoint wrote.
-#[derive(Clone, Copy, Debug, PartialEq, Eq)]
+#[derive(Clone, Copy)]
 pub struct Synced {
     pub version: u32,
     /// How many blocks are valid.

@@ -10,15 +10,13 @@ ghost use Rattle.program_run.specs.Run.{names_line};
 use crate::Content;
 use crate::lines::tell_total;
 use crate::stop::Stop;
-use device::{Block, Meta, Parts};
-use file_cells::FilePass;
-use flash_volume::{Done, HoleReuse, Leave, Rights, Visit, visit_volume};
-use geometry::Error;
-use rights_permits::VolumeName;
+use flash_volume::{
+    Block, Done, Error, FilePass, HoleReuse, Leave, Meta, Parts, Rights, Visit, Volume, VolumeName,
+    visit_volume,
+};
 use std::alloc::Global;
 use std::io::Write;
 use std::sync::Wait;
-use volume::Volume;
 
 /// Mounts the parts of a device, and writes the line of each file and the total of the image that they hold.
 pub fn tell_parts<M: Meta + Drop, B: Block + Drop, R: Wait, O: Write>(

@@ -7,10 +7,8 @@ ghost use Rattle.program_run.specs.Work.{IsLooked, WorkWrites, Wrote, policy_of}
 
 use crate::lines::{tell_cleaned, tell_done, tell_read, tell_refusal, tell_synced};
 use crate::session::Session;
-use cleaning::Policy;
-use device::{Block, Meta};
+use flash_volume::{Block, Meta, Policy, VolumeName};
 use program_script::{Cleaning, WorkerDeed};
-use rights_permits::VolumeName;
 use std::io;
 use std::io::Write;
 use std::sync::Wait;

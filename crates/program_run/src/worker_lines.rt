@@ -4,7 +4,7 @@ ghost use Rattle.std.specs.Io.KnownBytes.{Appends};
 ghost use Rattle.program_run.specs.WorkerLines.{done_text, end_line, read_text, refused_line};
 
 use crate::{Content, lines};
-use geometry::Error;
+use flash_volume::Error;
 use std::io;
 use std::io::Write;
 

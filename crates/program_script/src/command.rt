@@ -2,7 +2,7 @@
 use geometry::Kind;
 
 /// How a cleaner chooses its section (Rosenblum and Ousterhout 1991; Linux `filesystems/f2fs`, cleaning).
-#[derive(Clone, Copy, Debug, PartialEq, Eq)]
+#[derive(Clone, Copy)]
 pub enum Cleaning {
     /// The section with the fewest valid blocks.
     Foreground,
@@ -11,7 +11,7 @@ pub enum Cleaning {
 }
 
 /// A call of the device that is to fail once, counted from 1 at the line.
-#[derive(Clone, Copy, Debug, PartialEq, Eq)]
+#[derive(Clone, Copy)]
 pub enum Failure {
     /// A write or a sync of the meta area; a late one fails when it has been done.
     Meta { call: u32, late: bool },
@@ -20,7 +20,7 @@ pub enum Failure {
 }
 
 /// What a worker of a parallel part may do, and a script outside of one.
-#[derive(Clone, Copy, Debug, PartialEq, Eq)]
+#[derive(Clone, Copy)]
 pub enum WorkerDeed {
     /// Writes a block of equal bytes at an index.
     Write {
@@ -56,7 +56,7 @@ pub enum WorkerDeed {
 }
 
 /// What a script does in a line.
-#[derive(Clone, Copy, Debug, PartialEq, Eq)]
+#[derive(Clone, Copy)]
 pub enum Command {
     /// What a worker may do too.
     Work(WorkerDeed),

@@ -12,7 +12,7 @@ use crate::{Cleaning, Command, Failure, WorkerDeed};
 use geometry::{Kind, Shape};
 
 /// What a line says, wherever it stands.
-#[derive(Clone, Copy, Debug, PartialEq, Eq)]
+#[derive(Clone, Copy)]
 pub enum Statement {
     Format(Numbers),
     Command(Command),

@@ -7,7 +7,7 @@ use geometry::Shape;
 use std::alloc::Global;
 
 /// The numbers of the volume that a script asks for. They are not tested here.
-#[derive(Clone, Copy, Debug, PartialEq, Eq)]
+#[derive(Clone, Copy)]
 pub struct Numbers {
     pub shape: Shape,
     pub segments: u32,
@@ -17,20 +17,20 @@ pub struct Numbers {
 }
 
 /// A worker's command, and its line.
-#[derive(Clone, Copy, Debug, PartialEq, Eq)]
+#[derive(Clone, Copy)]
 pub struct WorkerTask {
     pub line: u64,
     pub work: WorkerDeed,
 }
 
 /// A worker of a parallel part.
-#[derive(Debug, Drop)]
+#[derive(Drop)]
 pub struct Worker {
     pub tasks: Vec<WorkerTask>,
 }
 
 /// A step of a script, and the line where it begins.
-#[derive(Debug, Drop)]
+#[derive(Drop)]
 pub enum Step {
     /// A command.
     Command { line: u64, command: Command },
@@ -39,7 +39,7 @@ pub enum Step {
 }
 
 /// A script: the volume that it asks for, and its steps in order. One without a volume has no step.
-#[derive(Debug, Drop)]
+#[derive(Drop)]
 pub struct Script {
     pub volume: Option<Numbers>,
     pub steps: Vec<Step>,

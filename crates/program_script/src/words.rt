@@ -13,7 +13,7 @@ use thiserror::Error as ThisError;
 pub const USAGE: &str = "usage: f2fsim run [--save PATH] | check IMAGE";
 
 /// What the program is to do.
-#[derive(Clone, Copy, Debug, PartialEq, Eq)]
+#[derive(Clone, Copy)]
 pub enum CommandLine<'a> {
     /// Runs a script on a volume that threads by a rule of this name, and saves the bytes of the device at a path.
     Run {

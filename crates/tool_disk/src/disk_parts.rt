@@ -1,13 +1,9 @@
 //! The files of a new disk, all of them or none.
-use device::{Block, Meta};
-use flash_volume::{Rights, Work};
-use geometry::Error;
+use flash_volume::{Block, Error, Meta, Rights, Volume, VolumeName, Work};
 use named_files::{NewFile, PutAll};
-use rights_permits::VolumeName;
 use std::alloc::Global;
 use std::cell::Cell;
 use std::sync::Wait;
-use volume::Volume;
 
 /// Puts the files of a new disk. Where one is refused, the work fails with NoSpace, and then, as after each other error, the volume is given
 /// up: a later run finds none of them.

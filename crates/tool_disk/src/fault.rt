@@ -5,7 +5,7 @@ use std::alloc::{AllocError, AllocFailed};
 use std::io;
 
 /// Why a disk is not served, or not to the end.
-#[derive(Debug, Drop)]
+#[derive(Drop)]
 pub enum DiskFault {
     /// The volume has no disk of the name, and no size was told for a new one.
     NoDisk,

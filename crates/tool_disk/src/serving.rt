@@ -17,7 +17,7 @@ use std::thread::Threads;
 use std::time::Clock;
 
 /// Which disk is served, and how.
-#[derive(Clone, Copy, Debug)]
+#[derive(Clone, Copy)]
 pub struct DiskOptions<'a> {
     /// The name of the disk: its files have it, with the number of the part behind.
     pub name: &'a str,
@@ -29,7 +29,7 @@ pub struct DiskOptions<'a> {
 }
 
 /// What came of serving a disk: what was done, and why it ended; None where the client went in the handshake.
-#[derive(Clone, Copy, Debug, PartialEq, Eq)]
+#[derive(Clone, Copy, PartialEq, Eq)]
 pub struct Served {
     /// The bytes of the disk, and of a block.
     pub bytes: u64,

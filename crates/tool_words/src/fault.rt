@@ -9,7 +9,7 @@ use std::io;
 use tool_disk::DiskFault;
 
 /// Why the program stops.
-#[derive(Debug, Drop)]
+#[derive(Drop)]
 pub enum Fault {
     /// A word of the call is no text.
     NoWords,

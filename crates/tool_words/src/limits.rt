@@ -4,7 +4,7 @@ use std::fmt;
 use tool_syntax::VolumeSizes;
 
 /// A number of a volume that is beyond its limits.
-#[derive(Clone, Copy, Debug)]
+#[derive(Clone, Copy)]
 pub enum Beyond {
     /// The option's number is not among those from the least to the most.
     Range {

@@ -41,7 +41,7 @@ pub trait Opener {
 }
 
 /// Opens image files as `file_device` does, which keeps in memory what a part holds.
-#[derive(Clone, Copy, Debug)]
+#[derive(Clone, Copy)]
 pub struct FileOpener;
 
 impl Opener for FileOpener {

@@ -3,7 +3,7 @@ use crate::shown::EscapedText;
 use std::io::Write;
 
 /// How the program writes.
-#[derive(Clone, Copy, Debug)]
+#[derive(Clone, Copy)]
 pub struct Screen {
     /// Whether the progress of long work is told: standard error is a terminal.
     pub progress: bool,

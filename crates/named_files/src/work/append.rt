@@ -7,16 +7,11 @@ ghost use Rattle.named_files.specs.Files.{IsRead};
 use crate::content::read_all;
 use crate::walk::{place_of, read_folder};
 use crate::work::Put;
-use device::{Block, Meta};
-use file_cells::FilePass;
-use flash_volume::{Rights, Work};
-use geometry::Error;
+use flash_volume::{Block, Error, FilePass, Meta, Rights, Volume, VolumeName, Work};
 use named_folder::row_at;
 use named_reading::NameRefusal;
-use rights_permits::VolumeName;
 use std::alloc::Global;
 use std::sync::Wait;
-use volume::Volume;
 
 /// The file of a name gets these bytes behind those that it has. Answers its number. It is refused, and fails, as `Put` of all its bytes
 /// is; and as NoSuchFile where the name is not there, as LostFile where its file is not.

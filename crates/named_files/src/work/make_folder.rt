@@ -1,13 +1,9 @@
 //! The folder of a new volume.
 use crate::walk::write_folder;
-use device::{Block, Meta};
-use flash_volume::{Rights, Work};
-use geometry::{Error, Kind};
+use flash_volume::{Block, Error, Kind, Meta, Rights, Volume, VolumeName, Work};
 use named_folder::FOLDER;
-use rights_permits::VolumeName;
 use std::alloc::Global;
 use std::sync::Wait;
-use volume::Volume;
 
 /// Makes the folder, without rows, on a volume without files.
 #[derive(Drop)]

@@ -11,16 +11,11 @@ ghost use Rattle.named_folder.specs.Rows.{row_of};
 use crate::content::{Blocks, write_all};
 use crate::room::{RoomTaken, has_room};
 use crate::walk::{place_of, read_rows, write_folder};
-use device::{Block, Meta};
-use file_cells::FilePass;
-use flash_volume::{Rights, Work};
-use geometry::{Error, Kind};
+use flash_volume::{Block, Error, FilePass, Kind, Meta, Rights, Volume, VolumeName, Work};
 use named_folder::{FOLDER, FolderRow, encode, is_name, put_row, row_at};
 use named_reading::NameRefusal;
-use rights_permits::VolumeName;
 use std::alloc::Global;
 use std::sync::Wait;
-use volume::Volume;
 
 /// The file of a name becomes these bytes; where there is none it is made. Answers its number.
 ///

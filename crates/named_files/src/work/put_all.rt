@@ -9,17 +9,12 @@ ghost use Rattle.named_folder.specs.Rows.{row_of};
 
 use crate::walk::{read_rows, write_folder};
 use crate::work::put::{Put, enter_file};
-use device::{Block, Meta};
-use file_cells::FilePass;
-use flash_volume::{Rights, Work};
-use geometry::Error;
+use flash_volume::{Block, Error, FilePass, Meta, Rights, Volume, VolumeName, Work};
 use named_folder::FolderRow;
 use named_reading::NameRefusal;
-use rights_permits::VolumeName;
 use std::alloc::Global;
 use std::cell::Cell;
 use std::sync::Wait;
-use volume::Volume;
 
 /// A file that is to be put: its name and its bytes.
 #[derive(Clone, Copy, Drop)]

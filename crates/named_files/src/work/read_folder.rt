@@ -1,14 +1,10 @@
 //! The rows of the folder are read.
 use crate::walk::read_rows;
-use device::{Block, Meta};
-use flash_volume::{Rights, Work};
-use geometry::{Error, Geometry};
+use flash_volume::{Block, Error, Geometry, Meta, Rights, Volume, VolumeName, Work};
 use named_folder::FolderRow;
 use named_reading::NameRefusal;
-use rights_permits::VolumeName;
 use std::alloc::Global;
 use std::sync::Wait;
-use volume::Volume;
 
 /// The rows of a volume's folder, and the volume's numbers.
 #[derive(Drop)]

@@ -6,16 +6,11 @@ ghost use Rattle.named_files.specs.Files.{file_at, WasTaken};
 ghost use Rattle.named_folder.specs.Rows.{row_of};
 
 use crate::walk::{NamedRow, find_named, place_of, write_folder};
-use device::{Block, Meta};
-use file_cells::FilePass;
-use flash_volume::{Rights, Work};
-use geometry::Error;
+use flash_volume::{Block, Error, FilePass, Meta, Rights, Volume, VolumeName, Work};
 use named_folder::{FolderRow, take_row};
 use named_reading::NameRefusal;
-use rights_permits::VolumeName;
 use std::alloc::Global;
 use std::sync::Wait;
-use volume::Volume;
 
 /// Removes a name from the folder, and deletes its file.
 #[derive(Clone, Copy, Drop)]

@@ -1,14 +1,10 @@
 //! A file gets another name.
 use crate::walk::{NamedRow, find_named, write_folder};
-use device::{Block, Meta};
-use flash_volume::{Rights, Work};
-use geometry::Error;
+use flash_volume::{Block, Error, Meta, Rights, Volume, VolumeName, Work};
 use named_folder::{is_name, rename_row, row_at};
 use named_reading::NameRefusal;
-use rights_permits::VolumeName;
 use std::alloc::Global;
 use std::sync::Wait;
-use volume::Volume;
 
 /// A file gets another name, which no file has.
 #[derive(Clone, Copy, Drop)]

@@ -7,11 +7,8 @@ ghost use Rattle.program_run.specs.Share.{IsPutBack, IsShare};
 use super::Session;
 use crate::moves::{files_named, join_items, move_items, readers_named};
 use crate::places::{no_items, place_passes};
-use device::{Block, Meta};
-use flash_volume::Lent;
-use geometry::Error;
+use flash_volume::{Block, Error, Lent, Meta, VolumeName};
 use program_script::WorkerTask;
-use rights_permits::VolumeName;
 
 impl<'a, V: VolumeName, M: Meta, B: Block + Drop> Session<'a, V, M, B> {
     /// A session over the same volume at the same time, to which the passes of the files and the readers move that these tasks
