@@ -339,7 +339,7 @@ fn add_name<E: Write>(
     if !kind.is_file() {
         let _ = writeln!(
             errors,
-            "rusziveg: {} is left out: it is {}",
+            "rusziveg: {} is skipped: it is {}",
             EscapedText(name),
             kind_text(&kind)
         );
@@ -358,6 +358,6 @@ fn kind_text(kind: &FileType) -> &'static str {
     } else if kind.is_symlink() {
         "a link"
     } else {
-        "no ordinary file"
+        "not a regular file"
     }
 }

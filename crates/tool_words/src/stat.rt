@@ -89,13 +89,13 @@ fn write_facts<O: Write>(packing: Packing, facts: &Facts, out: &mut O) -> io::Re
     )?;
     writeln!(
         out,
-        "files     {} of {}, with the folder",
+        "files     {} of {}, including the folder of names",
         facts.files, facts.most_files
     )?;
     writeln!(out, "nodes     {} of {}", facts.nodes, facts.most_nodes)?;
     writeln!(
         out,
-        "room      {} bytes for one file, {} used of {}, {} kept for cleaning",
+        "space     {} bytes free, {} used of {}, {} kept for cleaning",
         facts.free_bytes, facts.used_bytes, facts.usable_bytes, facts.kept_bytes
     )
 }
