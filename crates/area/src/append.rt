@@ -21,7 +21,7 @@ use tickets::Ticket;
 use words::FreeSlip;
 
 /// Who appends: which free segments it may draw on, and whether it may begin to fill the holes of a used one.
-#[derive(Clone, Copy, Debug, PartialEq, Eq)]
+#[derive(Clone, Copy, PartialEq, Eq)]
 pub enum Who {
     /// A file's user. It draws on the ordinary queue.
     Ordinary,

@@ -5,7 +5,7 @@ ghost use Rattle.area.specs.LogTable.{log_of, log_number, is_data_log, data_log_
 use geometry::{Class, Kind};
 
 /// A log of a volume (Lee and others, "F2FS: A New File System for Flash Storage", FAST 2015: multi-head logging).
-#[derive(Clone, Copy, Debug, PartialEq, Eq)]
+#[derive(Clone, Copy, PartialEq, Eq)]
 pub enum Log {
     /// Direct nodes of directories, and their inodes.
     HotNode,

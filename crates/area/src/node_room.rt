@@ -21,7 +21,7 @@ const SPARE: u32 = 3;
 const DATA_LOGS: u32 = 3;
 
 /// At most how many nodes of a file are marked as changed since they were written: its inode and direct nodes, and its indirect ones.
-#[derive(Clone, Copy, Debug, PartialEq, Eq)]
+#[derive(Clone, Copy, PartialEq, Eq)]
 pub struct MarkedNodes {
     pub direct: u32,
     pub indirect: u32,
@@ -46,7 +46,7 @@ pub struct CheckpointRoom {
 }
 
 // Of one log of nodes: at most how many marked nodes it gets with the next checkpoint, and how many places its open segment has.
-#[derive(Debug, Drop)]
+#[derive(Drop)]
 struct LogRoom {
     marked: AtomicU32,
     places: AtomicU32,
@@ -84,7 +84,7 @@ fn segments_for(count: u32, blocks: u32) -> u32 {
 }
 
 /// How many nodes the next checkpoint has to write at most, and the places that are open for them.
-#[derive(Debug, Drop)]
+#[derive(Drop)]
 pub(crate) struct NodeRoom {
     hot: LogRoom,
     warm: LogRoom,

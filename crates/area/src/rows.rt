@@ -11,7 +11,7 @@ use sit::SegmentRow;
 use std::sync::Wait;
 
 /// What a choice of a victim looks at in a section (Rosenblum and Ousterhout 1991).
-#[derive(Clone, Copy, Debug, PartialEq, Eq)]
+#[derive(Clone, Copy, PartialEq, Eq)]
 pub struct SectionRow {
     /// Its number, from 0 on.
     pub section: u32,

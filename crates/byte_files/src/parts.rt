@@ -2,7 +2,7 @@
 ghost use Rattle.std.specs.Prelude.{◌≡◌, ◌<◌, ◌≤◌, ◌+◌, ◌-◌, ◌*◌, ◌^◌};
 
 /// A part that lies in one block.
-#[derive(Clone, Copy, Debug, PartialEq, Eq)]
+#[derive(Clone, Copy, PartialEq, Eq)]
 pub(crate) struct Part {
     /// The index of its block.
     pub index: u64,
@@ -32,7 +32,7 @@ pub(crate) fn part_at(place: u64, count: usize, block_bytes: usize) -> Part
 }
 
 /// Where so many bytes end.
-#[derive(Clone, Copy, Debug, PartialEq, Eq)]
+#[derive(Clone, Copy, PartialEq, Eq)]
 pub(crate) struct End {
     /// How many blocks they lie in.
     pub blocks: u64,

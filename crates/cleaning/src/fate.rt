@@ -3,7 +3,7 @@ ghost use Rattle.std.specs.Prelude.{◌≡◌, ◌+◌, ◌<◌, ◌^◌};
 ghost use Rattle.cleaning.specs.declared.fate.Fate.TheVariants as fates;
 
 /// What became of a valid block of a section that is cleaned.
-#[derive(Clone, Copy, Debug, PartialEq, Eq)]
+#[derive(Clone, Copy, PartialEq, Eq)]
 pub enum Fate {
     /// It stands in a log now, and its old place is valid no more.
     Moved,
@@ -12,7 +12,7 @@ pub enum Fate {
 }
 
 /// How many blocks were moved, and how many were gone.
-#[derive(Clone, Copy, Debug, PartialEq, Eq)]
+#[derive(Clone, Copy, PartialEq, Eq)]
 pub struct MovedBlocks {
     pub moved: u32,
     pub gone: u32,

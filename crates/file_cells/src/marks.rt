@@ -6,7 +6,7 @@ use area::MarkedNodes;
 use geometry::{Owner, Shape};
 
 /// The marked nodes of a file, and which node was marked last, so that it is not counted again.
-#[derive(Clone, Copy, Debug, PartialEq, Eq)]
+#[derive(Clone, Copy, PartialEq, Eq)]
 pub struct Marks {
     nodes: MarkedNodes,
     // The direct node that was written to last, counted from 1 in the order of the indexes; 0 where none was.

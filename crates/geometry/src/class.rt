@@ -1,7 +1,7 @@
 //! What a block holds.
 
 /// What a block holds: a file's bytes, or a node of its index tree (Linux `filesystems/f2fs`, index structure).
-#[derive(Clone, Copy, Debug, PartialEq, Eq)]
+#[derive(Clone, Copy, PartialEq, Eq)]
 pub enum Class {
     /// Bytes of a file.
     Data,

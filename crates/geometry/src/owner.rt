@@ -2,7 +2,7 @@
 ghost use Rattle.std.specs.Prelude.{◌≡◌};
 
 /// Who names a valid block (Linux `filesystems/f2fs`, segment summaries).
-#[derive(Clone, Copy, Debug, PartialEq, Eq)]
+#[derive(Clone, Copy, PartialEq, Eq)]
 pub enum Owner {
     /// The block is the node of this number.
     Node(u32),
@@ -11,14 +11,14 @@ pub enum Owner {
 }
 
 /// A valid block, by its address, and who names it.
-#[derive(Clone, Copy, Debug, PartialEq, Eq)]
+#[derive(Clone, Copy, PartialEq, Eq)]
 pub struct Mark {
     pub address: u32,
     pub owner: Owner,
 }
 
 /// What the segment summary area has for a block: two numbers that tell who names it, both 0 where nobody does.
-#[derive(Clone, Copy, Debug, PartialEq, Eq)]
+#[derive(Clone, Copy, PartialEq, Eq)]
 pub struct Summary {
     pub nid: u32,
     pub slot: u32,

@@ -2,7 +2,7 @@
 
 /// Where a file's block stands, from the inode down. The last number is the slot in the last node, and each number
 /// before it an entry of the node before (Linux `filesystems/f2fs`, index structure).
-#[derive(Clone, Copy, Debug, PartialEq, Eq)]
+#[derive(Clone, Copy, PartialEq, Eq)]
 pub enum Path {
     /// A slot of the inode.
     Inode(u32),

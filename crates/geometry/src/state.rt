@@ -2,7 +2,7 @@
 
 /// Where a segment is in its life: free, open, sealed, retired, and free again (Linux `filesystems/f2fs`, prefree
 /// segments).
-#[derive(Clone, Copy, Debug, PartialEq, Eq)]
+#[derive(Clone, Copy, PartialEq, Eq)]
 pub enum State {
     /// No block is valid, and it may be opened.
     Free,

@@ -2,7 +2,7 @@
 use geometry::{Class, Kind, Summary};
 
 /// Where a log appends: its open segment, and the next block's place in it.
-#[derive(Clone, Copy, Debug, PartialEq, Eq)]
+#[derive(Clone, Copy, PartialEq, Eq)]
 pub struct LogHead {
     pub segment: u32,
     pub next: u32,
@@ -10,7 +10,7 @@ pub struct LogHead {
 
 /// An entry of the node address table: the inode number of the node's file, and the address of the node's block. Both
 /// are 0 where there is no node.
-#[derive(Clone, Copy, Debug, PartialEq, Eq)]
+#[derive(Clone, Copy, PartialEq, Eq)]
 pub struct NodeEntry {
     pub inode: u32,
     pub address: u32,

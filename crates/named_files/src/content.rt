@@ -51,7 +51,7 @@ fn read_block<V: VolumeName, M: Meta, B: Block + Drop, R: Wait>(
 }
 
 /// Which blocks of a file are written.
-#[derive(Clone, Copy, Debug, PartialEq, Eq)]
+#[derive(Clone, Copy, PartialEq, Eq)]
 pub(crate) enum Blocks {
     All,
     /// Those that have other bytes, or are not there.

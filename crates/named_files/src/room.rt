@@ -79,7 +79,7 @@ fn segments_for(geometry: &Geometry, blocks: u64) -> u32 {
 }
 
 /// The blocks of a volume of which it depends whether there is room for a file.
-#[derive(Clone, Copy, Debug, PartialEq, Eq)]
+#[derive(Clone, Copy, PartialEq, Eq)]
 pub struct RoomTaken {
     /// All valid blocks.
     pub valid: u32,

@@ -6,7 +6,7 @@ ghost use Rattle.named_folder.specs.Name.{IsName, IsNameByte};
 const LONGEST_NAME: usize = 255;
 
 /// A row of the folder: a name, the number of the file that has its bytes, and how many bytes it has.
-#[derive(Debug, PartialEq, Eq, Drop)]
+#[derive(PartialEq, Eq, Drop)]
 pub struct FolderRow {
     pub name: String,
     /// The number of the file, past that of the folder.

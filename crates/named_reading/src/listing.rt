@@ -2,7 +2,7 @@
 use named_folder::FolderRow;
 
 /// A file by its number, and its length in blocks.
-#[derive(Clone, Copy, Debug, PartialEq, Eq)]
+#[derive(Clone, Copy, PartialEq, Eq)]
 pub struct NumberedFile {
     pub number: u32,
     pub blocks: u32,

@@ -10,7 +10,7 @@ fn is_sound(slot: u32, header: u32, footer: u32) -> bool
 }
 
 /// The versions that a slot's header and footer hold.
-#[derive(Clone, Copy, Debug, PartialEq, Eq)]
+#[derive(Clone, Copy, PartialEq, Eq)]
 pub struct Ends {
     pub header: u32,
     pub footer: u32,
@@ -35,7 +35,7 @@ pub fn pick(first: Ends, second: Ends) -> Option<u32>
 }
 
 // The pack that counts: its slot and version, and the number in the other slot's footer.
-#[derive(Clone, Copy, Debug, PartialEq, Eq)]
+#[derive(Clone, Copy, PartialEq, Eq)]
 pub struct Found {
     pub slot: u32,
     pub version: u32,

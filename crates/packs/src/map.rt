@@ -16,7 +16,7 @@ pub(crate) const MAP: usize = 16;
 const IN_PARTS: u32 = 2;
 
 /// Which parts of a pack lie in the other slot.
-#[derive(Clone, Copy, Debug)]
+#[derive(Clone, Copy)]
 pub struct Map {
     /// Whether the pack was written in parts, and not whole.
     pub in_parts: bool,

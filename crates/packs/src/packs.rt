@@ -31,7 +31,7 @@ pub struct Packs<M> {
 }
 
 /// What is known of where the parts or the pages of a pack lie.
-#[derive(Clone, Copy, Debug)]
+#[derive(Clone, Copy)]
 pub struct Known {
     /// The map of a pack in slots, if it is one.
     pub map: Option<Map>,

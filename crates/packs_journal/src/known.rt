@@ -8,7 +8,7 @@ use crate::page_set::PageSet;
 use crate::places::MAP_BYTES;
 
 /// What is known of the pages of a pack.
-#[derive(Clone, Copy, Debug)]
+#[derive(Clone, Copy)]
 pub struct KnownPages {
     /// Which copy of each page counts.
     pub map: PageMap,

@@ -7,7 +7,7 @@ use crate::places::MAP_BYTES;
 
 /// A set of the pages of a body: those with the numbers 0 to 4,351, of which each has the bytes behind header and logs from
 /// 4,096 times its number on.
-#[derive(Clone, Copy, Debug)]
+#[derive(Clone, Copy)]
 pub struct PageSet {
     // A bit for each page, the lowest of each byte first.
     bits: [u8; MAP_BYTES],

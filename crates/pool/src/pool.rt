@@ -14,7 +14,7 @@ use std::sync::atomic::{AtomicU32, Ordering};
 use words::FreeSlip;
 
 /// About how many slips the queues of a pool have.
-#[derive(Clone, Copy, Debug, PartialEq, Eq)]
+#[derive(Clone, Copy, PartialEq, Eq)]
 pub struct SlipCounts {
     pub ordinary: u32,
     pub reserve: u32,

@@ -55,7 +55,7 @@ pub enum Copied {
 }
 
 /// How many accounts the books of a volume have. There are 16 shards.
-#[derive(Clone, Copy, Debug, PartialEq, Eq)]
+#[derive(Clone, Copy, PartialEq, Eq)]
 pub struct Layout {
     /// The segments, numbered from 0 on.
     pub segments: u32,

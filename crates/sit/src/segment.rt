@@ -52,7 +52,7 @@ impl<B: Block + Drop> Model for SegmentState<B> {
 }
 
 /// What became of a segment that lost a valid block.
-#[derive(Clone, Copy, Debug, PartialEq, Eq)]
+#[derive(Clone, Copy, PartialEq, Eq)]
 pub enum Released {
     /// It is in the state in which it was.
     Kept,
@@ -61,7 +61,7 @@ pub enum Released {
 }
 
 /// What a choice of a victim looks at in a segment.
-#[derive(Clone, Copy, Debug, PartialEq, Eq)]
+#[derive(Clone, Copy, PartialEq, Eq)]
 pub struct SegmentRow {
     /// Its number, from 0 on.
     pub number: u32,

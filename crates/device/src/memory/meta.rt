@@ -7,7 +7,7 @@ use crate::log::History;
 use crate::{DeviceError, Meta};
 
 /// A call that changes what a crash may leave.
-#[derive(Clone, Copy, Debug, PartialEq, Eq)]
+#[derive(Clone, Copy, PartialEq, Eq)]
 pub enum Call {
     /// A write at an offset, of so many bytes.
     Write(u64, u64),
