@@ -140,7 +140,7 @@ impl<'a> Task<'a> {
         match self {
             Task::Format(_) => Some("the volume is made"),
             Task::Put { .. } => Some("the file is put"),
-            Task::Append { .. } => Some("the file is longer"),
+            Task::Append { .. } => Some("the bytes are appended"),
             Task::Copy { .. } => Some("the file is copied"),
             Task::Remove => Some("the files are removed"),
             Task::Rename { .. } => Some("the file is renamed"),

@@ -7,9 +7,9 @@ use std::io;
 pub fn file_advice(kind: io::ErrorKind) -> &'static str {
     match kind {
         io::ErrorKind::OutOfMemory => "; give the program more memory",
-        io::ErrorKind::PermissionDenied => "; see to the rights of the file and of its folder",
-        io::ErrorKind::StorageFull | io::ErrorKind::QuotaExceeded => "; make room for it there",
-        io::ErrorKind::NotFound => "; see to the path",
+        io::ErrorKind::PermissionDenied => "; check the permissions of the file and of its folder",
+        io::ErrorKind::StorageFull | io::ErrorKind::QuotaExceeded => "; free some space there",
+        io::ErrorKind::NotFound => "; check the path",
         _ => "",
     }
 }
@@ -19,20 +19,20 @@ pub fn volume_advice(error: Error) -> &'static str {
     match error {
         Error::NoMemory => "nothing was changed; give the program more memory",
         Error::Device =>
-            "the file could not be written or settled (is the disk full?); a later run finds the volume as it was",
+            "the file could not be written or synced (is the disk full?); a later run finds the volume as it was",
         Error::NoSpace =>
-            "nothing was changed; df tells the room; rm a file, or format a larger image (--segments)",
+            "nothing was changed; df prints the free space; rm a file, or format a larger image (--segments)",
         Error::NoFile =>
-            "nothing was changed; rm a file, or format an image for more files (--files)",
+            "nothing was changed; rm a file, or format an image for more files (--files, at most 1024)",
         Error::NoNode =>
-            "nothing was changed; rm a file, or format an image with more nodes (--nodes)",
+            "nothing was changed; rm a file, or format an image with more nodes (--nodes, at most 65536)",
         Error::TooFar => "nothing was changed; a file can't be so long",
         Error::BadGeometry =>
-            "this is no image of a volume, or one of a later format; format makes one",
+            "this is not an image of a volume, or one of a later format; format makes a new image",
         Error::NoPack =>
-            "no checkpoint of the volume can be read; take a copy of the image that check calls sound",
+            "no checkpoint of the volume can be read; use a copy of the image that check calls sound",
         Error::BadImage(_) =>
-            "the volume can't be used; check tells the fault, and a copy of the image may be sound",
+            "the volume can't be used; check prints the fault; use a copy of the image that check calls sound",
         _ => "a later run finds the volume as it was at its last checkpoint",
     }
 }
@@ -48,6 +48,6 @@ pub fn name_advice(refusal: NameRefusal) -> &'static str {
             "another program deleted it, or an rm was cut off; rm that name first",
         NameRefusal::NameTaken => "rm that file first, or give another name",
         NameRefusal::NoRoom =>
-            "nothing was changed; df tells the room; rm a file, or format a larger image (--segments)",
+            "nothing was changed; df prints the free space; rm a file, or format a larger image (--segments)",
     }
 }

@@ -14,16 +14,16 @@ use tool_syntax::ImageFile;
 
 /// What is wrong where an image has one of these faults, from 1 on: they are numbered as the rules of a lawful image.
 const FAULTS: [&str; 10] = [
-    "a table or the file has another size than the superblock tells, or a number beyond its range",
-    "two logs have one open segment",
-    "an entry of the node address table names no node, or one of another number",
-    "a node names a node that is none, or is another file's, or of the wrong class for its place",
+    "a table or the file has another size than the superblock says, or a number is out of range",
+    "two logs have the same open segment",
+    "an entry of the node address table names a block that is not a node, or a node of another number",
+    "a node names a block that is not a node, or a node of another file, or one of the wrong class for its place",
     "a node of the node address table can't be reached from any file",
     "a block is named twice",
     "a block that is named is not marked as valid",
-    "a block is marked as valid, and nothing names it",
-    "the summary of a block tells another owner than who names it",
-    "a count is wrong, or a block is marked where none may be",
+    "a block is marked as valid, but nothing names it",
+    "the summary of a block has another owner than what names the block",
+    "a count is wrong, or a block is marked as valid where none may be",
 ];
 
 /// The numbers of a sound image.

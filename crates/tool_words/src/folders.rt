@@ -121,7 +121,7 @@ fn tell_gone<E: Write>(listing: &Listing, errors: &mut E) -> u8 {
     for entry in named(listing) {
         if !has_file(listing, entry.number) {
             let name = EscapedText(entry.name.as_str());
-            let _ = writeln!(errors, "rusziveg: {name} is left out: its file is gone");
+            let _ = writeln!(errors, "rusziveg: {name} is skipped: its file is gone");
             status = 1;
         }
     }

@@ -30,14 +30,14 @@ impl fmt::Display for Beyond {
                 most,
             } => write!(
                 f,
-                "{option} {number} is beyond its limits; give {least} to {most}"
+                "{option} {number} is out of range; give {least} to {most}"
             ),
             Beyond::Sections {
                 segments,
                 per_section,
             } => write!(
                 f,
-                "--segments {segments} are no whole sections of --per-section {per_section}; give a multiple of it"
+                "--segments {segments} is not a multiple of --per-section {per_section}"
             ),
         }
     }

@@ -121,7 +121,7 @@ fn tell<E: Write>(report: &Report, disk: &str, errors: &mut E) {
     let disk = EscapedText(disk);
     let _ = writeln!(
         errors,
-        "{disk}: {} reads, {} writes, {} trims, {} flushes, {} refused; {} sections cleaned, {} blocks moved",
+        "{disk}: {} reads, {} writes, {} trims, {} flushes, {} rejected; {} sections cleaned, {} blocks moved",
         report.reads,
         report.writes,
         report.trims,

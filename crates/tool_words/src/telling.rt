@@ -17,7 +17,8 @@ const MISUSED: u8 = 2;
 const FAILED: u8 = 4;
 
 // What is said of a file that stands in the way.
-const THERE: &str = "a file of that name is there and stays; give another path, or remove it first";
+const THERE: &str =
+    "a file of that name exists and is not overwritten; give another path, or remove it first";
 
 impl Fault {
     /// Says on `errors` what is wrong with what, and what can be done, and answers the exit status. `image` is the path of the image
@@ -33,12 +34,12 @@ impl Fault {
     fn write<E: Write>(&self, image: &str, errors: &mut E) -> io::Result<()> {
         write!(errors, "rusziveg: ")?;
         match self {
-            Fault::NoWords => writeln!(errors, "a word of the call is not text (UTF-8)"),
+            Fault::NoWords => writeln!(errors, "an argument is not text (UTF-8)"),
             Fault::Output(error) => writeln!(errors, "standard output: {error}"),
             Fault::Untold(done, error) => {
                 writeln!(
                     errors,
-                    "standard output: {error}; {done}, and that could not be told"
+                    "standard output: {error}; {done}, but this could not be printed"
                 )
             }
             Fault::Input(error) => writeln!(
@@ -55,13 +56,13 @@ impl Fault {
             Fault::FileThere(path) => writeln!(errors, "{}: {THERE}", EscapedText(path.as_str())),
             Fault::NoFiles(path) => writeln!(
                 errors,
-                "{}: there is no ordinary file in the folder",
+                "{}: there is no regular file in the folder",
                 EscapedText(path.as_str())
             ),
             Fault::Beyond(beyond) => writeln!(errors, "{beyond}"),
             Fault::Client(error) => writeln!(
                 errors,
-                "the client: {error}; a disk is served to an NBD client behind standard input and output"
+                "the client: {error}; serve expects an NBD client on standard input and output"
             ),
             _ => {
                 let image = EscapedText(image);
@@ -86,19 +87,19 @@ impl Fault {
             ),
             Fault::NotAFile => writeln!(
                 errors,
-                "the image is no ordinary file; give the path of an image file"
+                "the image is not a regular file; give the path of an image file"
             ),
             Fault::Unmade(error) => writeln!(
                 errors,
-                "{error}; no image is left (is the disk full?)"
+                "{error}; no image was made (is the disk full?)"
             ),
             Fault::TooLong => writeln!(
                 errors,
-                "the bytes are more than the image has; format a larger one (--segments)"
+                "the input is larger than the image; format a larger one (--segments)"
             ),
             Fault::Unsettled => writeln!(
                 errors,
-                "the file failed while the change was settled (is the disk full?); a later run finds the volume as it was, or with the change: ls tells"
+                "the file failed while the change was synced (is the disk full?); a later run finds the volume as it was, or with the change: ls shows which"
             ),
             _ => self.write_of_volume(errors),
         }
@@ -117,7 +118,7 @@ impl Fault {
             ),
             Fault::NameStays(error) => writeln!(
                 errors,
-                "{error}; the file is gone, and its name stays in the folder; rm another file, then this name again"
+                "{error}; the file is removed, but its name is still in the folder; rm another file, then this name again"
             ),
             Fault::Disk(disk, fault) => write_of_disk(EscapedText(disk.as_str()), fault, errors),
             _ => Ok(()),
@@ -159,7 +160,7 @@ fn write_of_disk<E: Write>(
         ),
         DiskFault::OddSize(block) => writeln!(
             errors,
-            "{disk}: a disk has whole blocks of {block} bytes; give another --size"
+            "{disk}: a disk's size is a multiple of {block} bytes; give another --size"
         ),
         DiskFault::Broken => writeln!(
             errors,

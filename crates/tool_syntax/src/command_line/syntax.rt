@@ -27,10 +27,10 @@ fn program_alone<'a>(alloc: Global) -> Made<'a> {
     let program = Command::new(alloc, "rusziveg")
         .version(VERSION)
         .about(
-            "Flash volumes in image files: makes them, keeps named files in them, cleans, checks and draws them.",
+            "Keeps named files, or a disk for NBD clients, in a flash volume, which is stored in an image file.",
         )
         .after_help(
-            "Exit status: 0 done; 1 a volume, an image or a name was refused; 2 the words were; 4 a file, a stream or memory failed.",
+            "Exit status: 0: success; 1: a volume, image, name or number was rejected; 2: the command line was wrong; 4: a file, stream or memory failed.",
         )
         .subcommand_required(true);
     let program = program.arg(QUIET.made(alloc).short('q').global(true));

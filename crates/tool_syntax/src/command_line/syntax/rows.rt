@@ -3,62 +3,62 @@ use crate::command_line::syntax::argument::{Argument, Takes};
 
 /// Each command, and what it does.
 pub static COMMANDS: [(&str, &str); 20] = [
-    ("format", "Makes a new image file with an empty volume"),
-    (
-        "put",
-        "Reads standard input, or FILE, to its end, and makes it the file NAME",
-    ),
+    ("format", "Make a new image file with an empty volume"),
+    ("put", "Store standard input, or FILE, as the file NAME"),
     (
         "append",
-        "Reads standard input, or FILE, to its end, and puts it behind what the file NAME has",
+        "Add standard input, or FILE, to the end of the file NAME",
     ),
     (
         "get",
-        "Writes the bytes of a file to standard output, or to FILE",
+        "Write the bytes of a file to standard output, or to FILE",
     ),
     (
         "cat",
-        "Writes the bytes of files to standard output, one after the other",
+        "Write the bytes of files to standard output, one after the other",
     ),
-    ("rm", "Removes files"),
-    ("mv", "Gives the file NAME another name"),
-    ("cp", "Copies the file NAME, as it is now, to another name"),
-    ("ls", "Lists the files, by name and by number"),
-    ("clean", "Cleans sections, so that their segments come free"),
+    ("rm", "Remove files"),
+    ("mv", "Rename the file NAME"),
+    ("cp", "Copy the file NAME to another name"),
+    ("ls", "List the files, with their sizes and numbers"),
+    (
+        "clean",
+        "Move the valid blocks out of partly filled sections, to make free segments",
+    ),
     (
         "check",
-        "Tells whether the image is sound, or its exact fault",
+        "Print whether the image is sound, or its exact fault",
     ),
-    ("stat", "Tells the numbers of the volume"),
+    (
+        "stat",
+        "Print the volume's version, and its counts of blocks, segments, files and nodes",
+    ),
     (
         "df",
-        "Tells how many bytes can be used, are used and are free, and how many are kept for cleaning",
+        "Print how many bytes are usable, used, free, and kept for cleaning",
     ),
-    (
-        "map",
-        "Draws each segment: how full it is, its log, its age",
-    ),
+    ("map", "Draw each segment: how full it is, its log, its age"),
     (
         "upgrade",
-        "Writes the volume, of any format, into a new image file of format 3; IMAGE stays as it is",
+        "Copy the volume, of any format, into a new image file of format 3",
     ),
     (
         "serve",
-        "Serves a disk to a client by the NBD protocol, over standard input and output, and closes when it leaves",
+        "Serve a disk to one NBD client over standard input and output, until the client leaves",
     ),
     (
         "dump",
-        "Writes each file into FOLDER, under its name or number",
+        "Write each file into FOLDER, under its name, or its number where it has no name",
     ),
     (
         "import",
-        "Puts each ordinary file of FOLDER under its name; folders in it, links and pipes are left out, with status 1",
+        "Store each regular file of FOLDER under its name; folders, links and pipes are skipped, with status 1",
     ),
     (
         "completions",
-        "Writes completions for a shell, which reads them from its folder of completions",
+        "Print a shell's completions, for its folder of completions",
     ),
-    ("manual", "Writes the manual page, which man reads"),
+    ("manual", "Print the manual page, for man"),
 ];
 
 /// Each argument of a command.
@@ -128,7 +128,7 @@ pub const QUIET: Argument = Argument {
     takes: Takes::Flag,
     value: "",
     otherwise: "",
-    help: "Tells nothing of work that goes well, and no progress",
+    help: "Print errors only, no reports of success and no progress",
 };
 
 /// Of each command.
@@ -153,7 +153,7 @@ const SHAPE: Argument = Argument {
     takes: Takes::Shape,
     value: "SHAPE",
     otherwise: "kernel",
-    help: "kernel: segments of 512 blocks of 4096 bytes; tiny: of 8 of 64",
+    help: "kernel: 512 blocks of 4096 bytes a segment; tiny: 8 blocks of 64 bytes",
 };
 
 const SEGMENTS: Argument = Argument {
@@ -161,7 +161,7 @@ const SEGMENTS: Argument = Argument {
     takes: Takes::Number,
     value: "N",
     otherwise: "32",
-    help: "Segments, 16 to 4096",
+    help: "Number of segments, 16 to 4096",
 };
 
 const PER_SECTION: Argument = Argument {
@@ -169,7 +169,7 @@ const PER_SECTION: Argument = Argument {
     takes: Takes::Number,
     value: "N",
     otherwise: "1",
-    help: "Segments a section, 1 to 16",
+    help: "Segments per section, the unit of cleaning, 1 to 16",
 };
 
 const FILES: Argument = Argument {
@@ -177,7 +177,7 @@ const FILES: Argument = Argument {
     takes: Takes::Number,
     value: "N",
     otherwise: "256",
-    help: "The most files, 1 to 1024",
+    help: "Maximum number of files, 1 to 1024; the folder of names is one of them",
 };
 
 const NODES: Argument = Argument {
@@ -185,7 +185,7 @@ const NODES: Argument = Argument {
     takes: Takes::Number,
     value: "N",
     otherwise: "2048",
-    help: "The most nodes, as many as files to 65536",
+    help: "Maximum number of nodes, from the number of files to 65536",
 };
 
 const NAME: Argument = Argument {
@@ -209,7 +209,7 @@ const READ_FILE: Argument = Argument {
     takes: Takes::OneWord,
     value: "FILE",
     otherwise: "",
-    help: "A file of the system, read in place of standard input",
+    help: "A file to read instead of standard input",
 };
 
 const NO_CLOBBER: Argument = Argument {
@@ -217,7 +217,7 @@ const NO_CLOBBER: Argument = Argument {
     takes: Takes::Flag,
     value: "",
     otherwise: "",
-    help: "Refuses a name that is there; else its file is replaced",
+    help: "Do not replace a file of that name: fail instead",
 };
 
 const WRITTEN_FILE: Argument = Argument {
@@ -225,7 +225,7 @@ const WRITTEN_FILE: Argument = Argument {
     takes: Takes::OneWord,
     value: "FILE",
     otherwise: "",
-    help: "A new file of the system, written in place of standard output",
+    help: "A new file to write instead of standard output",
 };
 
 const NUMBER: Argument = Argument {
@@ -233,7 +233,7 @@ const NUMBER: Argument = Argument {
     takes: Takes::Number,
     value: "N",
     otherwise: "",
-    help: "The file's number, in place of a name: all its blocks are written",
+    help: "The file's number, instead of a name; writes whole blocks",
 };
 
 const OFFSET: Argument = Argument {
@@ -241,7 +241,7 @@ const OFFSET: Argument = Argument {
     takes: Takes::Bytes,
     value: "BYTES",
     otherwise: "",
-    help: "Leaves out so many bytes at the front",
+    help: "Skip the first BYTES bytes",
 };
 
 const LENGTH: Argument = Argument {
@@ -249,7 +249,7 @@ const LENGTH: Argument = Argument {
     takes: Takes::Bytes,
     value: "BYTES",
     otherwise: "",
-    help: "Writes so many bytes at most",
+    help: "Write at most BYTES bytes",
 };
 
 const NAMES: Argument = Argument {
@@ -265,7 +265,7 @@ const NEW_NAME: Argument = Argument {
     takes: Takes::Word,
     value: "NEW",
     otherwise: "",
-    help: "Its new name, which no file has",
+    help: "The new name, which no other file may have",
 };
 
 const COPY_NAME: Argument = Argument {
@@ -281,7 +281,7 @@ const JSON: Argument = Argument {
     takes: Takes::Flag,
     value: "",
     otherwise: "",
-    help: "Writes JSON",
+    help: "Print JSON",
 };
 
 const BACKGROUND: Argument = Argument {
@@ -289,7 +289,7 @@ const BACKGROUND: Argument = Argument {
     takes: Takes::Flag,
     value: "",
     otherwise: "",
-    help: "Chooses by cost and benefit, for one section that is not urgent",
+    help: "Clean one section only, chosen by its cost, benefit and age",
 };
 
 const SVG: Argument = Argument {
@@ -297,7 +297,7 @@ const SVG: Argument = Argument {
     takes: Takes::Text,
     value: "FILE",
     otherwise: "",
-    help: "Writes a picture (SVG) to a new file",
+    help: "Write a picture (SVG) to the new file FILE",
 };
 
 const NEW_IMAGE: Argument = Argument {
@@ -305,7 +305,7 @@ const NEW_IMAGE: Argument = Argument {
     takes: Takes::Word,
     value: "NEW",
     otherwise: "",
-    help: "The new image file, which is not there",
+    help: "The new image file, which must not exist",
 };
 
 const DISK: Argument = Argument {
@@ -313,7 +313,7 @@ const DISK: Argument = Argument {
     takes: Takes::Text,
     value: "NAME",
     otherwise: "disk",
-    help: "The disk's name: its parts are the files NAME.00, NAME.01 and so on",
+    help: "The disk's name; the files NAME.00, NAME.01 and so on hold its data",
 };
 
 const SIZE: Argument = Argument {
@@ -321,7 +321,7 @@ const SIZE: Argument = Argument {
     takes: Takes::Bytes,
     value: "BYTES",
     otherwise: "",
-    help: "The disk's size; where there is no such disk it is made",
+    help: "The disk's size; makes the disk if there is none of that name",
 };
 
 const READ_ONLY: Argument = Argument {
@@ -329,7 +329,7 @@ const READ_ONLY: Argument = Argument {
     takes: Takes::Flag,
     value: "",
     otherwise: "",
-    help: "Refuses what would change the disk, and writes nothing",
+    help: "Reject requests that would change the disk, and write nothing",
 };
 
 const WORKERS: Argument = Argument {
@@ -337,7 +337,7 @@ const WORKERS: Argument = Argument {
     takes: Takes::Workers,
     value: "N",
     otherwise: "4",
-    help: "How many threads do requests, 1 to 16",
+    help: "Number of threads that serve requests, 1 to 16",
 };
 
 const FLUSH_EVERY: Argument = Argument {
@@ -345,7 +345,7 @@ const FLUSH_EVERY: Argument = Argument {
     takes: Takes::Number,
     value: "SECONDS",
     otherwise: "5",
-    help: "After so long a checkpoint has what was written, asked for or not; 0: only where the client asks",
+    help: "Store what was written after this time, even if the client does not flush; 0: only when it flushes",
 };
 
 const STATS: Argument = Argument {
@@ -353,7 +353,7 @@ const STATS: Argument = Argument {
     takes: Takes::Text,
     value: "FILE",
     otherwise: "",
-    help: "Writes to a new file, as JSON, what was done",
+    help: "Write counts of what was done to the new file FILE, as JSON",
 };
 
 const FOLDER: Argument = Argument {
@@ -361,7 +361,7 @@ const FOLDER: Argument = Argument {
     takes: Takes::Word,
     value: "FOLDER",
     otherwise: "",
-    help: "A folder of the system",
+    help: "A folder outside of the image",
 };
 
 const SHELL: Argument = Argument {
@@ -369,5 +369,5 @@ const SHELL: Argument = Argument {
     takes: Takes::Shell,
     value: "SHELL",
     otherwise: "",
-    help: "The shell that is to complete the program's words",
+    help: "The shell",
 };
