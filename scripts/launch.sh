@@ -12,10 +12,10 @@ launch() {
         program=$built
     fi
     if [ ! -x "$program" ]; then
-        echo "$0: there is no $name in release/; ./build $name builds one" >&2
+        echo "$0: there is no $name in release/; ./build --proved $name builds one" >&2
         exit 4
     fi
-    if [ "$name $*" = "rusziveg --version" ]; then
+    case "$name $*" in "rusziveg --version" | "rusziveg -V")
         "$program" --version
         if [ "$program" = "$built" ]; then
             echo "proved and built in this checkout"
@@ -25,6 +25,7 @@ launch() {
             head -n 1 "$top/release/SOURCES"
         fi
         exit
-    fi
+        ;;
+    esac
     exec "$program" "$@"
 }
