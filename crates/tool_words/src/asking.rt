@@ -6,6 +6,7 @@ use crate::image_run::open_volume;
 use named_files::{RoomTaken, has_room};
 use named_folder::{FOLDER, FolderRow, is_name, row_at};
 use named_reading::{Listing, NameRefusal};
+use std::alloc::Global;
 use std::fs::{File, Files};
 use std::time::Clock;
 use tool_syntax::ImageFile;
@@ -18,17 +19,17 @@ pub fn ask_to_put<R: AllocGlobal + Clock + Files<File = File>>(
     new: Option<&str>,
 ) -> Result<(), Fault> {
     let listing = listing_of(rt, image)?;
-    let rows = rows_of(&listing)?;
-    for entry in rows {
-        if !has_file(&listing, entry.number) {
-            return Err(Fault::of_name(rt.alloc(), entry.name.as_str(), NameRefusal::LostFile));
-        }
+    refuse_put(rt.alloc(), &listing, new)
+}
+
+fn refuse_put(alloc: Global, listing: &Listing, new: Option<&str>) -> Result<(), Fault> {
+    let rows = rows_of(listing)?;
+    if let Some(lost) = rows.iter().find(|row| !has_file(listing, row.number)) {
+        return Err(Fault::of_name(alloc, lost.name.as_str(), NameRefusal::LostFile));
     }
     match new {
-        Some(name) if row_at(rows, name).is_some() => {
-            Err(Fault::of_name(rt.alloc(), name, NameRefusal::NameTaken))
-        }
-        _ => Ok(()),
+        Some(name) => refuse_taken(alloc, listing, name),
+        None => Ok(()),
     }
 }
 
@@ -41,21 +42,25 @@ pub fn ask_for_room<R: AllocGlobal + Clock + Files<File = File>>(
 ) -> Result<(), Fault> {
     let mut volume = open_volume(rt, image)?;
     let listing = volume.list(rt.alloc())?;
-    let rows = rows_of(&listing)?;
-    let file = match row_at(rows, name) {
-        Some(place) => blocks_of(&listing, rows[place].number),
-        None => None,
-    };
-    let taken = RoomTaken {
-        valid: volume.image.total,
-        folder: blocks_of(&listing, FOLDER).unwrap_or(0),
-        file,
-    };
+    let taken = room_taken(&listing, volume.image.total, name)?;
     if has_room(&volume.geometry, taken, bytes) {
         Ok(())
     } else {
         Err(Fault::of_name(rt.alloc(), name, NameRefusal::NoRoom))
     }
+}
+
+// What the folder and the file of a name have taken of a volume of so many valid blocks.
+fn room_taken(listing: &Listing, valid: u32, name: &str) -> Result<RoomTaken, Fault> {
+    let rows = rows_of(listing)?;
+    Ok(RoomTaken {
+        valid,
+        folder: blocks_of(listing, FOLDER).unwrap_or(0),
+        file: match row_at(rows, name) {
+            Some(place) => blocks_of(listing, rows[place].number),
+            None => None,
+        },
+    })
 }
 
 /// Refuses to put so many bytes behind those of a file that is not there, or for which the volume has no room.
@@ -66,13 +71,16 @@ pub fn ask_to_append<R: AllocGlobal + Clock + Files<File = File>>(
     bytes: u64,
 ) -> Result<(), Fault> {
     let listing = listing_of(rt, image)?;
-    let rows = rows_of(&listing)?;
+    let had = bytes_of(rt.alloc(), &listing, name)?;
+    ask_for_room(rt, image, name, had.saturating_add(bytes))
+}
+
+// How many bytes the file of a name has.
+fn bytes_of(alloc: Global, listing: &Listing, name: &str) -> Result<u64, Fault> {
+    let rows = rows_of(listing)?;
     match row_at(rows, name) {
-        Some(place) => {
-            let all = rows[place].bytes.saturating_add(bytes);
-            ask_for_room(rt, image, name, all)
-        }
-        None => Err(Fault::of_name(rt.alloc(), name, NameRefusal::NoSuchFile)),
+        Some(place) => Ok(rows[place].bytes),
+        None => Err(Fault::of_name(alloc, name, NameRefusal::NoSuchFile)),
     }
 }
 
@@ -89,12 +97,8 @@ pub fn ask_to_remove<R: AllocGlobal + Clock + Files<File = File>>(
     names: &[&str],
 ) -> Result<(), Fault> {
     let listing = listing_of(rt, image)?;
-    let rows = rows_of(&listing)?;
     for name in names {
-        let name: &str = name;
-        if row_at(rows, name).is_none() {
-            return Err(Fault::of_name(rt.alloc(), name, NameRefusal::NoSuchFile));
-        }
+        bytes_of(rt.alloc(), &listing, *name)?;
     }
     Ok(())
 }
@@ -110,14 +114,16 @@ pub fn ask_to_rename<R: AllocGlobal + Clock + Files<File = File>>(
         return Err(Fault::of_name(rt.alloc(), to, NameRefusal::BadName));
     }
     let listing = listing_of(rt, image)?;
-    let rows = rows_of(&listing)?;
-    if row_at(rows, name).is_none() {
-        return Err(Fault::of_name(rt.alloc(), name, NameRefusal::NoSuchFile));
+    bytes_of(rt.alloc(), &listing, name)?;
+    refuse_taken(rt.alloc(), &listing, to)
+}
+
+fn refuse_taken(alloc: Global, listing: &Listing, name: &str) -> Result<(), Fault> {
+    let rows = rows_of(listing)?;
+    match row_at(rows, name) {
+        Some(_) => Err(Fault::of_name(alloc, name, NameRefusal::NameTaken)),
+        None => Ok(()),
     }
-    if row_at(rows, to).is_some() {
-        return Err(Fault::of_name(rt.alloc(), to, NameRefusal::NameTaken));
-    }
-    Ok(())
 }
 
 /// Whether the volume has a file of a number.

@@ -4,7 +4,7 @@ use crate::check::check;
 use crate::fault::Fault;
 use crate::folders::dump;
 use crate::getting::{Wanted, concatenate, get};
-use crate::image_run::{now, open_parts, read_image, run};
+use crate::image_run::{now, open_parts, run};
 use crate::importing::import;
 use crate::machine::Machine;
 use crate::making::make;
@@ -12,7 +12,7 @@ use crate::making_room::{remove_making_room, rename_making_room};
 use crate::map::map;
 use crate::opener::Opener;
 use crate::putting::{PutFile, append, copy, put};
-use crate::room::{room_of, tell_room};
+use crate::room::tell_room;
 use crate::screen::Screen;
 use crate::serving::serve;
 use crate::shown::EscapedText;
@@ -21,6 +21,7 @@ use crate::upgrading::upgrade_image;
 use flash_volume::{Geometry, Leave, Policy};
 use named_files::{Clean, Remove, Rename};
 use std::fs::{File, Files};
+use std::io;
 use std::io::{Read, Write};
 use std::rt::Runtime;
 use std::sync::Wait;
@@ -37,7 +38,7 @@ pub fn obey<P: Opener, R: Machine, I: Read + Send, O: Write + Send, E: Write>(
     errors: &mut E,
 ) -> Result<u8, Fault> {
     let image = words.image;
-    match words.task {
+    let done = match words.task {
         Task::Check { json } => return check(rt, image, json, screen, out),
         Task::Import { folder } => return import(rt, opener, screen, image, folder, out, errors),
         Task::Dump { folder } => return dump(rt, screen, image, folder, errors),
@@ -47,31 +48,32 @@ pub fn obey<P: Opener, R: Machine, I: Read + Send, O: Write + Send, E: Write>(
         | Task::Copy { .. }
         | Task::Upgrade { .. }
         | Task::Remove
-        | Task::Rename { .. } => change(rt, opener, screen, words, input, out, errors)?,
+        | Task::Rename { .. } => change(rt, opener, screen, words, input, out, errors),
         Task::Get {
             name,
             number,
             file,
             part,
-        } => get(rt, image, Wanted { name, number, part }, file, out)?,
-        Task::Concatenate => concatenate(rt, image, words.names.as_slice(), out)?,
-        Task::List { json } => list(rt, image, json, out)?,
-        Task::Clean { background } => clean(rt, opener, screen, image, background, out, errors)?,
-        Task::Stat { json } => {
-            let (geometry, read) = read_image(rt, image)?;
-            stat(rt.alloc(), &geometry, &read, json, out)?;
-        }
-        Task::Room { json } => {
-            let (geometry, read) = read_image(rt, image)?;
-            let room = room_of(&geometry, &read);
-            tell_room(rt.alloc(), &room, image.path, json, out)?;
-        }
-        Task::Map { svg, json } => map(rt, screen, image, svg, json, out)?,
-        Task::Serve(words) => serve(rt, opener, screen, image, words, input, out, errors)?,
-        Task::Complete { shell } => write_completions(shell, out)?,
-        Task::Describe => write_manual(out)?,
+        } => get(rt, image, Wanted { name, number, part }, file, out),
+        Task::Concatenate => concatenate(rt, image, words.names.as_slice(), out),
+        Task::List { json } => list(rt, image, json, out),
+        Task::Clean { background } => clean(rt, opener, screen, image, background, out, errors),
+        Task::Stat { json } => stat(rt, image, json, out),
+        Task::Room { json } => tell_room(rt, image, json, out),
+        Task::Map { svg, json } => map(rt, screen, image, svg, json, out),
+        Task::Serve(words) => serve(rt, opener, screen, image, words, input, out, errors),
+        Task::Complete { shell } => text_written(write_completions(shell, out)),
+        Task::Describe => text_written(write_manual(out)),
+    };
+    match done {
+        Ok(()) => Ok(0),
+        Err(fault) => Err(fault),
     }
-    Ok(0)
+}
+
+// What became of a text that is written to standard output.
+fn text_written(written: io::Result<()>) -> Result<(), Fault> {
+    written.map_err(Fault::Output)
 }
 
 // Does what changes the image, and tells what was done.

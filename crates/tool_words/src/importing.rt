@@ -43,25 +43,36 @@ pub fn import<P: Opener, R: Runtime + AllocGlobal + Wait + Files<File = File>, O
     let mut names = Vec::new(rt.alloc());
     let status = find_names(rt, folder, &mut names, errors)?;
     names.sort()?;
+    let names = names.as_slice();
+    import_names(rt, opener, screen, image, folder, names, out, errors)?;
+    Ok(status)
+}
+
+// Puts the files of these names.
+fn import_names<
+    P: Opener,
+    R: Runtime + AllocGlobal + Wait + Files<File = File>,
+    O: Write,
+    E: Write,
+>(
+    rt: &R,
+    opener: &P,
+    screen: Screen,
+    image: ImageFile<'_>,
+    folder: &str,
+    names: &[String],
+    out: &mut O,
+    errors: &mut E,
+) -> Result<(), Fault> {
     let most = image_length(rt, image.path)?;
     ask_to_put(rt, image, None)?;
     let parts = open_parts(rt, opener, image)?;
     screen.tell(errors, "import", folder);
     let mut told = Patient { out, failed: None };
-    let done = import_all(
-        rt,
-        parts,
-        folder,
-        names.as_slice(),
-        most,
-        screen,
-        &mut told,
-        errors,
-    );
+    let done = import_all(rt, parts, folder, names, most, screen, &mut told, errors);
     screen.clear(errors);
     done?;
-    Fault::of_output(told.outcome())?;
-    Ok(status)
+    Fault::of_output(told.outcome())
 }
 
 // Puts files, as many at once as have no more than so many bytes.

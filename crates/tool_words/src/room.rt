@@ -1,5 +1,6 @@
 //! The room of a volume, as `df` tells that of a disk.
 use crate::fault::Fault;
+use crate::image_run::read_image;
 use crate::json_text::write_json;
 use crate::shown::EscapedText;
 use flash_volume::{Geometry, usable_blocks};
@@ -8,8 +9,11 @@ use image_reading::length_of;
 use named_files::kept_for_folder;
 use named_folder::FOLDER;
 use serde::Serialize;
-use std::alloc::Global;
+use std::fs::{File, Files};
+use std::io;
 use std::io::Write;
+use std::time::Clock;
+use tool_syntax::ImageFile;
 
 /// The room of a volume in bytes.
 #[derive(Clone, Copy, Drop, Serialize)]
@@ -25,17 +29,22 @@ pub struct RoomInBytes {
 }
 
 /// Tells the room of the volume of an image file.
-pub fn tell_room<O: Write>(
-    alloc: Global,
-    room: &RoomInBytes,
-    path: &str,
+pub fn tell_room<R: AllocGlobal + Clock + Files<File = File>, O: Write>(
+    rt: &R,
+    file: ImageFile<'_>,
     json: bool,
     out: &mut O,
 ) -> Result<(), Fault> {
+    let (geometry, image) = read_image(rt, file)?;
+    let room = room_of(&geometry, &image);
     if json {
-        let text = serde_json::to_string_pretty(alloc, room);
+        let text = serde_json::to_string_pretty(rt.alloc(), &room);
         return write_json(text, out);
     }
+    write_room(&room, file.path, out).map_err(Fault::Output)
+}
+
+fn write_room<O: Write>(room: &RoomInBytes, path: &str, out: &mut O) -> io::Result<()> {
     writeln!(
         out,
         "{:>14} {:>14} {:>14} {:>5}  {:>16}  image",
@@ -50,8 +59,7 @@ pub fn tell_room<O: Write>(
         percent(room.used_bytes, room.usable_bytes),
         room.kept_bytes,
         EscapedText(path)
-    )?;
-    Ok(())
+    )
 }
 
 /// The room of a volume whose last checkpoint is this image.

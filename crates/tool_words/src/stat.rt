@@ -1,7 +1,7 @@
 //! What a volume has, in numbers.
 use crate::asking::has_file;
 use crate::fault::Fault;
-use crate::image_run::open_volume;
+use crate::image_run::{open_volume, read_image};
 use crate::json_text::write_json;
 use crate::room::{bytes_of, room_of};
 use crate::shown::EscapedText;
@@ -12,6 +12,7 @@ use named_reading::Listing;
 use serde::Serialize;
 use std::alloc::Global;
 use std::fs::{File, Files};
+use std::io;
 use std::io::Write;
 use std::time::Clock;
 use tool_syntax::ImageFile;
@@ -47,20 +48,34 @@ struct Row<'a> {
     blocks: u32,
 }
 
-/// Tells the numbers of the volume whose last checkpoint is this image.
-pub fn stat<O: Write>(
-    alloc: Global,
-    geometry: &Geometry,
-    image: &Image,
+/// Tells the numbers of the volume of an image file.
+pub fn stat<R: AllocGlobal + Clock + Files<File = File>, O: Write>(
+    rt: &R,
+    file: ImageFile<'_>,
     json: bool,
     out: &mut O,
 ) -> Result<(), Fault> {
-    let facts = facts_of(geometry, image);
+    let (geometry, image) = read_image(rt, file)?;
+    let facts = facts_of(&geometry, &image);
+    tell_facts(rt.alloc(), geometry.packing, &facts, json, out)
+}
+
+fn tell_facts<O: Write>(
+    alloc: Global,
+    packing: Packing,
+    facts: &Facts,
+    json: bool,
+    out: &mut O,
+) -> Result<(), Fault> {
     if json {
-        let text = serde_json::to_string_pretty(alloc, &facts);
+        let text = serde_json::to_string_pretty(alloc, facts);
         return write_json(text, out);
     }
-    writeln!(out, "layout    {}", layout_text(geometry.packing))?;
+    write_facts(packing, facts, out).map_err(Fault::Output)
+}
+
+fn write_facts<O: Write>(packing: Packing, facts: &Facts, out: &mut O) -> io::Result<()> {
+    writeln!(out, "layout    {}", layout_text(packing))?;
     writeln!(out, "version   {}", facts.version)?;
     writeln!(
         out,
@@ -82,8 +97,7 @@ pub fn stat<O: Write>(
         out,
         "space     {} bytes free, {} used of {}, {} kept for cleaning",
         facts.free_bytes, facts.used_bytes, facts.usable_bytes, facts.kept_bytes
-    )?;
-    Ok(())
+    )
 }
 
 // How checkpoints lie, with the numbers of the formats that have them so.
@@ -137,13 +151,33 @@ pub fn list<R: AllocGlobal + Clock + Files<File = File>, O: Write>(
 ) -> Result<(), Fault> {
     let mut volume = open_volume(rt, file)?;
     let listing = volume.list(rt.alloc())?;
-    let rows = rows_of(rt.alloc(), &listing)?;
+    tell_files(rt.alloc(), &volume.geometry, &listing, json, out)
+}
+
+fn tell_files<O: Write>(
+    alloc: Global,
+    geometry: &Geometry,
+    listing: &Listing,
+    json: bool,
+    out: &mut O,
+) -> Result<(), Fault> {
+    let rows = rows_of(alloc, listing)?;
     if json {
-        let text = serde_json::to_string_pretty(rt.alloc(), &rows);
+        let text = serde_json::to_string_pretty(alloc, &rows);
         return write_json(text, out);
     }
-    write_rows(rt.alloc(), rows.as_slice(), &listing, out)?;
-    write_total(&volume.geometry, rows.as_slice(), out)
+    write_lines(alloc, geometry, rows.as_slice(), listing, out)
+}
+
+fn write_lines<O: Write>(
+    alloc: Global,
+    geometry: &Geometry,
+    rows: &[Row<'_>],
+    listing: &Listing,
+    out: &mut O,
+) -> Result<(), Fault> {
+    write_rows(alloc, rows, listing, out)?;
+    write_total(geometry, rows, out)
 }
 
 // Writes a line for each file, the names in a column.
