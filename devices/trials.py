@@ -7,7 +7,7 @@ import sys
 import tempfile
 
 TOP = os.path.dirname(os.path.dirname(os.path.realpath(__file__)))
-sys.path.insert(0, f"{TOP}/measure")
+sys.path.insert(0, f"{TOP}/bench")
 from disk_clients.server import Volume
 from disk_clients.wire import ACKNOWLEDGED, DISCONNECT, EINVAL, FLUSH, READ, WRITE, Wire
 

@@ -28,9 +28,10 @@ fn digit(byte: u8) -> Option<u64>
     ensures some { IfSome result (λ n. IsAsciiDigit byte × (n ≡ byte - 48)) }
     ensures none { IfNone result (¬ IsAsciiDigit byte) }
 {
-    match byte {
-        b'0'..=b'9' => Some(u64::from(byte - b'0')),
-        _ => None,
+    if byte.is_ascii_digit() {
+        Some(u64::from(byte - b'0'))
+    } else {
+        None
     }
 }
 
@@ -60,9 +61,11 @@ fn hex_digit(byte: u8) -> Option<u8>
     ensures some { IfSome result (λ n. (n < 16) × (byte ≡ hex_digit n)) }
     ensures none { IfNone result ((n : ℕ) → n < 16 → byte ≢ hex_digit n) }
 {
-    match byte {
-        b'0'..=b'9' => Some(byte - b'0'),
-        b'a'..=b'f' => Some(byte - b'a' + 10),
-        _ => None,
+    if b'0' <= byte && byte <= b'9' {
+        Some(byte - b'0')
+    } else if b'a' <= byte && byte <= b'f' {
+        Some(byte - b'a' + 10)
+    } else {
+        None
     }
 }

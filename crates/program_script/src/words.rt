@@ -93,10 +93,9 @@ fn program<'a>(alloc: Global) -> Result<Command<'a>, AllocError>
 fn with_run<'a>(alloc: Global) -> Result<Command<'a>, AllocError>
     ensures { IfOk result (λ command. app_of command ≡ with_subcommand bare run.top) }
 {
-    let save = Arg::new(alloc, "save").long("save");
-    let hole_reuse = Arg::new(alloc, "threading").long("threading");
-    let run = Command::new(alloc, "run").arg(save)?;
-    let run = run.arg(hole_reuse)?;
+    let run = Command::new(alloc, "run");
+    let run = run.arg(Arg::new(alloc, "save").long("save"))?;
+    let run = run.arg(Arg::new(alloc, "threading").long("threading"))?;
     Command::new(alloc, "f2fsim")
         .subcommand_required(true)
         .subcommand(run)
