@@ -7,9 +7,10 @@ import sys
 import tempfile
 
 TOP = os.path.dirname(os.path.dirname(os.path.realpath(__file__)))
-sys.path.insert(0, f"{TOP}/bench")
+sys.path[:0] = [f"{TOP}/bench", f"{TOP}/trials"]
 from disk_clients.server import Volume
 from disk_clients.wire import ACKNOWLEDGED, DISCONNECT, EINVAL, FLUSH, READ, WRITE, Wire
+from transcript import preloading
 
 EIO = errno.EIO
 # What a run under a failing call tells, at the end of a line.
@@ -58,7 +59,7 @@ class Trial:
             if os.path.exists(self.hit):
                 os.remove(self.hit)
             fault = f"{kind} {number} {to or number} {error}"
-            environment = {"LD_PRELOAD": self.faults, "RZ_FAULT": fault, "RZ_HIT": self.hit}
+            environment = preloading(self.faults, {"RZ_FAULT": fault, "RZ_HIT": self.hit})
             status, _, told = self.tool(words[0], self.copy, *words[1:], environment=environment)
             self.look(what, files)
             if not os.path.exists(self.hit):

@@ -8,13 +8,16 @@ READ = ("src", "specs", "proofs")
 
 
 def git(*words):
-    """Returns what git prints, without the last line's end; None where it fails."""
-    ran = subprocess.run(["git", *words], cwd=TOP, stdin=subprocess.DEVNULL, capture_output=True, text=True, check=False)
+    """Returns what git prints, without the last line's end; None where it fails, or is not there."""
+    try:
+        ran = subprocess.run(["git", *words], cwd=TOP, stdin=subprocess.DEVNULL, capture_output=True, text=True, check=False)
+    except FileNotFoundError:
+        return None
     return None if ran.returncode else ran.stdout.rstrip("\n")
 
 
 def landed():
-    """Returns the commit from which this branch left its upstream, or the main branch of the remote; HEAD where there is neither."""
+    """Returns the commit from which this branch left its upstream, or the main branch of the remote; HEAD where there is neither; None where this is no checkout of git."""
     for name in ("@{upstream}", "origin/HEAD", "origin/main"):
         if commit := git("merge-base", "HEAD", name):
             return commit

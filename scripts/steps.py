@@ -3,7 +3,6 @@ import os
 import re
 import signal
 import subprocess
-import sys
 import tempfile
 import time
 
@@ -37,10 +36,7 @@ class Steps:
     def start(self, words, output, environment=None, folder=None):
         """Starts a command as the head of a group of processes, so that all of it can be ended."""
         how = {"cwd": folder or self.top, "stdin": subprocess.DEVNULL, "stdout": output, "stderr": subprocess.STDOUT, "start_new_session": True}
-        try:
-            return subprocess.Popen(words, env={**os.environ, **(environment or {})}, **how)
-        except FileNotFoundError:
-            sys.exit(f"test: there is no command {words[0]}" + ": it belongs to the Rattle kit" * (words[0] == "rt"))
+        return subprocess.Popen(words, env={**os.environ, **(environment or {})}, **how)
 
     def run(self, *words, environment=None):
         """Runs a command, and returns whether its status was 0."""

@@ -6,7 +6,7 @@ import os
 import resource
 import subprocess
 import termios
-import threading
+import time
 
 USAGE = "usage: f2fsim run [--save PATH] | check IMAGE"
 # How the programs name refusals: f2fsim by a number and a name, rusziveg by a text; a fault's number stands behind both.
@@ -16,6 +16,8 @@ REFUSALS = {
     "11 BadImage": "the image has fault",
     "14 NoVersion": "no version is left",
 }
+# No call takes so many seconds.
+LIMIT = 120
 # Where memory lacks, a process has so many bytes of addresses, and is given so many.
 LITTLE, MUCH = 64 << 20, 256 << 20
 
@@ -41,7 +43,7 @@ def lines_of(out, errors, status):
 
 def call(words, **how):
     """Runs a process, and returns what it told."""
-    ran = subprocess.run(words, capture_output=True, check=False, **{"stdin": subprocess.DEVNULL, **how})
+    ran = subprocess.run(words, capture_output=True, check=False, timeout=LIMIT, **{"stdin": subprocess.DEVNULL, **how})
     return lines_of(ran.stdout, ran.stderr, ran.returncode)
 
 
@@ -65,7 +67,7 @@ class F2fsim:
         """Runs a script. Returns what it told, and the bytes of the image that it put aside, if it did."""
         if os.path.exists(self.saved):
             os.remove(self.saved)
-        ran = subprocess.run([self.program, "run", "--save", self.saved, "--threading", rule], input=text, capture_output=True, check=False)
+        ran = subprocess.run([self.program, "run", "--save", self.saved, "--threading", rule], input=text, capture_output=True, check=False, timeout=LIMIT)
         return lines_of(ran.stdout, ran.stderr, ran.returncode), read_file(self.saved)
 
     def ask(self, word, image):
@@ -92,15 +94,14 @@ class F2fsim:
         read, write = os.pipe()
         os.set_blocking(write, False)
         with subprocess.Popen([self.program, word, "/dev/stdin"], stdin=read, stdout=subprocess.PIPE, stderr=subprocess.PIPE) as asked:
-            given, ended = 0, threading.Event()
-            waiter = threading.Thread(target=lambda: (asked.wait(), ended.set()))
-            waiter.start()
-            while not ended.is_set():
+            given, end = 0, time.monotonic() + LIMIT
+            while asked.poll() is None:
                 try:
                     given += os.write(write, image[given : given + 4096] or bytes(4096))
                 except BlockingIOError:
-                    ended.wait(0.002)
-            waiter.join()
+                    time.sleep(0.002)
+                if time.monotonic() > end:
+                    asked.kill()
             out, errors = asked.stdout.read(), asked.stderr.read()
         unread = array.array("i", [0])
         fcntl.ioctl(read, termios.FIONREAD, unread)
@@ -139,7 +140,7 @@ class Tool:
     def obey(self, word, image, *more):
         """Does a word on an image. Returns what it told: of a refusal, its number and its text."""
         write_file(self.image, image)
-        ran = subprocess.run([self.program, word, self.image, *more], stdin=subprocess.DEVNULL, capture_output=True, check=False)
+        ran = subprocess.run([self.program, word, self.image, *more], stdin=subprocess.DEVNULL, capture_output=True, check=False, timeout=LIMIT)
         mark, text = f"rusziveg: {self.image}: ", ran.stderr.decode(errors="replace")
         if ran.returncode == 1 and text.startswith(mark) and not ran.stdout:
             return [with_number(text.removeprefix(mark).partition(";")[0])]
@@ -148,7 +149,7 @@ class Tool:
     def differing(self, image, told):
         """Asks whether an image is sound, and returns what was told of it if f2fsim's `check` told another thing."""
         write_file(self.image, image)
-        ran = subprocess.run([self.program, "check", self.image, "--json"], stdin=subprocess.DEVNULL, capture_output=True, check=False)
+        ran = subprocess.run([self.program, "check", self.image, "--json"], stdin=subprocess.DEVNULL, capture_output=True, check=False, timeout=LIMIT)
         found = json.loads(ran.stdout or "{}")
         if found.get("sound"):
             line = "version {version} total {valid_blocks} free {free_segments}".format(**found)

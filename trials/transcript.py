@@ -31,6 +31,14 @@ def build_streams(folder):
     return path
 
 
+def preloading(library, environment=None):
+    """The environment in which a library, too, comes between a program and the C library. LD_PRELOAD takes no path that has a blank."""
+    before = environment or {}
+    names = [it for it in (before.get("LD_PRELOAD"), os.path.basename(library)) if it]
+    folders = [it for it in (before.get("LD_LIBRARY_PATH"), os.path.dirname(library)) if it]
+    return {**before, "LD_PRELOAD": " ".join(names), "LD_LIBRARY_PATH": ":".join(folders)}
+
+
 def words_of(line):
     """The words of a line, as tests_tool reads them."""
     words = []
@@ -99,7 +107,7 @@ class Play:
     def obey(self, words):
         environment = {**self.environment, **self.failing}
         if self.failing and self.streams:
-            environment["LD_PRELOAD"] = " ".join(filter(None, (environment.get("LD_PRELOAD"), self.streams)))
+            environment = preloading(self.streams, environment)
         done = self.process(self.program, ["rusziveg", *words[1:]], environment)
         told = lines_of(done.stdout) + [f"| {it}" for it in lines_of(done.stderr)]
         return in_library_words(told) + ([f"status {done.returncode}"] if done.returncode else [])
