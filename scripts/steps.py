@@ -41,16 +41,20 @@ class Steps:
     def run(self, *words, environment=None):
         """Runs a command, and returns whether its status was 0."""
         name = " ".join(os.path.relpath(it, self.top) if os.path.isabs(it) else it for it in words)
-        with self.start(words, subprocess.PIPE, environment) as process:
-            self.beside[name] = process, None
+        process = self.start(words, subprocess.PIPE, environment)
+        try:
             for line in process.stdout:
                 self.show(line.decode(errors="replace"))
-            del self.beside[name]
+        except BaseException:
+            # This is told to end, and so is the command.
+            self.stop(process)
+            raise
+        process.stdout.close()
         return self.end(name, process.wait())
 
     def run_until(self, end, words, folder):
-        """Runs a command in a folder until a time at most, and shows the end of what it prints. Returns whether its status was 0; None where it
-        was not done by then."""
+        """Runs a command in a folder until a time at most, and shows its last line, or more where it fails. Returns whether its status was 0;
+        None where it was not done by then."""
         with tempfile.TemporaryFile() as told:
             process = self.start(words, told, folder=folder)
             self.beside[words[0]] = process, None
@@ -62,7 +66,8 @@ class Steps:
                 self.stop(process)
                 del self.beside[words[0]]
                 told.seek(0)
-                print(told.read()[-3000:].decode(errors="replace"), end="", flush=True)
+                lines = told.read().decode(errors="replace").splitlines()
+                print(*lines[-40 if process.returncode else -1 :], sep="\n", flush=True)
         return process.returncode == 0
 
     def begin(self, *words):
