@@ -2,13 +2,15 @@
 import os
 import subprocess
 
+from sources import ask_kit
+
 
 class Over:
     """The libraries of a checkout, and those of the kit."""
 
     def __init__(self, checkout):
         self.here = checkout
-        self.kit = os.path.dirname(subprocess.run(["rt", "doc"], stdin=subprocess.DEVNULL, capture_output=True, text=True, check=True).stdout.strip())
+        self.kit = os.path.dirname(ask_kit("doc"))
 
     def library(self, name):
         """The folder of a library: of the checkout, or of the kit."""

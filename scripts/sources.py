@@ -1,7 +1,9 @@
 """What the programs of crates/ are made of, and sums of it: for ./build and the scripts of release/."""
 import hashlib
 import os
+import shutil
 import subprocess
+import sys
 
 TOP = os.path.dirname(os.path.dirname(os.path.realpath(__file__)))
 RELEASE = f"{TOP}/release"
@@ -88,6 +90,13 @@ def sum_of_file(path):
         return hashlib.sha256(file.read()).hexdigest()
 
 
+def ask_kit(word):
+    """Returns what the kit's command prints for a word."""
+    if not shutil.which("rt"):
+        sys.exit(f"{os.path.relpath(sys.argv[0])}: there is no command rt: it belongs to the Rattle kit")
+    return subprocess.run(["rt", word], stdin=subprocess.DEVNULL, capture_output=True, text=True, check=True).stdout.strip()
+
+
 def kit():
     """Returns the line by which the kit names itself."""
-    return subprocess.run(["rt", "version"], stdin=subprocess.DEVNULL, capture_output=True, text=True, check=True).stdout.strip()
+    return ask_kit("version")

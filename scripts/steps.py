@@ -41,11 +41,15 @@ class Steps:
     def run(self, *words, environment=None):
         """Runs a command, and returns whether its status was 0."""
         name = " ".join(os.path.relpath(it, self.top) if os.path.isabs(it) else it for it in words)
-        with self.start(words, subprocess.PIPE, environment) as process:
-            self.beside[name] = process, None
+        process = self.start(words, subprocess.PIPE, environment)
+        try:
             for line in process.stdout:
                 self.show(line.decode(errors="replace"))
-            del self.beside[name]
+        except BaseException:
+            # This is told to end, and so is the command.
+            self.stop(process)
+            raise
+        process.stdout.close()
         return self.end(name, process.wait())
 
     def run_until(self, end, words, folder):

@@ -81,7 +81,7 @@ class F2fsim:
         told = self.ask("files", image)
         for name, text in REFUSALS.items():
             if len(told) == 2 and told[0].startswith(f"refused {name}") and told[1] == "status 1":
-                return [with_number(text + told[0].removeprefix(f"refused {name}"))]
+                return [with_number(text + told[0][len(f"refused {name}") :])]
         return told
 
     def usage(self, words):
@@ -143,7 +143,7 @@ class Tool:
         ran = subprocess.run([self.program, word, self.image, *more], stdin=subprocess.DEVNULL, capture_output=True, check=False, timeout=LIMIT)
         mark, text = f"rusziveg: {self.image}: ", ran.stderr.decode(errors="replace")
         if ran.returncode == 1 and text.startswith(mark) and not ran.stdout:
-            return [with_number(text.removeprefix(mark).partition(";")[0])]
+            return [with_number(text[len(mark) :].partition(";")[0])]
         return lines_of(ran.stdout, ran.stderr, ran.returncode)
 
     def differing(self, image, told):
