@@ -400,7 +400,7 @@ Serve a disk of 16 MB to NBD clients, one after the other, on the socket disk.so
 .SH FILES
 .TP
 .B IMAGE
-A regular file: superblock, checkpoints, then the blocks. format makes it as long as the volume; blocks that were never written take no space on the disk below. Each command locks it as flock(2) does, for as long as it runs.
+A regular file: superblock, checkpoints, then the blocks. format makes it as long as the volume; blocks that were never written take no space on the disk below. Each command locks it as flock(2) does, while it has it open.
 .TP
 .B NAME.00 to NAME.15
 The files of the volume that hold the data of the disk NAME, which serve made.
